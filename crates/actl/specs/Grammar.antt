@@ -1,0 +1,109 @@
+-- 01, "The formula as text": trees that keep their blanks and brackets, and the text of each. `showX x s` is x's text with s behind it.
+use mathlib.Core.Path.{_≡_}
+use mathlib.Core.Bool.{true}
+use mathlib.Core.List.{List, [], _∷_, _++_}
+use Prim.Native.Nat.{ℕ, zero, suc, _≤_}
+use lib.ListN.{length, take}
+use Rattle.lts.specs.Names.{isName}
+
+pub record Name : Type 0 where
+  pub bytes : List ℕ
+  pub fits : isName bytes ≡ true
+
+-- Each ℕ is a number of blanks. 01: "Blanks may stand between tokens, never inside one, before the first or after the last."
+mutual
+  -- 01: "A set is one or more operands joined by `|`"
+  pub data Set : Type 0 where
+    operand : Operand → Set
+    union : Set → ℕ → ℕ → Operand → Set
+
+  -- 01: "an operand is a name, `*` (all labels), `~` and an operand, or a set in round brackets"
+  pub data Operand : Type 0 where
+    name : Name → Operand
+    any : Operand
+    except : ℕ → Operand → Operand
+    group : ℕ → Set → ℕ → Operand
+
+-- 01: "The silent step is `.`, alone, only in EX and AX."
+pub data Condition : Type 0 where
+  dot : Condition
+  set : Set → Condition
+
+pub data Quantifier : Type 0 where
+  existential universal : Quantifier
+
+-- A keyword with its square bracket.
+pub data Head : Type 0 where
+  next : Quantifier → ℕ → ℕ → Condition → ℕ → Head
+  until : ℕ → ℕ → Set → ℕ → Head
+  untilThen : ℕ → ℕ → Set → ℕ → ℕ → Set → ℕ → Head
+
+mutual
+  -- 01: "A formula is one or more terms joined by `|`, grouped from the left."
+  pub data Disjunction : Type 0 where
+    term : Term → Disjunction
+    or : Disjunction → ℕ → ℕ → Term → Disjunction
+
+  -- 01: "A term is `T`, `~` and a term, a keyword with its square bracket and a term, or a formula in round brackets."
+  pub data Term : Type 0 where
+    tru : Term
+    not : ℕ → Term → Term
+    modal : Head → ℕ → Term → Term
+    paren : ℕ → Disjunction → ℕ → Term
+
+abbrev pub gap : ℕ → List ℕ → List ℕ
+gap zero s = s
+gap (suc n) s = 32 ∷ gap n s
+
+abbrev mutual
+  pub showS : Set → List ℕ → List ℕ
+  showS (operand o) s = showO o s
+  showS (union x a b o) s = showS x (gap a (124 ∷ gap b (showO o s)))
+
+  pub showO : Operand → List ℕ → List ℕ
+  showO (name n) s = n .bytes ++ s
+  showO any s = 42 ∷ s
+  showO (except a o) s = 126 ∷ gap a (showO o s)
+  showO (group a x b) s = 40 ∷ gap a (showS x (gap b (41 ∷ s)))
+
+abbrev pub showC : Condition → List ℕ → List ℕ
+showC dot s = 46 ∷ s
+showC (set x) s = showS x s
+
+-- 01: "Tokens are the keywords EX, AX and EU"
+abbrev pub showQ : Quantifier → List ℕ → List ℕ
+showQ existential s = 69 ∷ 88 ∷ s
+showQ universal s = 65 ∷ 88 ∷ s
+
+abbrev pub showH : Head → List ℕ → List ℕ
+showH (next q a b c d) s = showQ q (gap a (91 ∷ gap b (showC c (gap d (93 ∷ s)))))
+showH (until a b x d) s = 69 ∷ 85 ∷ gap a (91 ∷ gap b (showS x (gap d (93 ∷ s))))
+showH (untilThen a b x c d y e) s = 69 ∷ 85 ∷ gap a (91 ∷ gap b (showS x (gap c (59 ∷ gap d (showS y (gap e (93 ∷ s)))))))
+
+abbrev mutual
+  pub showF : Disjunction → List ℕ → List ℕ
+  showF (term t) s = showT t s
+  showF (or f a b t) s = showF f (gap a (124 ∷ gap b (showT t s)))
+
+  pub showT : Term → List ℕ → List ℕ
+  showT tru s = 84 ∷ s
+  showT (not a t) s = 126 ∷ gap a (showT t s)
+  showT (modal h a t) s = showH h (gap a (showT t s))
+  showT (paren a f b) s = 40 ∷ gap a (showF f (gap b (41 ∷ s)))
+
+-- f is the tree of the text s.
+abbrev pub Text : List ℕ → Disjunction → Type 0
+Text s f = showF f [] ≡ s
+
+abbrev pub Grammatical : List ℕ → Type 0
+Grammatical s = (f : Disjunction) × Text s f
+
+-- A beginning that some grammatical text, of any length, has.
+abbrev pub Viable : List ℕ → Type 0
+Viable p = (rest : List ℕ) × Grammatical (p ++ rest)
+
+-- 01: "length of the longest beginning that some grammatical text, of any length, has"
+pub record Longest (s : List ℕ) (n : ℕ) : Type 0 where
+  pub within : n ≤ length s
+  pub begins : Viable (take n s)
+  pub most : (m : ℕ) → m ≤ length s → Viable (take m s) → m ≤ n

@@ -1,0 +1,44 @@
+-- The names of a tree, in text order, each with the text behind it. s is what stands behind the tree.
+use mathlib.Core.List.{List, [], _∷_, _++_}
+use Prim.Native.Nat.{ℕ, _-_}
+use lib.ListN.{length}
+use Rattle.actl.specs.Grammar.{Name, Set, operand, union, Operand, name, any, except, group, Condition, dot, set, Head, next, until, untilThen, Disjunction, term, or, Term, tru, not, modal, paren, gap, showS, showO, showT, showF}
+
+pub record Mention : Type 0 where
+  pub name : Name
+  pub behind : List ℕ
+
+abbrev mutual
+  pub namesS : Set → List ℕ → List Mention
+  namesS (operand o) s = namesO o s
+  namesS (union x a b o) s = namesS x (gap a (124 ∷ gap b (showO o s))) ++ namesO o s
+
+  pub namesO : Operand → List ℕ → List Mention
+  namesO (name n) s = record { name = n; behind = s } ∷ []
+  namesO any s = []
+  namesO (except a o) s = namesO o s
+  namesO (group a x b) s = namesS x (gap b (41 ∷ s))
+
+abbrev pub namesC : Condition → List ℕ → List Mention
+namesC dot s = []
+namesC (set x) s = namesS x s
+
+abbrev pub namesH : Head → List ℕ → List Mention
+namesH (next q a b c d) s = namesC c (gap d (93 ∷ s))
+namesH (until a b x d) s = namesS x (gap d (93 ∷ s))
+namesH (untilThen a b x c d y e) s = namesS x (gap c (59 ∷ gap d (showS y (gap e (93 ∷ s))))) ++ namesS y (gap e (93 ∷ s))
+
+abbrev mutual
+  pub namesF : Disjunction → List ℕ → List Mention
+  namesF (term t) s = namesT t s
+  namesF (or f a b t) s = namesF f (gap a (124 ∷ gap b (showT t s))) ++ namesT t s
+
+  pub namesT : Term → List ℕ → List Mention
+  namesT tru s = []
+  namesT (not a t) s = namesT t s
+  namesT (modal h a t) s = namesH h (gap a (showT t s)) ++ namesT t s
+  namesT (paren a f b) s = namesF f (gap b (41 ∷ s))
+
+-- Where a name stands in the formula's text.
+abbrev pub offset : Disjunction → Mention → ℕ
+offset f m = length (showF f []) - length (m .name .bytes ++ m .behind)

@@ -1,0 +1,39 @@
+-- Reading a formula's text, over a table's label names: 5, 6, 7, 8, 9.
+use mathlib.Core.Bool.{Bool, cond}
+use mathlib.Core.List.{List, [], _∷_}
+use mathlib.Core.Option.{Option, none, some}
+use Prim.Native.Nat.{ℕ, _-_}
+use lib.Dec.{leb}
+use lib.ListN.{length}
+use Rattle.lts.specs.Reply.{Reply, accepted, refusal, unless}
+use Rattle.lts.specs.Names.{lookup}
+use Rattle.actl.specs.Formulas.{Formula, size, highestWithoutClass}
+use Rattle.actl.specs.Grammar.{Disjunction}
+use Rattle.actl.specs.Reader.{Result, whole, refused, read}
+use Rattle.actl.specs.Mentions.{Mention, namesF, offset}
+use Rattle.actl.specs.Meaning.{formulaOf}
+
+-- Goes on if there is nothing to refuse, and else refuses with a number and what was found.
+abbrev pub unlessFound : {A : Type 0} → Option ℕ → ℕ → Reply A → Reply A
+unlessFound none number next = next
+unlessFound (some figure) number next = refusal number figure
+
+abbrev pub missing : Option ℕ → ℕ → Option ℕ → Option ℕ
+missing none at later = some at
+missing (some a) at later = later
+
+-- 01: "a name the table lacks": "offset of the first such"
+abbrev pub firstUnknown : List (List ℕ) → Disjunction → List Mention → Option ℕ
+firstUnknown names f [] = none
+firstUnknown names f (m ∷ l) = missing (lookup names (m .name .bytes)) (offset f m) (firstUnknown names f l)
+
+-- 01: "over 40 nodes", then "a node without class: the highest-numbered one"
+abbrev pub withClasses : Formula → Reply Formula
+withClasses F = unless (leb (size F) 40) 8 (size F) (unlessFound (highestWithoutClass F) 9 (accepted F))
+
+abbrev pub onResult : List (List ℕ) → List ℕ → Result → Reply Formula
+onResult names text (refused rest) = refusal 6 (length text - length rest)
+onResult names text (whole f) = unlessFound (firstUnknown names f (namesF f [])) 7 (withClasses (formulaOf names f))
+
+unfoldable pub readFormula : List (List ℕ) → List ℕ → Reply Formula
+readFormula names text = unless (leb (length text) 512) 5 (length text) (onResult names text (read text))

@@ -1,0 +1,21 @@
+// The automaton of all finite witnesses or counterexamples: building its rows and edges, and asking for a word.
+
+// What `build` answers: the counts of rows and edges, or a refusal. specs/Replies.antt lists the number and the figure of each case.
+pub enum BuildReply {
+    Built(usize, usize),
+    RowsShort(usize),
+    EdgesShort(usize),
+    TableForeign,
+    FormulaForeign,
+    BufferShort(usize),
+}
+
+// What `accepts` answers. specs/Replies.antt lists the number and the figure of each case.
+pub enum WordReply {
+    Accepted,
+    NotAccepted,
+    WordBad(usize),
+    TableForeign,
+    FormulaForeign,
+    BufferShort(usize),
+}

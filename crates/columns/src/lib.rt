@@ -1,0 +1,1 @@
+// Numbers in six columns: the form of every number in the texts of tables and listings.

@@ -1,0 +1,5 @@
+pub mod Shown
+pub mod Traces
+pub mod Explained
+pub mod Explanation
+pub mod Printed

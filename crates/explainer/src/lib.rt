@@ -1,0 +1,7 @@
+// What integrators call: the entries together.
+
+// What `explain` answers: verdict, class, rows and edges, or the number and the figure of a refusal.
+pub enum ExplainReply {
+    Explained(u8, u8, usize, usize),
+    Refused(u8, usize),
+}

@@ -1,0 +1,4 @@
+pub mod Runs
+pub mod Satisfaction
+pub mod Holds
+pub mod Replies

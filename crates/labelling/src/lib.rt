@@ -1,0 +1,10 @@
+// Where the nodes of a formula hold, and the verdict.
+
+// What `verdict` answers. specs/Replies.antt lists the number and the figure of each case.
+pub enum VerdictReply {
+    Holds,
+    Fails,
+    TableForeign,
+    FormulaForeign,
+    BufferShort(usize),
+}

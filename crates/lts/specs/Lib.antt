@@ -1,0 +1,9 @@
+pub mod Reply
+pub mod Lists
+pub mod Steps
+pub mod Names
+pub mod Range
+pub mod Text
+pub mod Reading
+pub mod Prepared
+pub mod Replies
