@@ -3,3 +3,4 @@ pub mod Traces
 pub mod Explained
 pub mod Explanation
 pub mod Printed
+pub mod BenchSheet
