@@ -1,3 +1,5 @@
 pub mod Frames
 pub mod Acceptance
 pub mod Words
+pub mod Tests
+pub mod Numbers
