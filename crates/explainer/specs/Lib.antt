@@ -1,5 +1,6 @@
 pub mod Shown
 pub mod Traces
+pub mod Positions
 pub mod Explained
 pub mod Explanation
 pub mod Printed

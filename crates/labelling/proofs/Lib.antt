@@ -1,0 +1,5 @@
+pub mod Runs
+pub mod Count
+pub mod Leads
+pub mod Satisfaction
+pub mod Verdict
