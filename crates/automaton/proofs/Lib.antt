@@ -4,3 +4,4 @@ pub mod Acceptance
 pub mod Words
 pub mod Tests
 pub mod Numbers
+pub mod Explains

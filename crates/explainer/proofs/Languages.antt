@@ -17,7 +17,7 @@ use Rattle.automaton.specs.Words.{Reads, ends, reads, Accepts}
 use Rattle.explainer.specs.BenchSheet.{Language, Member}
 
 -- Equal tests are equal lists.
-same-bytes : (a b : List ℕ) → sameBytes a b ≡ true → a ≡ b
+pub same-bytes : (a b : List ℕ) → sameBytes a b ≡ true → a ≡ b
 same-bytes [] [] e = refl
 same-bytes [] (y ∷ b) e = absurd (false≢true e)
 same-bytes (x ∷ a) [] e = absurd (false≢true e)
@@ -37,7 +37,7 @@ same-words (x ∷ a) [] e = absurd (false≢true e)
 same-words (x ∷ a) (y ∷ b) e = let d = and-true-of (sameBytes x y) (sameWords a b) e in
     let h = same-bytes x y (d .0) in let t = same-words a b (d .1) in λ i. h i ∷ t i
 
-same-tests : (a b : Bool) → Bool·beq a b ≡ true → a ≡ b
+pub same-tests : (a b : Bool) → Bool·beq a b ≡ true → a ≡ b
 same-tests true true e = refl
 same-tests true false e = absurd (false≢true e)
 same-tests false true e = absurd (false≢true e)
