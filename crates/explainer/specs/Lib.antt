@@ -5,3 +5,4 @@ pub mod Explained
 pub mod Explanation
 pub mod Printed
 pub mod BenchSheet
+pub mod Interface
