@@ -64,6 +64,15 @@ upFrom-suc : (k n : ℕ) → upFrom k (suc n) ≡ upFrom k n ++ ((k + n) ∷ [])
 upFrom-suc k zero = rw add-zero
 upFrom-suc k (suc n) = ap (λ l. k ∷ l) (rw (add-suc, ← suc-add) (upFrom-suc (suc k) n))
 
+pub upFrom-length : (k n : ℕ) → length (upFrom k n) ≡ n
+upFrom-length k zero = refl
+upFrom-length k (suc n) = ap suc (upFrom-length (suc k) n)
+
+pub upFrom-at : (k n i d : ℕ) → i < n → getD (upFrom k n) i d ≡ k + i
+upFrom-at k zero i d h = absurd (omega arith)
+upFrom-at k (suc n) zero d h = rw add-zero
+upFrom-at k (suc n) (suc i) d h = rw (add-suc, ← suc-add) (upFrom-at (suc k) n i d (omega arith))
+
 pub upFrom-snoc : (n : ℕ) → upFrom 0 (suc n) ≡ upFrom 0 n ++ (n ∷ [])
 upFrom-snoc n = rw zero-add at (upFrom-suc 0 n)
 

@@ -1,0 +1,61 @@
+// What stands in the bytes of a prepared table: counts, transitions, and where each state's transitions begin.
+// docs/FORMATS.md has the layout.
+ghost use mathlib.Core.Path.{_≡_};
+ghost use Prim.Native.Nat.{ℕ, _+_, _*_, _≤_, _<_};
+ghost use lib.ListN.{length};
+ghost use Rattle.lts.specs.Steps.{labels};
+ghost use Rattle.lts.specs.Prepared.{tableLength, tableIn, byteAt};
+ghost use Rattle.lts.specs.Access.{Counted, StepRead, HoldsTable, ExitsFound};
+
+pub struct Transition {
+    pub from: usize,
+    pub label: usize,
+    pub to: usize,
+}
+
+fn byte(table: &[u8], i: usize) -> usize
+    requires { ⌜ i < length (now table) ⌝ }
+    ensures { λ r. ⌜ Counted 256 (byteAt (now (table .entry)) i) r ⌝ }
+{
+    table[i] as usize
+}
+
+pub fn state_count(table: &[u8]) -> usize
+    requires { ⌜ tableLength ≤ length (now table) ⌝ }
+    ensures { λ r. ⌜ Counted 65536 (tableIn (now (table .entry)) .states) r ⌝ }
+{
+    byte(table, 0) + byte(table, 1) * 256
+}
+
+pub fn label_count(table: &[u8]) -> usize
+    requires { ⌜ tableLength ≤ length (now table) ⌝ }
+    ensures { λ r. ⌜ Counted 256 (labels (tableIn (now (table .entry)))) r ⌝ }
+{
+    byte(table, 2)
+}
+
+pub fn transition_count(table: &[u8]) -> usize
+    requires { ⌜ tableLength ≤ length (now table) ⌝ }
+    ensures { λ r. ⌜ Counted 65536 (length (tableIn (now (table .entry)) .transitions)) r ⌝ }
+{
+    byte(table, 3) + byte(table, 4) * 256
+}
+
+pub fn start_state(table: &[u8]) -> usize
+    requires { ⌜ tableLength ≤ length (now table) ⌝ }
+    ensures { λ r. ⌜ Counted 256 (tableIn (now (table .entry)) .start) r ⌝ }
+{
+    byte(table, 5)
+}
+
+pub fn transition_at(table: &[u8], k: usize) -> Transition
+    requires { ⌜ (tableLength ≤ length (now table)) × (k < 1024) ⌝ }
+    ensures { λ r. ⌜ StepRead (now (table .entry)) k r ⌝ }
+{
+    let at = k * 3;
+    Transition {
+        from: byte(table, 646 + at),
+        label: byte(table, 647 + at),
+        to: byte(table, 648 + at),
+    }
+}
