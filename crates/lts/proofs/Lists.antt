@@ -141,6 +141,10 @@ module _ {A : Type 0} where
         step y (inl d) = r .0 y d
         step y (inr d) = h x y (List·Memᴰ·head refl) d
 
+  pub rising-weaken : (R S : A → A → Type 0) → ((x y : A) → R x y → S x y) → (l : List A) → Rising R l → Rising S l
+  rising-weaken R S h [] r = tt
+  rising-weaken R S h (x ∷ l) r = (λ y m. h x y (r .0 y m), rising-weaken R S h l (r .1))
+
   -- By number.
   pub getD-mem : (l : List A) (i : ℕ) (d : A) → i < length l → List·Memᴰ (getD l i d) l
   getD-mem [] i d h = absurd (omega arith)
