@@ -5,3 +5,5 @@ pub mod Tests
 pub mod Numbers
 pub mod States
 pub mod Finishing
+pub mod Inside
+pub mod Moves
