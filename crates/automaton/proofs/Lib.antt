@@ -7,3 +7,5 @@ pub mod States
 pub mod Finishing
 pub mod Inside
 pub mod Moves
+pub mod Visits
+pub mod Search
