@@ -5,3 +5,9 @@ pub mod Words
 pub mod Tests
 pub mod Numbers
 pub mod Explains
+pub mod States
+pub mod Finishing
+pub mod Inside
+pub mod Moves
+pub mod Visits
+pub mod Search
