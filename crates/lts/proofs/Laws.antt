@@ -1,3 +1,4 @@
 -- Laws that several proofs cite, by topic.
 pub mod Contents
 pub mod Exits
+pub mod Tests
