@@ -2,3 +2,5 @@
 pub mod Contents
 pub mod Exits
 pub mod Tests
+pub mod Grown
+pub mod Lines
