@@ -4,3 +4,6 @@ pub mod Exits
 pub mod Tests
 pub mod Grown
 pub mod Lines
+pub mod Reading
+pub mod ReadingLabels
+pub mod Texts
