@@ -9,3 +9,5 @@ pub mod Inside
 pub mod Moves
 pub mod Visits
 pub mod Search
+pub mod Rows
+pub mod Listed
