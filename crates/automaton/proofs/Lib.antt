@@ -11,3 +11,4 @@ pub mod Visits
 pub mod Search
 pub mod Rows
 pub mod Listed
+pub mod Reading
