@@ -12,3 +12,4 @@ pub mod Search
 pub mod Rows
 pub mod Listed
 pub mod Reading
+pub mod Unique
