@@ -13,3 +13,4 @@ pub mod Rows
 pub mod Listed
 pub mod Reading
 pub mod Unique
+pub mod Counts
