@@ -11,3 +11,8 @@ pub mod Inside
 pub mod Moves
 pub mod Visits
 pub mod Search
+pub mod Rows
+pub mod Listed
+pub mod Reading
+pub mod Unique
+pub mod Counts
