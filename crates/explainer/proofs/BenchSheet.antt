@@ -17,6 +17,7 @@ use Rattle.lts.specs.Range.{InRange}
 use Rattle.lts.specs.Steps.{Table, silent, stepsFrom}
 use Rattle.lts.specs.Reading.{readTable, readLabels, readTransitions}
 use Rattle.lts.proofs.Lists.{and-true-of, or-true-of, every-of}
+use Rattle.lts.proofs.Laws.Texts.{text-of-read}
 use Rattle.actl.specs.Actions.{inSet, maskOf, meets, passes}
 use Rattle.actl.specs.Formulas.{Formula, classOf, highestWithoutClass}
 use Rattle.actl.specs.Reading.{readFormula}
@@ -29,6 +30,7 @@ use Rattle.automaton.specs.Listing.{finalOf, final, leadsOf, leads, targets, ca
 use Rattle.automaton.specs.Listed.{placed}
 use Rattle.automaton.specs.Words.{Accepts}
 use Rattle.automaton.proofs.Explains.{explains-is-walk}
+use Rattle.automaton.proofs.Reading.{listing-words}
 use Rattle.explainer.specs.BenchSheet.{Language, Member, Answer, Says, refused, explained, Line, LastRow, Answers, SaysRightly, IsRight, starred}
 use Rattle.explainer.proofs.Languages.{hasWords, has-words, same-tests}
 
@@ -73,8 +75,7 @@ row-right L (some p) e =
 class-right : (c : ℕ) → (eqb c 1 || eqb c 2) ≡ true → (c ≡ 1) ⊎ (c ≡ 2)
 class-right c e = elim (or-true-of (eqb c 1) (eqb c 2) e) [ inl d ↦ inl (eqb-true c 1 d) | inr d ↦ inr (eqb-true c 2 d) ]
 
--- In-range tables only come from readings.
-module _ (t : Table) (listing-words : (F : Formula) → (classOf F ≡ 1) ⊎ (classOf F ≡ 2) → (w : List ℕ) → Accepts (listing t F) w ↔ Walk t F (rootAt t) w) where
+module _ (t : Table) (range : InRange t) where
   answers-right : (F : Formula) (a : Answer) → answered t F a ≡ true → Answers t F a
   answers-right F a e =
       let (p, e₁) = and-true-of (eqb (classOf F) (a .class)) _ e in
@@ -89,7 +90,7 @@ module _ (t : Table) (listing-words : (F : Formula) → (classOf F ≡ 1) ⊎ (c
         verdict = (λ d. h .0 (sym z ∙ d), λ d. z ∙ h .1 d);
         words = λ w.
             let k = has-words (listing t F) (a .language) u w in
-            let l = listing-words F c w in
+            let l = listing-words t F range c w in
             let m = explains-is-walk t F w c in
             (λ d. m .1 (l .0 (k .0 d)), λ d. k .1 (l .1 (m .0 d)));
         row = row-right (listing t F) (a .lastRow) v;
@@ -111,6 +112,17 @@ module _ (t : Table) (listing-words : (F : Formula) → (classOf F ≡ 1) ⊎ (c
   says-right text (refused number figure) e = refused-right (readFormula (t .names) text) number figure e
   says-right text (explained a) e = answered-right (readFormula (t .names) text) a e
 
+right : (l : Line) (r : Reply Table) → readTable (l .table) ≡ r → readRightly r (l .formula) (l .says) ≡ true → IsRight l
+right l (accepted t) e d = (t, e, says-right t (text-of-read (l .table) t e .1) (l .formula) (l .says) d)
+right l (refusal m g) e d = absurd (false≢true d)
+
+pub right-of-test : (l : Line) → isRight l ≡ true → IsRight l
+right-of-test l e = right l (readTable (l .table)) refl e
+
 starred-tested : every isRight starred ≡ true
 unfolding readTable readLabels readTransitions column digitsWithin readFormula findFrom maskOf classOf highestWithoutClass holds within stepsFrom meets passes inSet silent listing positions search expand visits visit movesUpto movesFrom movesOn movesTo numberOf canFinish targets leads leadsOf final finalOf
 starred-tested = refl
+
+-- Every starred line is right, from its texts.
+pub starred-right : (l : Line) → List·Memᴰ l starred → IsRight l
+starred-right l m = right-of-test l (every-of isRight starred starred-tested l m)
