@@ -2,3 +2,4 @@
 pub mod Bytes
 pub mod Columns
 pub mod Figures
+pub mod Copying

@@ -4,7 +4,7 @@ ghost use mathlib.Core.List.{_++_};
 ghost use Prim.Native.Nat.{ℕ, _+_, _≤_};
 ghost use lib.ListN.{length, take, drop};
 ghost use Rattle.columns.specs.Columns.{column};
-ghost use Rattle.columns.specs.Write.{Spread};
+ghost use Rattle.columns.specs.Write.{Spread, pasted};
 
 // A number's column: the bytes from `from` on.
 pub struct Figures {
@@ -27,5 +27,25 @@ fn spread(n: u64) -> Figures
     if 14 < from {
         from = 14;
     }
-    Figures { bytes: bytes, from: from }
+    Figures {
+        bytes: bytes,
+        from: from,
+    }
+}
+
+// Writes n in six columns, or in as many as it has digits, at `at`, and answers where they end.
+pub fn write_column(n: u64, out: &mut [u8], at: usize) -> usize
+    requires { ⌜ at + 20 ≤ length (now out) ⌝ }
+    ensures { λ r. ⌜ r ≡ at + length (column n) ⌝ }
+    ensures { λ _. ⌜ now (out .exit) ≡ pasted (now (out .entry)) at (column n) ⌝ }
+{
+    let figures = spread(n);
+    let from = figures.from;
+    let bytes = figures.bytes;
+    let mut i: usize = 0;
+    while i < 20 - from {
+        out[at + i] = bytes[from + i];
+        i += 1;
+    }
+    at + (20 - from)
 }

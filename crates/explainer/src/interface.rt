@@ -5,11 +5,11 @@ ghost use Rattle.actl.specs.Replies.{formulaReply};
 ghost use Rattle.labelling.specs.Replies.{verdictReply};
 ghost use Rattle.automaton.specs.Replies.{buildReply, wordReply};
 ghost use Rattle.explainer.specs.Interface.{numberIn, figureIn};
-use lts::TableReply;
 use actl::FormulaReply;
-use labelling::VerdictReply;
 use automaton::BuildReply;
 use automaton::WordReply;
+use labelling::VerdictReply;
+use lts::TableReply;
 
 fn table_number(reply: TableReply) -> u32
     ensures { λ r. ⌜ r ≡ numberIn (tableReply reply) ⌝ }

@@ -1,7 +1,6 @@
 // What integrators call: the entries together.
 mod interface;
 
-
 // What `explain` answers: verdict, class, rows and edges, or the number and the figure of a refusal.
 pub enum ExplainReply {
     Explained(u8, u8, usize, usize),

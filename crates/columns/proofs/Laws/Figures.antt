@@ -75,7 +75,7 @@ pub written-more : (n : ℕ) (bytes : List ℕ) (from rest : ℕ) → Written n 
 written-more n bytes from rest w h =
     let inside : from < length bytes = omega (arith, w .size, w .within) in
     let cut : drop from (set bytes from (48 + rest % 10)) ≡ (48 + rest % 10) ∷ drop (suc from) bytes =
-        ap (drop from) (set-split bytes from (48 + rest % 10) inside) ∙ drop-at (take from bytes) _ from (length-take-le from bytes (omega arith)) in
+    ap (drop from) (set-split bytes from (48 + rest % 10) inside) ∙ drop-at (take from bytes) _ from (length-take-le from bytes (omega arith)) in
     record {
       size = length-set bytes from (48 + rest % 10) ∙ w .size;
       within = omega (arith, w .within);

@@ -58,7 +58,7 @@ returns c =
     let l = c .before .before .loop in
     let done : l .rest ≡ 0 = omega arith in
     let w : Written (c .before .before .before .args .n) (l .bytes) (l .from) 0 = subst (Written _ _ _) done (l .inv) in
-    record { figures = written-column _ _ _ w 14 (omega arith) (omega (arith, w .within)); within = omega arith }
+    record { figures = written-column _ _ _ w 14 (omega arith) (omega (arith, w .within)); within = omega arith; size = w .size }
 
 -- src/write.rt:15:1
 returns-2 : tie.Need-returns-2 Inv-loop μ-loop
@@ -66,7 +66,7 @@ returns-2 c =
     let l = c .before .before .loop in
     let done : l .rest ≡ 0 = omega arith in
     let w : Written (c .before .before .before .args .n) (l .bytes) (l .from) 0 = subst (Written _ _ _) done (l .inv) in
-    record { figures = written-column _ _ _ w (l .from) (omega arith) (omega arith); within = omega arith }
+    record { figures = written-column _ _ _ w (l .from) (omega arith) (omega arith); within = omega arith; size = w .size }
 
 pub spread-spec : {M : Type 1} → statement M
 spread-spec =
