@@ -3,3 +3,4 @@ pub mod Bytes
 pub mod Columns
 pub mod Figures
 pub mod Copying
+pub mod Pasting

@@ -3,7 +3,7 @@ ghost use mathlib.Core.Path.{_≡_};
 ghost use mathlib.Core.List.{_++_};
 ghost use Prim.Native.Nat.{ℕ, _+_, _≤_};
 ghost use lib.ListN.{length, take, drop};
-ghost use Rattle.columns.specs.Columns.{column};
+ghost use Rattle.columns.specs.Columns.{column, numbersLine};
 ghost use Rattle.columns.specs.Write.{Spread, pasted};
 
 // A number's column: the bytes from `from` on.
@@ -38,6 +38,7 @@ pub fn write_column(n: u64, out: &mut [u8], at: usize) -> usize
     requires { ⌜ at + 20 ≤ length (now out) ⌝ }
     ensures { λ r. ⌜ r ≡ at + length (column n) ⌝ }
     ensures { λ _. ⌜ now (out .exit) ≡ pasted (now (out .entry)) at (column n) ⌝ }
+    ensures { λ r. ⌜ r ≤ at + 20 ⌝ }
 {
     let figures = spread(n);
     let from = figures.from;
@@ -48,4 +49,20 @@ pub fn write_column(n: u64, out: &mut [u8], at: usize) -> usize
         i += 1;
     }
     at + (20 - from)
+}
+
+// Writes the first `count` of the values as a line of numbers at `at`, and answers where the line ends.
+pub fn write_numbers(values: [u64; 4], count: usize, out: &mut [u8], at: usize) -> usize
+    requires { ⌜ (count ≤ 4) × (at + 81 ≤ length (now out)) ⌝ }
+    ensures { λ r. ⌜ r ≡ at + length (numbersLine (take count values)) ⌝ }
+    ensures { λ _. ⌜ now (out .exit) ≡ pasted (now (out .entry)) at (numbersLine (take count values)) ⌝ }
+{
+    let mut end = at;
+    let mut i: usize = 0;
+    while i < count {
+        end = write_column(values[i], out, end);
+        i += 1;
+    }
+    out[end] = 10;
+    end + 1
 }

@@ -4,34 +4,30 @@ use mathlib.Core.List.{List, [], _∷_, _++_}
 use Prim.Native.Nat.{ℕ, zero, suc, _*_}
 use lib.Dec.{eqb}
 use lib.ListN.{replicate}
-use Rattle.columns.specs.Columns.{column}
+use Rattle.columns.specs.Columns.{numbersLine}
 use Rattle.lts.specs.Lists.{bind}
 use Rattle.lts.specs.Reply.{Reply, accepted, refusal}
 use Rattle.automaton.specs.Listing.{Row, Edge, Listing}
 use Rattle.automaton.specs.Bytes.{rowLength, edgeLength, bitOf}
 use Rattle.explainer.specs.Explanation.{Summary, Explanation, summary, explanation}
 
--- A line of numbers. 01: "All in 6 columns; a number of more digits takes as many columns as it has."
-abbrev pub numbers : List ℕ → List ℕ
-numbers l = bind column l ++ (10 ∷ [])
-
 -- "per row its number, place, state, final (1 or 0)"
 abbrev pub rowLines : ℕ → List Row → List ℕ
 rowLines i [] = []
-rowLines i (r ∷ l) = numbers (i ∷ r .place ∷ r .state ∷ bitOf (r .final) ∷ []) ++ rowLines (suc i) l
+rowLines i (r ∷ l) = numbersLine (i ∷ r .place ∷ r .state ∷ bitOf (r .final) ∷ []) ++ rowLines (suc i) l
 
 -- "per edge its row, label, target row"
 abbrev pub edgeLine : Edge → List ℕ
-edgeLine e = numbers (e .row ∷ e .label ∷ e .target ∷ [])
+edgeLine e = numbersLine (e .row ∷ e .label ∷ e .target ∷ [])
 
 -- "verdict (1 holds, 0 not), class, rows, edges"
 abbrev pub summaryLine : Summary → List ℕ
-summaryLine s = numbers (s .verdict ∷ s .class ∷ s .rows ∷ s .edges ∷ [])
+summaryLine s = numbersLine (s .verdict ∷ s .class ∷ s .rows ∷ s .edges ∷ [])
 
 -- "A refusal prints one line: number, returned figure."
 unfoldable pub printed : Reply Explanation → List ℕ
 printed (accepted e) = summaryLine (summary e) ++ (rowLines 0 (e .list .rows) ++ bind edgeLine (e .list .edges))
-printed (refusal number figure) = numbers (number ∷ figure ∷ [])
+printed (refusal number figure) = numbersLine (number ∷ figure ∷ [])
 
 -- "One LF at the end of `formula.txt` is dropped."
 abbrev pub withoutEnd : List ℕ → List ℕ

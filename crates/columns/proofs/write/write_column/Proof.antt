@@ -79,7 +79,7 @@ returns c =
     let done : l .i ≡ length (f .result .bytes) - f .result .from = omega (arith, l .inv .upto) in
     let whole = f .ensures .figures in (
       ap (λ m. c .before .before .before .before .before .args .at + m) (sym (sym (ap length whole) ∙ length-drop (f .result .from) (f .result .bytes) ∙ ap (λ m. m - f .result .from) size)),
-      copied (l .inv) done ∙ ap (pasted (c .before .before .before .before .before .args .out .now) (c .before .before .before .before .before .args .at)) whole,
+      (copied (l .inv) done ∙ ap (pasted (c .before .before .before .before .before .args .out .now) (c .before .before .before .before .before .args .at)) whole, omega arith),
     )
 
 pub write-column-spec : {M : Type 1} → statement M
