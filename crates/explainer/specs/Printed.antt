@@ -1,14 +1,15 @@
 -- 01, "The listing of `explain`": the text that the program writes.
 use mathlib.Core.Bool.{Bool, cond}
 use mathlib.Core.List.{List, [], _∷_, _++_}
-use Prim.Native.Nat.{ℕ, zero, suc, _*_}
+use Prim.Native.Nat.{ℕ, zero, suc, _+_, _*_}
 use lib.Dec.{eqb}
-use lib.ListN.{replicate}
+use lib.ListN.{getD, replicate}
 use Rattle.columns.specs.Columns.{numbersLine}
-use Rattle.lts.specs.Lists.{bind}
+use Rattle.lts.specs.Lists.{upFrom, bind}
 use Rattle.lts.specs.Reply.{Reply, accepted, refusal}
 use Rattle.automaton.specs.Listing.{Row, Edge, Listing}
 use Rattle.automaton.specs.Bytes.{rowLength, edgeLength, bitOf}
+use Rattle.explainer.specs.Traces.{edgeIn}
 use Rattle.explainer.specs.Explanation.{Summary, Explanation, summary, explanation}
 
 -- "per row its number, place, state, final (1 or 0)"
@@ -28,6 +29,22 @@ summaryLine s = numbersLine (s .verdict ∷ s .class ∷ s .rows ∷ s .edges �
 unfoldable pub printed : Reply Explanation → List ℕ
 printed (accepted e) = summaryLine (summary e) ++ (rowLines 0 (e .list .rows) ++ bind edgeLine (e .list .edges))
 printed (refusal number figure) = numbersLine (number ∷ figure ∷ [])
+
+-- The same from the bytes in the lent places.
+abbrev pub rowText : List ℕ → ℕ → List ℕ
+rowText rows i = numbersLine (i ∷ getD rows (i * 3) 0 ∷ getD rows (i * 3 + 1) 0 ∷ getD rows (i * 3 + 2) 0 ∷ [])
+
+abbrev pub edgeText : List ℕ → ℕ → List ℕ
+edgeText edges j = edgeLine (edgeIn edges j)
+
+abbrev pub rowsText : List ℕ → ℕ → List ℕ
+rowsText rows n = bind (rowText rows) (upFrom 0 n)
+
+abbrev pub edgesText : List ℕ → ℕ → List ℕ
+edgesText edges n = bind (edgeText edges) (upFrom 0 n)
+
+abbrev pub listingText : Summary → List ℕ → List ℕ → List ℕ
+listingText s rows edges = summaryLine s ++ (rowsText rows (s .rows) ++ edgesText edges (s .edges))
 
 -- "One LF at the end of `formula.txt` is dropped."
 abbrev pub withoutEnd : List ℕ → List ℕ

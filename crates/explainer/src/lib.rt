@@ -1,5 +1,6 @@
 // What integrators call: the entries together.
 mod interface;
+pub mod print;
 
 // What `explain` answers: verdict, class, rows and edges, or the number and the figure of a refusal.
 pub enum ExplainReply {
