@@ -56,6 +56,7 @@ pub fn write_numbers(values: [u64; 4], count: usize, out: &mut [u8], at: usize) 
     requires { ⌜ (count ≤ 4) × (at + 81 ≤ length (now out)) ⌝ }
     ensures { λ r. ⌜ r ≡ at + length (numbersLine (take count values)) ⌝ }
     ensures { λ _. ⌜ now (out .exit) ≡ pasted (now (out .entry)) at (numbersLine (take count values)) ⌝ }
+    ensures { λ r. ⌜ r ≤ at + 81 ⌝ }
 {
     let mut end = at;
     let mut i: usize = 0;

@@ -1,12 +1,13 @@
 -- 01, "The listing of `explain`": the text that the program writes.
+use mathlib.Core.Path.{_≡_}
 use mathlib.Core.Bool.{Bool, cond}
 use mathlib.Core.List.{List, [], _∷_, _++_}
 use Prim.Native.Nat.{ℕ, zero, suc, _+_, _*_}
 use lib.Dec.{eqb}
-use lib.ListN.{getD, replicate}
+use lib.ListN.{length, getD, replicate}
 use Rattle.columns.specs.Columns.{numbersLine}
 use Rattle.lts.specs.Lists.{upFrom, bind}
-use Rattle.lts.specs.Reply.{Reply, accepted, refusal}
+use Rattle.lts.specs.Reply.{Reply, accepted, refusal, overwritten}
 use Rattle.automaton.specs.Listing.{Row, Edge, Listing}
 use Rattle.automaton.specs.Bytes.{rowLength, edgeLength, bitOf}
 use Rattle.explainer.specs.Traces.{edgeIn}
@@ -26,9 +27,12 @@ abbrev pub summaryLine : Summary → List ℕ
 summaryLine s = numbersLine (s .verdict ∷ s .class ∷ s .rows ∷ s .edges ∷ [])
 
 -- "A refusal prints one line: number, returned figure."
+abbrev pub refusalLine : ℕ → ℕ → List ℕ
+refusalLine number figure = numbersLine (number ∷ figure ∷ [])
+
 unfoldable pub printed : Reply Explanation → List ℕ
 printed (accepted e) = summaryLine (summary e) ++ (rowLines 0 (e .list .rows) ++ bind edgeLine (e .list .edges))
-printed (refusal number figure) = numbersLine (number ∷ figure ∷ [])
+printed (refusal number figure) = refusalLine number figure
 
 -- The same from the bytes in the lent places.
 abbrev pub rowText : List ℕ → ℕ → List ℕ
@@ -45,6 +49,11 @@ edgesText edges n = bind (edgeText edges) (upFrom 0 n)
 
 abbrev pub listingText : Summary → List ℕ → List ℕ → List ℕ
 listingText s rows edges = summaryLine s ++ (rowsText rows (s .rows) ++ edgesText edges (s .edges))
+
+-- What `write_listing` leaves: the listing's text at the start of the buffer, which held `before`, and its length.
+pub record Listed (s : Summary) (rows edges before out : List ℕ) (end : ℕ) : Type 0 where
+  pub text : out ≡ overwritten (listingText s rows edges) before
+  pub ends : end ≡ length (listingText s rows edges)
 
 -- "One LF at the end of `formula.txt` is dropped."
 abbrev pub withoutEnd : List ℕ → List ℕ

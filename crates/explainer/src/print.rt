@@ -3,7 +3,8 @@ ghost use mathlib.Core.Path.{_≡_};
 ghost use Prim.Native.Nat.{ℕ, _+_, _*_, _≤_, _<_};
 ghost use lib.ListN.{length, getD};
 ghost use Rattle.columns.specs.Write.{pasted};
-ghost use Rattle.explainer.specs.Printed.{rowText, edgeText, rowsText, edgesText, listingText};
+ghost use Rattle.explainer.specs.Printed.{rowText, edgeText, rowsText, edgesText, refusalLine, Listed};
+ghost use Rattle.lts.specs.Reply.{overwritten};
 use columns::write::write_numbers;
 
 fn wide(b: u8) -> u64
@@ -17,7 +18,12 @@ fn write_row(rows: &[u8], i: usize, out: &mut [u8], at: usize) -> usize
     ensures { λ r. ⌜ r ≡ at + length (rowText (now (rows .entry)) i) ⌝ }
     ensures { λ _. ⌜ now (out .exit) ≡ pasted (now (out .entry)) at (rowText (now (rows .entry)) i) ⌝ }
 {
-    let values = [i as u64, wide(rows[i * 3]), wide(rows[i * 3 + 1]), wide(rows[i * 3 + 2])];
+    let values = [
+        i as u64,
+        wide(rows[i * 3]),
+        wide(rows[i * 3 + 1]),
+        wide(rows[i * 3 + 2]),
+    ];
     write_numbers(values, 4, out, at)
 }
 
@@ -34,7 +40,12 @@ fn write_edge(edges: &[u8], j: usize, out: &mut [u8], at: usize) -> usize
     ensures { λ r. ⌜ r ≡ at + length (edgeText (now (edges .entry)) j) ⌝ }
     ensures { λ _. ⌜ now (out .exit) ≡ pasted (now (out .entry)) at (edgeText (now (edges .entry)) j) ⌝ }
 {
-    let values = [pair(edges, j * 5), wide(edges[j * 5 + 2]), pair(edges, j * 5 + 3), 0];
+    let values = [
+        pair(edges, j * 5),
+        wide(edges[j * 5 + 2]),
+        pair(edges, j * 5 + 3),
+        0,
+    ];
     write_numbers(values, 3, out, at)
 }
 
@@ -66,4 +77,38 @@ fn write_edges(edges: &[u8], count: usize, out: &mut [u8], at: usize) -> usize
         j += 1;
     }
     end
+}
+
+// Writes the whole listing at the start of `out`, and answers its length.
+pub fn write_listing(
+    verdict: u8,
+    class: u8,
+    rowcount: usize,
+    edgecount: usize,
+    rows: &[u8],
+    edges: &[u8],
+    out: &mut [u8],
+) -> usize
+    requires { ⌜ (rowcount * 3 ≤ length (now rows)) × (edgecount * 5 ≤ length (now edges)) × (rowcount ≤ 65536) ⌝ }
+    requires { ⌜ rowcount * 25 + edgecount * 19 + 162 ≤ length (now out) ⌝ }
+    ensures { λ r. ⌜ Listed (record { verdict = verdict; class = class; rows = rowcount; edges = edgecount }) (now (rows .entry)) (now (edges .entry)) (now (out .entry)) (now (out .exit)) r ⌝ }
+{
+    let values = [
+        wide(verdict),
+        wide(class),
+        rowcount as u64,
+        edgecount as u64,
+    ];
+    let first = write_numbers(values, 4, out, 0);
+    let second = write_rows(rows, rowcount, out, first);
+    write_edges(edges, edgecount, out, second)
+}
+
+// Writes a refusal's line at the start of `out`, and answers its length.
+pub fn write_refusal(number: u8, figure: usize, out: &mut [u8]) -> usize
+    requires { ⌜ 81 ≤ length (now out) ⌝ }
+    ensures { λ r. ⌜ r ≡ length (refusalLine number figure) ⌝ }
+    ensures { λ _. ⌜ now (out .exit) ≡ overwritten (refusalLine number figure) (now (out .entry)) ⌝ }
+{
+    write_numbers([wide(number), figure as u64, 0, 0], 2, out, 0)
 }

@@ -74,7 +74,7 @@ returns c =
     let inside : l .end < length (l .out) = omega (arith, pasting-length (l .inv .0), l .inv .2) in
     let p = pasting-more (l .inv .0) (10 ∷ []) (set (l .out) (l .end) 10) (l .end + 1) (set-pasted (l .out) (l .end) 10 inside) refl (omega (arith, l .inv .2)) in
     let text = columns-line (take (l .i) (a .t1)) ∙ ap (λ k. numbersLine (take k (a .t1))) done in
-    (p .ends ∙ ap (λ t. a .at + length t) text, p .is ∙ ap (pasted (a .out .now) (a .at)) text)
+    (p .ends ∙ ap (λ t. a .at + length t) text, (p .is ∙ ap (pasted (a .out .now) (a .at)) text, omega (arith, l .inv .2)))
 
 pub write-numbers-spec : {M : Type 1} → statement M
 write-numbers-spec =

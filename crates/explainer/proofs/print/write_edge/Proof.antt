@@ -17,7 +17,6 @@ use Rattle.columns.specs.Write.{pasted}
 three : (n : ℕ) {a b c d e f : ℕ} → a ≡ b → c ≡ d → e ≡ f → a ∷ c ∷ e ∷ n ∷ [] ≡ b ∷ d ∷ f ∷ n ∷ []
 three n x y z = λ i. x i ∷ y i ∷ z i ∷ n ∷ []
 
-
 mul-pair : tie.Need-mul-pair
 mul-pair c = search needs
 
@@ -62,7 +61,7 @@ returns c =
     let j = a .j in
     let z : j * 5 + 3 + 1 ≡ j * 5 + 4 = omega arith in
     let line = three 0 (first .pair .ensures) (second .wide .ensures .0) (third .pair2 .ensures ∙ ap (λ k. getD e (j * 5 + 3) 0 + getD e k 0 * 256) z) in
-    (w .ensures .0 ∙ ap (λ l. a .at + length (numbersLine (take 3 l))) line, w .ensures .1 ∙ ap (λ l. pasted (a .out .now) (a .at) (numbersLine (take 3 l))) line)
+    (w .ensures .0 ∙ ap (λ l. a .at + length (numbersLine (take 3 l))) line, w .ensures .1 .0 ∙ ap (λ l. pasted (a .out .now) (a .at) (numbersLine (take 3 l))) line)
 
 pub write-edge-spec : {M : Type 1} → statement M
 write-edge-spec =

@@ -47,8 +47,7 @@ returns : tie.Need-returns Inv-loop μ-loop
 returns c =
     let l = c .before .loop in
     let a = c .before .before .before .before .args in
-    let done : l .j ≡ a .count = omega arith in
-    (
+    let done : l .j ≡ a .count = omega arith in (
       l .inv .0 .pasting .ends ∙ ap (λ k. a .at + length (bind (edgeText (a .edges .now)) (upFrom 0 k))) done,
       (
         l .inv .0 .wide ∙ ap (λ k. a .at + k * 19) done,

@@ -65,7 +65,7 @@ returns c =
     let y = second .wide2 .ensures .0 in
     let z = third .wide3 .ensures .0 in
     let line = four (a .i) x y z in
-    (w .ensures .0 ∙ ap (λ l. a .at + length (numbersLine l)) line, w .ensures .1 ∙ ap (λ l. pasted (a .out .now) (a .at) (numbersLine l)) line)
+    (w .ensures .0 ∙ ap (λ l. a .at + length (numbersLine l)) line, w .ensures .1 .0 ∙ ap (λ l. pasted (a .out .now) (a .at) (numbersLine l)) line)
 
 pub write-row-spec : {M : Type 1} → statement M
 write-row-spec =

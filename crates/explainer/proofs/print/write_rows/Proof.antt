@@ -47,8 +47,7 @@ returns : tie.Need-returns Inv-loop μ-loop
 returns c =
     let l = c .before .loop in
     let a = c .before .before .before .before .args in
-    let done : l .i ≡ a .count = omega arith in
-    (
+    let done : l .i ≡ a .count = omega arith in (
       l .inv .0 .pasting .ends ∙ ap (λ k. a .at + length (bind (rowText (a .rows .now)) (upFrom 0 k))) done,
       (
         l .inv .0 .wide ∙ ap (λ k. a .at + k * 25) done,
