@@ -14,3 +14,4 @@ pub mod Listed
 pub mod Reading
 pub mod Unique
 pub mod Counts
+pub mod Bytes
