@@ -7,3 +7,5 @@ pub mod Lines
 pub mod Reading
 pub mod ReadingLabels
 pub mod Texts
+pub mod Slots
+pub mod TableBytes
