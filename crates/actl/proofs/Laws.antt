@@ -1,0 +1,10 @@
+-- Laws that several proofs cite, by topic.
+pub mod Classed
+pub mod Forms
+pub mod Lists
+pub mod Masks
+pub mod Numbers
+pub mod Polish
+pub mod Prepared
+pub mod Slots
+pub mod Widths
