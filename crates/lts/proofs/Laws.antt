@@ -9,3 +9,4 @@ pub mod ReadingLabels
 pub mod Texts
 pub mod Slots
 pub mod TableBytes
+pub mod Prepared
