@@ -109,7 +109,7 @@ module _ (n : ℕ) (b : List ℕ) (F : Formula) (h : IsForm n b F) where
       let f = getD (nodes F) k tru in
       let w = and-true-of (maskWithin n (slotOf f .first)) (maskWithin n (slotOf f .second)) (h .within f (getD-mem (nodes F) k tru (omega (arith, length-nodes F)))) in
       let s : StandsFor (slotOf f) (slotAt b k) =
-        subst (StandsFor (slotOf f)) (sym (ap (λ x. slotAt x k) (h .form)) ∙ slot-of-front b k (omega arith)) (slot-of-form F k l) in
+      subst (StandsFor (slotOf f)) (sym (ap (λ x. slotAt x k) (h .form)) ∙ slot-of-front b k (omega arith)) (slot-of-form F k l) in
       let carried : (x : Mask) → maskWithin n x ≡ true → x < 256 ^ 8 = λ x e. lt-of-lt-of-le (within-low n x e .1) (pow-mono {i = suc n} {j = 64} (omega arith)) in
       sym (slot-by-parts (slotAt b k) (s .same-kind) (s .same-first (carried (slotOf f .first) (w .0))) (s .same-second (carried (slotOf f .second) (w .1))))
 
