@@ -15,3 +15,4 @@ pub mod Reading
 pub mod Unique
 pub mod Counts
 pub mod Bytes
+pub mod Accepted
