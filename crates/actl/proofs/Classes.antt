@@ -148,3 +148,42 @@ class-of-node {F} c {f} h = back (at-classed (start c) h)
     back : Witnessable f ⊎ Refutable f → HasClass f
     back (inl o) = inl (class-numbers f .0 o)
     back (inr o) = inr (class-numbers f .1 o)
+
+-- There are no other classes.
+abbrev Small : ℕ → Type 0
+Small n = (n ≡ 0 → ⊥) → (n ≡ 1) ⊎ (n ≡ 2)
+
+not-small : (n : ℕ) → Small (classOfNot n)
+not-small zero h = absurd (h refl)
+not-small (suc zero) h = inr refl
+not-small (suc (suc zero)) h = inl refl
+not-small (suc (suc (suc n))) h = absurd (h refl)
+
+or-small : (m n : ℕ) → Small (classOfOr m n)
+or-small zero n h = absurd (h refl)
+or-small (suc zero) zero h = absurd (h refl)
+or-small (suc zero) (suc zero) h = inl refl
+or-small (suc zero) (suc (suc n)) h = absurd (h refl)
+or-small (suc (suc m)) n h = absurd (h refl)
+
+some-small : (n : ℕ) → Small (classOfSome n)
+some-small zero h = absurd (h refl)
+some-small (suc zero) h = inl refl
+some-small (suc (suc n)) h = absurd (h refl)
+
+all-small : (b : Bool) (n : ℕ) → Small (classOfAll b n)
+all-small true n h = inr refl
+all-small false zero h = absurd (h refl)
+all-small false (suc zero) h = absurd (h refl)
+all-small false (suc (suc zero)) h = inr refl
+all-small false (suc (suc (suc n))) h = absurd (h refl)
+
+pub has-class : (f : Formula) → (classOf f ≡ 0 → ⊥) → HasClass f
+unfolding classOf
+has-class tru h = inl refl
+has-class (not f) h = not-small (classOf f) h
+has-class (or f g) h = or-small (classOf f) (classOf g) h
+has-class (ex c f) h = some-small (classOf f) h
+has-class (ax c f) h = all-small (isT f) (classOf f) h
+has-class (eu a f) h = some-small (classOf f) h
+has-class (euThen a b f) h = some-small (classOf f) h

@@ -1,4 +1,6 @@
 -- Laws that several proofs cite, by topic.
+pub mod Accepted
+pub mod Classed
 pub mod Forms
 pub mod Lists
 pub mod Masks

@@ -16,3 +16,5 @@ pub mod Listed
 pub mod Reading
 pub mod Unique
 pub mod Counts
+pub mod Bytes
+pub mod Accepted

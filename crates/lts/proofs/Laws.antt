@@ -7,3 +7,6 @@ pub mod Lines
 pub mod Reading
 pub mod ReadingLabels
 pub mod Texts
+pub mod Slots
+pub mod TableBytes
+pub mod Prepared
