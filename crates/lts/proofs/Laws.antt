@@ -10,3 +10,4 @@ pub mod Texts
 pub mod Slots
 pub mod TableBytes
 pub mod Prepared
+pub mod Names
