@@ -11,3 +11,5 @@ pub mod Slots
 pub mod TableBytes
 pub mod Prepared
 pub mod Names
+pub mod Decides
+pub mod Spelling
