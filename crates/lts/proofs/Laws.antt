@@ -13,3 +13,6 @@ pub mod Prepared
 pub mod Names
 pub mod Decides
 pub mod Spelling
+pub mod Filled
+pub mod WellFormed
+pub mod Held

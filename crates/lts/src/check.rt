@@ -1,17 +1,16 @@
 // Whether bytes are a prepared table: the counts, each name's slot, each transition's slot, and zeros in the slots that are not used.
+use crate::names::Found;
 use crate::names::find_label;
 use crate::names::is_lower;
 use crate::names::is_name_byte;
 use crate::names::name_of;
-use crate::names::Found;
+use crate::prepared::Transition;
 use crate::prepared::byte;
 use crate::prepared::label_count;
 use crate::prepared::start_state;
 use crate::prepared::state_count;
 use crate::prepared::transition_at;
 use crate::prepared::transition_count;
-use crate::prepared::Transition;
-
 ghost use mathlib.Core.Path.{_≡_};
 ghost use Prim.Native.Nat.{_+_, _*_, _≤_, _<_};
 ghost use lib.ListN.{length};

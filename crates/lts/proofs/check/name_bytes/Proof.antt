@@ -43,11 +43,10 @@ loop-less c = omega arith
 loop-again : tie.Need-loop-again Inv-loop μ-loop
 loop-again c =
     let start = c .before .before .before .before .before .before in
-    let inv = c .before .before .before .before .loop .inv in
-    (
+    let inv = c .before .before .before .before .loop .inv in (
       omega arith,
       from-more (λ k. isNameByte (byteAt (start .args .table .now) k) ≡ true) (start .args .from) (c .before .before .before .before .loop .i) (inv .1)
-        (ap isNameByte (sym (c .before .before .byte .ensures .count)) ∙ (sym (c .before .is-name-byte .ensures) ∙ not-false _ (c .if1 .left))),
+          (ap isNameByte (sym (c .before .before .byte .ensures .count)) ∙ (sym (c .before .is-name-byte .ensures) ∙ not-false _ (c .if1 .left))),
     )
 
 returns-2 : tie.Need-returns-2 Inv-loop μ-loop

@@ -55,8 +55,8 @@ returns c =
     let start = c .before .before .before .before .before .before in
     let b = start .args .table .now in
     decided-no (λ h. let z : _≡_ {A = ℕ} 0 1 = cc (sym (found-in b (start .args .k) (start .pre .1 .1 .0) h)
-      ∙ (sym (sought b (start .args .k) _ _ (c .before .before .before .byte .ensures .count) (c .before .before .before .before .name-of .ensures))
-      ∙ (sym (c .before .before .find-label .ensures) ∙ ap foundIn (c .enum-told .given .1)))) in omega arith)
+    ∙ (sym (sought b (start .args .k) _ _ (c .before .before .before .byte .ensures .count) (c .before .before .before .before .name-of .ensures))
+    ∙ (sym (c .before .before .find-label .ensures) ∙ ap foundIn (c .enum-told .given .1)))) in omega arith)
 
 add-result : tie.Need-add-result
 add-result c = search needs
@@ -68,8 +68,8 @@ returns-2 c =
     let k = start .args .k in
     let j = c .before .j .given .0 .0 in
     let answer : lookup (tableIn b .names) (nameAt b k) ≡ some j
-      = sym (sought b k _ _ (c .before .before .before .before .byte .ensures .count) (c .before .before .before .before .before .name-of .ensures))
-        ∙ (sym (c .before .before .before .find-label .ensures) ∙ ap foundIn (c .before .j .given .1)) in
+    = sym (sought b k _ _ (c .before .before .before .before .byte .ensures .count) (c .before .before .before .before .before .name-of .ensures))
+    ∙ (sym (c .before .before .before .find-label .ensures) ∙ ap foundIn (c .before .j .given .1)) in
     decided-test (eqb j (k + 1)) (eqb j (k + 1)) refl
     (λ e i h d. lookup-first k (tableIn b .names) (nameAt b k) (answer ∙ ap some (eqb-true j (k + 1) e ∙ add-one k)) i h (omega arith) (name-in b i [] (omega arith) ∙ d))
     (λ h. eq-eqb j (k + 1) (let same : j ≡ suc k = cc (sym answer ∙ found-in b k (start .pre .1 .1 .0) h) in omega arith))

@@ -59,7 +59,7 @@ returns-5 c =
       labelled = omega (arith, ap (λ (st : Step). st .label) here, c .before .before .before .before .before .if2 .left);
       enters = omega (arith, ap (λ (st : Step). st .to) here, c .before .before .before .if3 .left);
       rises = λ j d. let same : k - 1 ≡ j = omega arith in
-        subst₂ Below (one-before ∙ ap (transitionAt b) same) here (below-of _ _ e);
+          subst₂ Below (one-before ∙ ap (transitionAt b) same) here (below-of _ _ e);
     })
     (λ h. below-to _ _ (subst₂ Below (sym one-before) (sym here) (h .rises (k - 1) (omega (arith, c .before .before .if4 .left)))))
 

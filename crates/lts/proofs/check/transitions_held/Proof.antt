@@ -1,5 +1,5 @@
 -- `transitions_held` meets its contract: the transitions below k are as they must be.
-use mathlib.Core.Path.{_≡_, refl, sym, ap, _∙_, subst}
+use mathlib.Core.Path.{_≡_, refl, sym, ap, _∙_, subst₂}
 use mathlib.Core.List.{List}
 use Prim.Native.Nat.{ℕ, _-_, _≤_, _<_}
 use native.Mathlib.Omega.{arith}
@@ -55,8 +55,8 @@ returns c =
     let inv = c .before .before .before .loop .inv in
     let k = c .before .before .before .loop .k in
     decided-no (λ h. c .before .transition-held .ensures .no (not-true _ (c .if1 .taken))
-    (subst (λ (s : ℕ). TransitionHeld (start .args .table .now) s _ k) (sym (inv .states-are))
-    (subst (λ (m : ℕ). TransitionHeld (start .args .table .now) _ m k) (sym (inv .most-is)) (h k (omega (arith, inv .count, c .before .before .loop-test .taken))))))
+    (subst₂ (λ (s m : ℕ). TransitionHeld (start .args .table .now) s m k) (sym (inv .states-are)) (sym (inv .most-is))
+    (h k (omega (arith, inv .count, c .before .before .loop-test .taken)))))
 
 add-k : tie.Need-add-k Inv-loop μ-loop
 add-k c = omega arith
@@ -74,7 +74,7 @@ loop-again c =
       states-are = inv .states-are;
       most-is = inv .most-is;
       done = below-more (λ j. TransitionHeld (start .args .table .now) _ _ j) (c .before .before .before .loop .k) (inv .done)
-        (c .before .transition-held .ensures .yes (not-false _ (c .if1 .left)));
+          (c .before .transition-held .ensures .yes (not-false _ (c .if1 .left)));
     }
 
 returns-2 : tie.Need-returns-2 Inv-loop μ-loop
@@ -82,8 +82,8 @@ returns-2 c =
     let start = c .before .before .before .before .before .before in
     let inv = c .before .loop .inv in
     decided-yes (λ k h.
-    subst (λ (s : ℕ). TransitionHeld (start .args .table .now) s _ k) (inv .states-are)
-    (subst (λ (m : ℕ). TransitionHeld (start .args .table .now) _ m k) (inv .most-is) (inv .done k (omega (arith, inv .count, c .loop-test .left)))))
+    subst₂ (λ (s m : ℕ). TransitionHeld (start .args .table .now) s m k) (inv .states-are) (inv .most-is)
+    (inv .done k (omega (arith, inv .count, c .loop-test .left))))
 
 pub transitions-held-spec : {M : Type 1} → statement M
 transitions-held-spec =
