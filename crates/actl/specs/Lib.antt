@@ -7,3 +7,4 @@ pub mod Meaning
 pub mod Reading
 pub mod Prepared
 pub mod Replies
+pub mod Access
