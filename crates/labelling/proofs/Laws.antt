@@ -1,3 +1,6 @@
 -- Laws that several proofs cite, by topic.
 pub mod Transitions
 pub mod Flags
+pub mod Links
+pub mod Queue
+pub mod Searched

@@ -4,10 +4,12 @@ use mathlib.Core.Bool.{Bool, true, false, false≢true, true≢false, not, _&&_,
 use mathlib.Core.List.{List, [], _∷_}
 use Prim.Native.Nat.{ℕ, suc, _+_, _≤_, _<_}
 use native.Mathlib.Numerals.{add-one}
-use lib.ListN.{length, getD}
-use lib.Seq.{slice, slice-empty, slice-cons}
+use native.Mathlib.Decide.{ℕ-discrete}
+use native.Mathlib.Omega.{arith}
+use lib.ListN.{length, getD, set, replicate, length-set, length-replicate}
+use lib.Seq.{slice, slice-empty, slice-cons, getD-set-same, getD-set-other}
 use Rattle.lts.specs.Lists.{some, every}
-use Rattle.labelling.specs.Flags.{same}
+use Rattle.labelling.specs.Flags.{same, flagAt, Flags}
 
 pub same-there : (wanted result m there : Bool) → result ≡ m → there ≡ true → Bool·beq result wanted ≡ same wanted (m && there)
 same-there true true true true e d = refl
@@ -55,3 +57,26 @@ module _ {A : Type 0} (p : A → Bool) where
 
   pub some-none : (l : List A) (k end : ℕ) → k ≡ end → some p (slice k end l) ≡ false
   some-none l k end e = ap (λ n. some p (slice n end l)) e ∙ ap (some p) (slice-empty end l)
+
+-- Flags of the states below `end`, set a state at a time.
+pub record FlagsBelow (p : ℕ → Bool) (end : ℕ) (flags : List Bool) : Type 0 where
+  pub places : length flags ≡ 256
+  pub flag : (s : ℕ) → s < end → flagAt flags s ≡ p s
+
+module _ (p : ℕ → Bool) where
+  pub flags-none : FlagsBelow p 0 (replicate 256 false)
+  flags-none = record { places = length-replicate 256 false; flag = λ s h. absurd (omega arith) }
+
+  pub flags-on : (end : ℕ) {flags : List Bool} (b : Bool) → end < 256 → b ≡ p end → FlagsBelow p end flags → FlagsBelow p (end + 1) (set flags end b)
+  flags-on end {flags} b h e d = record {
+    places = length-set flags end b ∙ d .places;
+    flag = λ s l. here s l (ℕ-discrete s end);
+  }
+    where
+      here : (s : ℕ) → s < end + 1 → Dec (s ≡ end) → flagAt (set flags end b) s ≡ p s
+      here s l (yes c) =
+          ap (flagAt (set flags end b)) c ∙ (getD-set-same flags end b false (omega (arith, d .places)) ∙ (e ∙ ap p (sym c)))
+      here s l (no c) = getD-set-other flags end s b false c ∙ d .flag s (omega arith)
+
+  pub flags-all : (end : ℕ) {flags : List Bool} → 256 ≤ end → FlagsBelow p end flags → Flags p flags
+  flags-all end h d = record { places = d .places; flag = λ s l. d .flag s (omega arith) }
