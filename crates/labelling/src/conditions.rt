@@ -1,6 +1,5 @@
 // Whether a step's label meets a step condition, and whether an until's path passes it.
 use actl::node::Condition;
-
 ghost use mathlib.Core.Path.{_≡_};
 ghost use Prim.Native.Nat.{_<_};
 ghost use Rattle.actl.specs.Actions as actions;
@@ -31,9 +30,5 @@ pub fn passes(set: u64, label: usize) -> bool
     requires { ⌜ label < 64 ⌝ }
     ensures { λ r. ⌜ r ≡ actions.passes set label ⌝ }
 {
-    if label == 0 {
-        true
-    } else {
-        in_set(set, label)
-    }
+    if label == 0 { true } else { in_set(set, label) }
 }

@@ -1,7 +1,7 @@
 // What holds at a state by the steps that leave it, idle steps included.
-use actl::node::{Condition, Node};
+use actl::node::Condition;
+use actl::node::Node;
 use lts::prepared::transition_at;
-
 ghost use mathlib.Core.Path.{_≡_};
 ghost use mathlib.Core.Bool.{_&&_};
 ghost use Prim.Native.Nat.{_<_};

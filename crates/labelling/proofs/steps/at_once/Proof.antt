@@ -74,7 +74,7 @@ returns-5 : tie.Need-returns-5
 returns-5 c = c .some-step .ensures ∙ sym (ap (value (c .before .before .before .before .before)) (c .before .before .node .given .1))
 
 returns-6 : tie.Need-returns-6
-returns-6 c = 
+returns-6 c =
     let start = c .before .before .before .before .before in
     ap not (c .some-step2 .ensures) ∙ (every-not-some (leadsTo (condOf (c .before .before .node2 .given .0 .0)) (flagAt (start .args .arm .now))) (stepsFrom (tableIn (start .args .table .now)) (start .args .s)) ∙ sym (ap (value start) (c .before .before .node2 .given .1)))
 

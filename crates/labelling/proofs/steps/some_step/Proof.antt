@@ -69,13 +69,13 @@ leads-requires : tie.Need-leads-requires Inv-loop μ-loop
 leads-requires c κs = omega arith
 
 returns : tie.Need-returns Inv-loop μ-loop
-returns c = 
+returns c =
     let start = c .before .before .before .before .before .before in
     let p : Step → Bool = leadsAsWanted (start .args .wanted) (condOf (start .args .condition)) (flagAt (start .args .arm .now)) in
     sym (ap (some p) (exits start .idle (c .before .before .if1 .taken)) ∙ some-one p (idleAt (start .args .s)) (c .leads .result) (sym (c .leads .ensures)))
 
 loop-holds : tie.Need-loop-holds Inv-loop μ-loop
-loop-holds c = 
+loop-holds c =
     let start = c .before .before .before .before in
     let some-exit : getD (start .args .begins .now) (start .args .s) 0 < getD (start .args .begins .now) (start .args .s + 1) 0 = differs _ _ (exits start .ordered) (c .if1 .left) in
     let p : Step → Bool = leadsAsWanted (start .args .wanted) (condOf (start .args .condition)) (flagAt (start .args .arm .now)) in
@@ -88,12 +88,12 @@ element-copy-out-leads-2 : tie.Need-element-copy-out-leads-2 Inv-loop μ-loop
 element-copy-out-leads-2 c = c .transition-at .ensures .to-byte
 
 leads-requires-2 : tie.Need-leads-requires-2 Inv-loop μ-loop
-leads-requires-2 c κs = 
+leads-requires-2 c κs =
     let loop = c .before .before .before in
     label-in-mask _ (loop .before .before .before .before .before .pre .0) (loop .loop .k) (omega (arith, loop .loop .inv .1)) _ (c .before .transition-at .ensures)
 
 returns-2 : tie.Need-returns-2 Inv-loop μ-loop
-returns-2 c = 
+returns-2 c =
     let loop = c .before .before .before .before .before in
     let start = loop .before .before .before .before .before in
     let p : Step → Bool = leadsAsWanted (start .args .wanted) (condOf (start .args .condition)) (flagAt (start .args .arm .now)) in
@@ -106,14 +106,14 @@ loop-less : tie.Need-loop-less Inv-loop μ-loop
 loop-less c = search needs
 
 loop-again : tie.Need-loop-again Inv-loop μ-loop
-loop-again c = 
+loop-again c =
     let loop = c .before .before .before .before .before in
     let start = loop .before .before .before .before .before in
     let p : Step → Bool = leadsAsWanted (start .args .wanted) (condOf (start .args .condition)) (flagAt (start .args .arm .now)) in
     (omega (arith, c .before .before .before .before .loop-test .taken), loop .loop .inv .1, loop .loop .inv .2 ∙ some-later p _ (idleAt 0) _ (loop .loop .inv .1) (loop .loop .k) (c .before .before .before .before .loop-test .taken) (outcome (c .before) ∙ c .if2 .left))
 
 returns-3 : tie.Need-returns-3 Inv-loop μ-loop
-returns-3 c = 
+returns-3 c =
     let start = c .before .before .before .before .before .before in
     let p : Step → Bool = leadsAsWanted (start .args .wanted) (condOf (start .args .condition)) (flagAt (start .args .arm .now)) in
     let done : c .before .loop .k ≡ getD (start .args .begins .now) (start .args .s + 1) 0 = omega arith in
