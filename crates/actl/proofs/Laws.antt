@@ -1,3 +1,12 @@
 -- Laws that several proofs cite, by topic.
+pub mod Accepted
+pub mod Classed
+pub mod Forms
+pub mod Lists
+pub mod Masks
 pub mod Numbers
+pub mod Polish
+pub mod Prepared
 pub mod Slots
+pub mod Table
+pub mod Widths

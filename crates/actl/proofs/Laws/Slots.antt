@@ -6,8 +6,9 @@ use native.Mathlib.Omega.{arith}
 use lib.Dec.{leb, eqb}
 use borrow.Author.Tests.{leb-true, eqb-true}
 use Rattle.lts.proofs.Lists.{and-true-of}
-use Rattle.actl.specs.Actions.{Mask}
-use Rattle.actl.specs.Prepared.{Slot, slot}
+use Rattle.actl.specs.Actions.{Mask, Cond, silent, labels}
+use Rattle.actl.specs.Formulas.{Formula, tru, not, or, ex, ax, eu, euThen}
+use Rattle.actl.specs.Prepared.{Slot, slot, slotOf}
 use Rattle.actl.specs.Access.{shaped, firstUsed, secondUsed}
 
 pub slot-by-parts : (s : Slot) {k a b : ℕ} → s .kind ≡ k → s .first ≡ a → s .second ≡ b → slot k a b ≡ s
@@ -44,3 +45,15 @@ module _ (s : Slot) (e : shaped s ≡ true) {k : ℕ} (d : s .kind ≡ k) where
 
   pub slot-with-first : {a : Mask} → secondUsed k ≡ false → s .first ≡ a → slot k a 0 ≡ s
   slot-with-first g f = slot-by-parts s d f (shape-of s e .no-second (ap secondUsed d ∙ g))
+
+pub node-shaped : (f : Formula) → shaped (slotOf f) ≡ true
+unfolding shaped
+node-shaped tru = refl
+node-shaped (not f) = refl
+node-shaped (or f g) = refl
+node-shaped (ex silent f) = refl
+node-shaped (ex (labels m) f) = refl
+node-shaped (ax silent f) = refl
+node-shaped (ax (labels m) f) = refl
+node-shaped (eu a f) = refl
+node-shaped (euThen a b f) = refl
