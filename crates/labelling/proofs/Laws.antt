@@ -4,3 +4,6 @@ pub mod Flags
 pub mod Links
 pub mod Queue
 pub mod Searched
+pub mod Rows
+pub mod Agree
+pub mod Nodes

@@ -6,3 +6,4 @@ pub mod Flags
 pub mod Count
 pub mod Links
 pub mod Queue
+pub mod Nodes

@@ -1,6 +1,7 @@
 // Where the nodes of a formula hold, and the verdict.
 mod conditions;
 mod links;
+pub mod nodes;
 mod steps;
 mod until;
 
