@@ -116,3 +116,11 @@ module _ (t : Table) (r : InRange t) (F : Formula) (few : size F ≤ 40) (k : �
             ap (λ x. flagAt flags′ (x * 256 + s)) c
             ∙ (z .inside s h ∙ (f .flag s h ∙ (node-holds t r (flagAt arm) (flagAt other) n here e (arms here (at-node F k below)) s h ∙ ap (λ x. holds t (getD (nodes F) x tru) s) (sym c))))
         go j s b m h (no c) = z .outside (j * 256 + s) (inr (omega arith)) ∙ l .flag j s (omega arith) m h
+
+-- The search of an until from the flags of its goal.
+pub until-flags : (t : Table) → InRange t → (m : Mask) (g : ℕ → Bool) (goal flags : List Bool) → Flags g goal
+    → Flags (within t m (flagAt goal) (length (t .transitions))) flags → Flags (within t m g (length (t .transitions))) flags
+until-flags t r m g goal flags d w = record {
+  places = w .places;
+  flag = λ s h. w .flag s h ∙ within-agree t r (flagAt goal) g (d .flag) m (length (t .transitions)) s h;
+}
