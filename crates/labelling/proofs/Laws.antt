@@ -7,3 +7,4 @@ pub mod Searched
 pub mod Rows
 pub mod Agree
 pub mod Nodes
+pub mod Prepared

@@ -1,9 +1,10 @@
 // Where every node of a prepared formula holds: from the last node to the first, so that arms come before their node.
-use actl::node::{node_at, node_count, Node};
 use crate::links::entering;
 use crate::steps::label_at_once;
 use crate::until::until;
-
+use actl::node::Node;
+use actl::node::node_at;
+use actl::node::node_count;
 ghost use mathlib.Core.Path.{_≡_};
 ghost use Prim.Native.Nat.{_+_, _<_};
 ghost use lib.ListN.{length, getD};
@@ -79,11 +80,7 @@ fn right_arm(ends: &[u8; 40], k: usize) -> usize
     requires { ⌜ k < 40 ⌝ }
     ensures { λ r. ⌜ (k + 1 < 40 → r ≡ getD (now (ends .entry)) (k + 1) 0) ⌝ }
 {
-    if k + 1 < 40 {
-        wide(ends[k + 1])
-    } else {
-        40
-    }
+    if k + 1 < 40 { wide(ends[k + 1]) } else { 40 }
 }
 
 fn label_row(

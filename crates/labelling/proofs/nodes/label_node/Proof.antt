@@ -47,37 +47,37 @@ until-requires-2 : tie.Need-until-requires-2
 until-requires-2 c κs = search needs
 
 returns : tie.Need-returns
-returns c = 
+returns c =
     let start = c .before .before .before .before in
     let found = c .before .before .label-at-once in
     subst (Wanted start (found .result)) (sym (c .enum-told .given .1)) (subst (AtOnce start (found .result)) (c .enum-told .given .1) (found .ensures))
 
 returns-2 : tie.Need-returns-2
-returns-2 c = 
+returns-2 c =
     let start = c .before .before .before .before in
     let found = c .before .before .label-at-once in
     subst (Wanted start (found .result)) (sym (c .enum-told2 .given .1)) (subst (AtOnce start (found .result)) (c .enum-told2 .given .1) (found .ensures))
 
 returns-3 : tie.Need-returns-3
-returns-3 c = 
+returns-3 c =
     let start = c .before .before .before .before in
     let found = c .before .before .label-at-once in
     subst (Wanted start (found .result)) (sym (c .enum-told3 .given .1)) (subst (AtOnce start (found .result)) (c .enum-told3 .given .1) (found .ensures))
 
 returns-4 : tie.Need-returns-4
-returns-4 c = 
+returns-4 c =
     let start = c .before .before .before .before in
     let found = c .before .before .label-at-once in
     subst (Wanted start (found .result)) (sym (c .enum-told4 .given .1)) (subst (AtOnce start (found .result)) (c .enum-told4 .given .1) (found .ensures))
 
 returns-5 : tie.Need-returns-5
-returns-5 c = 
+returns-5 c =
     let start = c .before .before .before .before in
     let found = c .before .before .label-at-once in
     subst (Wanted start (found .result)) (sym (c .enum-told5 .given .1)) (subst (AtOnce start (found .result)) (c .enum-told5 .given .1) (found .ensures))
 
 returns-6 : tie.Need-returns-6
-returns-6 c = 
+returns-6 c =
     let start = c .before .before .before .before .before .before .before in
     let found = c .before .before .before .before .before .label-at-once in
     let same = c .before .before .before .node .given .1 in
@@ -85,7 +85,7 @@ returns-6 c =
     (until-flags _ (start .pre .0 .in-range) _ _ (found .result) (c .until .result) (subst (AtOnce start (found .result)) same (found .ensures)) (c .until .ensures))
 
 returns-7 : tie.Need-returns-7
-returns-7 c = 
+returns-7 c =
     let start = c .before .before .before .before .before .before .before in
     let found = c .before .before .before .before .before .label-at-once in
     let same = c .before .before .before .node2 .given .1 in

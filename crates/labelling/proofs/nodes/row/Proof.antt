@@ -39,7 +39,7 @@ loop-less : tie.Need-loop-less Inv-loop μ-loop
 loop-less c = omega (arith, c .before .loop-test .taken)
 
 loop-again : tie.Need-loop-again Inv-loop μ-loop
-loop-again c = 
+loop-again c =
     let loop = c .before .before .loop in
     (loop .inv .0, (omega (arith, c .before .loop-test .taken), flags-on _ (loop .s) _ (c .before .loop-test .taken) refl (loop .inv .1 .1)))
 
