@@ -8,4 +8,5 @@ pub mod Numbers
 pub mod Polish
 pub mod Prepared
 pub mod Slots
+pub mod Table
 pub mod Widths

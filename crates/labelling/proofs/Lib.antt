@@ -3,3 +3,4 @@ pub mod Count
 pub mod Leads
 pub mod Satisfaction
 pub mod Verdict
+pub mod Laws
