@@ -7,6 +7,8 @@ pub mod Masks
 pub mod Numbers
 pub mod Polish
 pub mod Prepared
+pub mod Sets
 pub mod Slots
 pub mod Table
+pub mod Walks
 pub mod Widths

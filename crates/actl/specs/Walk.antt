@@ -22,6 +22,10 @@ kindOf f = slotOf f .kind
 abbrev pub kindsOf : Formula → List ℕ
 kindsOf f = map kindOf (nodes f)
 
+-- The kind of node k; 0 if there is none.
+abbrev pub kindAt : List ℕ → ℕ → ℕ
+kindAt kinds k = cond (leb (getD kinds k 0) 9) (getD kinds k 0) 0
+
 -- What a node is as an arm: its class, or 3 for the node T, which AX tells from other nodes of class 1.
 abbrev pub armOf : Formula → ℕ
 armOf f = cond (isT f) 3 (classOf f)
