@@ -10,5 +10,6 @@ pub mod Prepared
 pub mod Sets
 pub mod Slots
 pub mod Table
+pub mod Unique
 pub mod Walks
 pub mod Widths
