@@ -57,7 +57,7 @@ behind-formula (euThen a b f) n rest = ap (behind (kindsOf f ++ rest)) (one-more
 pub same-behind : (f g : Formula) {r s : List ℕ} → kindsOf f ++ r ≡ kindsOf g ++ s → r ≡ s
 same-behind f g {r} {s} e =
     let p : some r ≡ some s =
-      sym (behind-formula f 0 r ∙ behind-none r) ∙ (ap (λ l. behind l 1) e ∙ (behind-formula g 0 s ∙ behind-none s)) in
+    sym (behind-formula f 0 r ∙ behind-none r) ∙ (ap (λ l. behind l 1) e ∙ (behind-formula g 0 s ∙ behind-none s)) in
     cc
 
 -- The kind of a formula's root, and its arms.
@@ -106,6 +106,9 @@ both-arms (euThen a b f) e = absurd (omega arith)
 module _ (K : List ℕ) (k : ℕ) where
   pub spelled-inside : (f : Formula) → Spelled K k f → k < length K
   spelled-inside f (rest, e) = omega (arith, simp (length-drop, length-append) at (ap length e), length-kinds f, size-pos f)
+
+  pub spelled-fits : (f : Formula) → Spelled K k f → k + size f ≤ length K
+  spelled-fits f (rest, e) = omega (arith, simp (length-drop, length-append) at (ap length e), length-kinds f, size-pos f)
 
   pub spelled-kind : (f : Formula) → Spelled K k f → getD K k 0 ≡ kindOf f
   spelled-kind f (rest, e) =

@@ -6,8 +6,10 @@ use mathlib.Core.Option.{Option, none, some}
 use Prim.Native.Nat.{ℕ, zero, suc, _+_, _*_, _≤_, _<_}
 use native.Mathlib.Numerals.{add-one}
 use native.Mathlib.Omega.{arith}
+use native.Mathlib.Decide.{decLt, decLe}
 use lib.Dec.{leb}
-use lib.ListN.{length, getD, drop, set, length-map, length-append}
+use lib.ListN.{length, getD, drop, set, length-map, length-append, List·getD-eq-default}
+use borrow.Author.Tests.{le-leb, lt-leb}
 use lib.Seq.{sets, drop-cons, drop-append-seam, drop-drop}
 use Rattle.lts.proofs.Lists.{map-append}
 use Rattle.actl.specs.Actions.{Mask, Cond, silent, labels}
@@ -91,7 +93,7 @@ module _ (K E C : List ℕ) (k : ℕ) (h : k < length K) where
           as-arm = class ∙ sym (u .arm-of f);
           ends-noted = (λ i. set (arm .ends-noted i) k (b i)) ∙ (set-before E k (k + 1 + size f) (endsFrom (k + 1) f) ∙ ap (sets E k) (sym (u .ends-of k f)));
           classes-noted = (λ i. set (arm .classes-noted i) k (class i))
-            ∙ (set-before C k (classOf (node f)) (classesOf f) ∙ ap (λ l. sets C k (map classOf l)) (sym (u .nodes-of f)));
+              ∙ (set-before C k (classOf (node f)) (classesOf f) ∙ ap (λ l. sets C k (map classOf l)) (sym (u .nodes-of f)));
         }
 
     pub found-or : {E2 C2 : List ℕ} {end right : ℕ} → getD K k 0 ≡ 3 → Found K E1 E2 C1 C2 middle end right
@@ -107,20 +109,50 @@ module _ (K E C : List ℕ) (k : ℕ) (h : k < length K) where
         let behindLeft : drop middle K ≡ r = ap (λ x. drop x K) (m ∙ ap (λ x. k + 1 + x) (sym (length-kinds f))) ∙ drop-part (k + 1) K (kindsOf f) d in
         let class : classOfOr (classOfArm left) (classOfArm right) ≡ classOf (or f g) = (λ i. classOfOr (classOfArm (arm .as-arm i)) (classOfArm (other .as-arm i))) ∙ class-of-or f g in
         let both : sets (sets E (k + 1) (endsFrom (k + 1) f)) (k + 1 + size f) (endsFrom (k + 1 + size f) g) ≡ sets E (k + 1) (endsFrom (k + 1) f ++ endsFrom (k + 1 + size f) g) =
-          ap (λ x. sets (sets E (k + 1) (endsFrom (k + 1) f)) (k + 1 + x) (endsFrom (k + 1 + size f) g)) (sym (length-ends (k + 1) f))
-          ∙ sets-append E (k + 1) (endsFrom (k + 1) f) (endsFrom (k + 1 + size f) g) in
+        ap (λ x. sets (sets E (k + 1) (endsFrom (k + 1) f)) (k + 1 + x) (endsFrom (k + 1 + size f) g)) (sym (length-ends (k + 1) f))
+        ∙ sets-append E (k + 1) (endsFrom (k + 1) f) (endsFrom (k + 1 + size f) g) in
         let bothClasses : sets (sets C (k + 1) (classesOf f)) (k + 1 + size f) (classesOf g) ≡ sets C (k + 1) (classesOf f ++ classesOf g) =
-          ap (λ x. sets (sets C (k + 1) (classesOf f)) (k + 1 + x) (classesOf g)) (sym (length-classes f))
-          ∙ sets-append C (k + 1) (classesOf f) (classesOf g) in
+        ap (λ x. sets (sets C (k + 1) (classesOf f)) (k + 1 + x) (classesOf g)) (sym (length-classes f))
+        ∙ sets-append C (k + 1) (classesOf f) (classesOf g) in
         let endsTwo : E2 ≡ sets E (k + 1) (endsFrom (k + 1) f ++ endsFrom (k + 1 + size f) g) = other .ends-noted ∙ ((λ i. sets (arm .ends-noted i) (m i) (endsFrom (m i) g)) ∙ both) in
         let classesTwo : C2 ≡ sets C (k + 1) (classesOf f ++ classesOf g) = other .classes-noted ∙ ((λ i. sets (arm .classes-noted i) (m i) (classesOf g)) ∙ bothClasses) in
         let last : end ≡ k + 1 + size f + size g = omega arith in
         record {
           formula = or f g;
-          spelled = (rest, kind-here K k h ∙ ((λ i. e i ∷ d i) ∙ ap (λ l. 3 ∷ l)
-            (ap (λ l. kindsOf f ++ l) (sym behindLeft ∙ a) ∙ (sym (append-assoc (kindsOf f) (kindsOf g) rest) ∙ ap (λ l. l ++ rest) (sym (map-append kindOf (nodes f) (nodes g)))))));
+          spelled = (
+            rest,
+            kind-here K k h ∙ ((λ i. e i ∷ d i) ∙ ap (λ l. 3 ∷ l)
+                (ap (λ l. kindsOf f ++ l) (sym behindLeft ∙ a) ∙ (sym (append-assoc (kindsOf f) (kindsOf g) rest) ∙ ap (λ l. l ++ rest) (sym (map-append kindOf (nodes f) (nodes g)))))),
+          );
           behind = omega arith;
           as-arm = class;
           ends-noted = (λ i. set (endsTwo i) k (last i)) ∙ set-before E k (k + 1 + size f + size g) (endsFrom (k + 1) f ++ endsFrom (k + 1 + size f) g);
           classes-noted = (λ i. set (classesTwo i) k (class i)) ∙ (set-before C k (classOf (or f g)) (classesOf f ++ classesOf g) ∙ ap (λ l. sets C k (classOf (or f g) ∷ l)) (sym (map-append classOf (nodes f) (nodes g))));
         }
+
+pub found-noted : {K E X E' C Y C' : List ℕ} {k end arm : ℕ} → E' ≡ X → C' ≡ Y → Found K E X C Y k end arm → Found K E E' C C' k end arm
+found-noted {K} {E} {X} {E'} {C} {Y} {C'} {k} {end} {arm} e d h =
+    subst (λ l. Found K E l C C' k end arm) (sym e) (subst (λ l. Found K E X C l k end arm) (sym d) h)
+
+-- What a kind that is known says.
+pub record Known (K : List ℕ) (k kind : ℕ) : Type 0 where
+  pub inside : k < length K
+  pub here : getD K k 0 ≡ kind
+  pub high : kind ≤ 9
+
+pub kind-outside : (K : List ℕ) (k : ℕ) → length K ≤ k → kindAt K k ≡ 0
+kind-outside K k h = ap (λ x. cond (leb x 9) x 0) (List·getD-eq-default K 0 h)
+
+pub kind-foreign : (K : List ℕ) (k : ℕ) → 9 < getD K k 0 → kindAt K k ≡ 0
+kind-foreign K k h = ap (λ t. cond t (getD K k 0) 0) (lt-leb (getD K k 0) 9 h)
+
+pub kind-known : (K : List ℕ) (k : ℕ) → getD K k 0 ≤ 9 → kindAt K k ≡ getD K k 0
+kind-known K k h = ap (λ t. cond t (getD K k 0) 0) (le-leb (getD K k 0) 9 h)
+
+pub known-kind : (K : List ℕ) (k kind : ℕ) → kind ≡ kindAt K k → (kind ≡ 0 → ⊥) → Known K k kind
+known-kind K k kind e n = case (decLt k (length K)) (decLe (getD K k 0) 9)
+  where
+    case : Dec (k < length K) → Dec (getD K k 0 ≤ 9) → Known K k kind
+    case (no a) b = absurd (n (e ∙ kind-outside K k (omega arith)))
+    case (yes a) (no b) = absurd (n (e ∙ kind-foreign K k (omega arith)))
+    case (yes a) (yes b) = let d : getD K k 0 ≡ kind = sym (e ∙ kind-known K k b) in record { inside = a; here = d; high = omega arith }
