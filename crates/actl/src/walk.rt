@@ -3,9 +3,9 @@ use crate::node::node_count;
 ghost use mathlib.Core.Path.{_≡_};
 ghost use mathlib.Core.List.{map};
 ghost use Prim.Native.Nat.{ℕ, _+_, _*_, _<_, _≤_};
-ghost use lib.ListN.{length, getD, set};
+ghost use lib.ListN.{length, getD, set, take};
 ghost use Rattle.actl.specs.Formulas.{Formula, classOfOr, highestWithoutClass};
-ghost use Rattle.actl.specs.Walk.{classFrom, classOfArm, kindAt, Walks, kindsOf, classlessNode, IsShape};
+ghost use Rattle.actl.specs.Walk.{classFrom, classOfArm, kindAt, kindsIn, Walks, kindsOf, classlessNode, IsShape};
 
 // 01: "The class of a node follows from this table": four for each kind, by the arm's class, the last for the node T. Zero is no class.
 const CLASSES: [u8; 40] = [
@@ -137,4 +137,42 @@ fn walk(kinds: &[u8], k: usize, ends: &mut [u8], classes: &mut [u8]) -> Walked
     let class = class_of_or(left, right);
     note(ends, classes, k, end, class);
     Walked::Node(end, class)
+}
+
+// The kinds of a prepared formula's first nodes.
+fn kinds_in(formula: &[u8], count: usize) -> [u8; 40]
+    requires { ⌜ (681 ≤ length (now formula)) × (count ≤ 40) ⌝ }
+    ensures { λ r. ⌜ take count r ≡ kindsIn (now (formula .entry)) count ⌝ }
+{
+    let mut kinds = [0u8; 40];
+    let mut k = 0;
+    while k < count {
+        kinds[k] = formula[1 + k * 17];
+        k += 1;
+    }
+    kinds
+}
+
+// Where the arms of each node of a prepared formula end, and each node's class.
+pub fn shape_of(formula: &[u8]) -> Shape
+    requires { ⌜ 681 ≤ length (now formula) ⌝ }
+    ensures { λ r. ⌜ IsShape r (now (formula .entry)) ⌝ }
+{
+    let count = node_count(formula);
+    let mut ends = [0u8; 40];
+    let mut classes = [0u8; 40];
+    if 40 < count {
+        return Shape {
+            count: count,
+            ends: ends,
+            classes: classes,
+        };
+    }
+    let kinds = kinds_in(formula, count);
+    walk(&kinds[..count], 0, &mut ends, &mut classes);
+    Shape {
+        count: count,
+        ends: ends,
+        classes: classes,
+    }
 }
