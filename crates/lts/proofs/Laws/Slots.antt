@@ -1,0 +1,2 @@
+-- Laws of slots.
+use Rattle.lts.specs.Lines.{written}
