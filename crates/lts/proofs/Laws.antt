@@ -1,4 +1,7 @@
 -- Laws that several proofs cite.
+pub mod Compare
 pub mod NameRuns
 pub mod Lines
+pub mod Layout
+pub mod LabelLayout
 pub mod Slots

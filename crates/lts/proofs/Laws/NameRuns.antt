@@ -1,5 +1,6 @@
 -- Laws of the bytes of a name at the start of a text.
 use mathlib.Core.Path.{_≡_, refl, sym, ap, ap₂, _∙_, subst}
+use mathlib.Core.Logic.{_⊎_, inl, inr}
 use mathlib.Core.Bool.{Bool, true, false, cond, true≢false, false≢true, _&&_, _||_}
 use mathlib.Core.List.{List, [], _∷_, _++_}
 use Prim.Native.Nat.{ℕ, zero, suc, _+_, _-_, _<_, _≤_}
@@ -77,8 +78,69 @@ module _ (s : List ℕ) (at : ℕ) where
           left = omega (arith, r .left);
         }
 
--- A name byte is no LF and no blank.
-pub lower-high : (b : ℕ) → isLower b ≡ true → 97 ≤ b
-lower-high b e = leb-true 97 b (and-true-of (leb 97 b) (leb b 122) e .0)
+-- The bytes of a name are above LF and blank.
+lower-high : (b : ℕ) → isLower b ≡ true → 48 ≤ b
+lower-high b e = omega (arith, leb-true 97 b (and-true-of (leb 97 b) (leb b 122) e .0))
 
--- A name, and an LF behind it: the run ends with the name.
+name-byte-high : (b : ℕ) → isNameByte b ≡ true → 48 ≤ b
+name-byte-high b e = step (or-true-of (isLower b) (eqb b 95 || (leb 48 b && leb b 57)) e)
+  where
+    rest : (eqb b 95 ≡ true) ⊎ ((leb 48 b && leb b 57) ≡ true) → 48 ≤ b
+    rest (inl d) = omega (arith, eqb-true b 95 d)
+    rest (inr d) = leb-true 48 b (and-true-of (leb 48 b) (leb b 57) d .0)
+
+    step : (isLower b ≡ true) ⊎ ((eqb b 95 || (leb 48 b && leb b 57)) ≡ true) → 48 ≤ b
+    step (inl d) = lower-high b d
+    step (inr d) = rest (or-true-of (eqb b 95) (leb 48 b && leb b 57) d)
+
+abbrev pub High : ℕ → Type 0
+High b = 48 ≤ b
+
+at-most-high : (n : ℕ) (l : List ℕ) → atMost n l ≡ true → Each High l
+at-most-high n [] e = tt
+at-most-high zero (b ∷ l) e = absurd (false≢true e)
+at-most-high (suc n) (b ∷ l) e = let d = and-true-of (isNameByte b) (atMost n l) e in (name-byte-high b (d .0), at-most-high n l (d .1))
+
+pub name-high : (l : List ℕ) → isName l ≡ true → Each High l
+name-high [] e = tt
+name-high (b ∷ l) e = let d = and-true-of (isLower b) (atMost 11 l) e in (lower-high b (d .0), at-most-high 11 l (d .1))
+
+at-most-length : (n : ℕ) (l : List ℕ) → atMost n l ≡ true → length l ≤ n
+at-most-length n [] e = omega arith
+at-most-length zero (b ∷ l) e = absurd (false≢true e)
+at-most-length (suc n) (b ∷ l) e = let d = at-most-length n l (and-true-of (isNameByte b) (atMost n l) e .1) in omega arith
+
+pub name-short : (l : List ℕ) → isName l ≡ true → (0 < length l) × (length l ≤ 12)
+name-short [] e = absurd (false≢true e)
+name-short (b ∷ l) e = let d = at-most-length 11 l (and-true-of (isLower b) (atMost 11 l) e .1) in (omega arith, omega arith)
+
+-- A run of name bytes is a name.
+run-at-most : (n : ℕ) (s : List ℕ) → (nameRun n s ≤ length s) × (atMost n (take (nameRun n s) s) ≡ true)
+run-at-most zero s = (omega arith, refl)
+run-at-most (suc n) [] = (omega arith, refl)
+run-at-most (suc n) (b ∷ s) = step (isNameByte b) refl (run-at-most n s)
+  where
+    step : (t : Bool) → isNameByte b ≡ t → (nameRun n s ≤ length s) × (atMost n (take (nameRun n s) s) ≡ true)
+        → (cond t (suc (nameRun n s)) 0 ≤ suc (length s)) × (atMost (suc n) (take (cond t (suc (nameRun n s)) 0) (b ∷ s)) ≡ true)
+    step true e h = (omega arith, rw e (h .1))
+    step false e h = (omega arith, refl)
+
+pub run-is-name : (s : List ℕ) → 0 < nameLength s → (nameLength s ≤ length s) × (isName (take (nameLength s) s) ≡ true)
+run-is-name [] h = absurd (omega arith)
+run-is-name (b ∷ s) h = step (isLower b) refl h (run-at-most 11 s)
+  where
+    step : (t : Bool) → isLower b ≡ t → 0 < cond t (suc (nameRun 11 s)) 0 → (nameRun 11 s ≤ length s) × (atMost 11 (take (nameRun 11 s) s) ≡ true)
+        → (cond t (suc (nameRun 11 s)) 0 ≤ suc (length s)) × (isName (take (cond t (suc (nameRun 11 s)) 0) (b ∷ s)) ≡ true)
+    step true e k h = (omega arith, rw e (h .1))
+    step false e k h = absurd (omega arith)
+
+-- A name with an LF behind it is a run.
+at-most-run : (n : ℕ) (l rest : List ℕ) → atMost n l ≡ true → nameRun n (l ++ (10 ∷ rest)) ≡ length l
+at-most-run zero [] rest e = refl
+at-most-run (suc n) [] rest e = refl
+at-most-run zero (b ∷ l) rest e = absurd (false≢true e)
+at-most-run (suc n) (b ∷ l) rest e = let d = and-true-of (isNameByte b) (atMost n l) e in rw (d .0) (ap suc (at-most-run n l rest (d .1)))
+
+pub name-is-run : (l rest : List ℕ) → isName l ≡ true → nameLength (l ++ (10 ∷ rest)) ≡ length l
+name-is-run [] rest e = absurd (false≢true e)
+name-is-run (b ∷ l) rest e = let d = and-true-of (isLower b) (atMost 11 l) e in rw (d .0) (ap suc (at-most-run 11 l rest (d .1)))

@@ -1,3 +1,8 @@
+-- `name_used` answers `used`: the invariant is `UsedFrom`, the slots that are left.
+use mathlib.Core.Path.{_≡_, refl, sym, ap, _∙_, subst}
+use Prim.Native.Nat.{_-_}
+use native.Mathlib.Omega.{arith}
+use Rattle.lts.proofs.Laws.Slots.{UsedFrom, used-starts, used-found, used-goes-on, used-ends}
 use Rattle.lts.proofs.reading.name_used.Statement.{statement}
 use Rattle.lts.proofs.reading.name_used.Tie as tie
 use Rattle.lts.proofs.reading.name_used.Reads as reads
@@ -5,38 +10,31 @@ use Rattle.lts.proofs.reading.name_used.Lts as lts
 use Rattle.lts.proofs.reading.holds_name.Reads as holds-name-reads
 
 abbrev Inv-loop : tie.InvT-loop
-Inv-loop names count name k₀ k = ?
+Inv-loop names count name k₀ k = UsedFrom names count name k
 
 abbrev μ-loop : tie.MeasureT-loop
-μ-loop names count name k₀ k = ?
+μ-loop names count name k₀ k = count - k
 
--- src/reading.rt:134:5
 loop-holds : tie.Need-loop-holds Inv-loop μ-loop
-loop-holds c = ?
+loop-holds c = used-starts (c .before .before .args .names .now) (c .before .before .args .count) (c .before .before .args .name .now)
 
--- src/reading.rt:135:12
 holds-name-requires : tie.Need-holds-name-requires Inv-loop μ-loop
-holds-name-requires c κs = ?
+holds-name-requires c κs = omega arith
 
--- src/reading.rt:136:13
 returns : tie.Need-returns Inv-loop μ-loop
-returns c = ?
+returns c = let a = c .before .before .before .before .before .before .args in used-found (a .names .now) (a .count) (a .name .now) (c .before .before .before .loop .k) (c .before .before .before .loop .inv) (c .before .before .loop-test .taken) (sym (c .before .holds-name .ensures) ∙ c .if1 .taken)
 
--- src/reading.rt:138:9
 add-k : tie.Need-add-k Inv-loop μ-loop
-add-k c = ?
+add-k c = omega arith
 
--- src/reading.rt:134:5
 loop-less : tie.Need-loop-less Inv-loop μ-loop
-loop-less c = ?
+loop-less c = omega arith
 
--- src/reading.rt:134:5
 loop-again : tie.Need-loop-again Inv-loop μ-loop
-loop-again c = ?
+loop-again c = let a = c .before .before .before .before .before .before .args in used-goes-on (a .names .now) (a .count) (a .name .now) (c .before .before .before .loop .k) (c .before .before .before .loop .inv) (c .before .before .loop-test .taken) (sym (c .before .holds-name .ensures) ∙ c .if1 .left)
 
--- src/reading.rt:129:1
 returns-2 : tie.Need-returns-2 Inv-loop μ-loop
-returns-2 c = ?
+returns-2 c = let a = c .before .before .before .before .args in used-ends (a .names .now) (a .count) (a .name .now) (c .before .loop .k) (c .before .loop .inv) (c .loop-test .left)
 
 pub name-used-spec : {M : Type 1} → statement M
 name-used-spec =

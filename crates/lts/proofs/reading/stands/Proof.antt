@@ -5,7 +5,7 @@ use mathlib.Core.Path.{_≡_, refl, sym, ap, _∙_, subst}
 use lib.Dec.{eqb}
 use lib.ListN.{getD, List·getD-eq-default}
 use native.Mathlib.Omega.{arith}
-use Rattle.lts.proofs.Laws.Lines.{getD-any}
+use Rattle.lts.proofs.Laws.Compare.{getD-any}
 use Rattle.lts.proofs.reading.stands.Statement.{statement}
 use Rattle.lts.proofs.reading.stands.Tie as tie
 use Rattle.lts.proofs.reading.stands.Reads as reads
@@ -23,7 +23,7 @@ shared-slice-read-result c = search needs
 returns-2 : tie.Need-returns-2
 returns-2 c =
     let a = c .before .before .args in
-    ap (λ b. eqb b (a .byte)) (getD-any (a .text .now) (a .at) (omega arith))
+    ap (λ b. eqb b (a .byte)) (getD-any 0 256 (a .text .now) (a .at) (omega arith))
 
 pub stands-spec : {M : Type 1} → statement M
 stands-spec = tie.close (tie.spec returns shared-slice-read-result returns-2)

@@ -1,4 +1,10 @@
+-- `transition_line` says what line of a transition stands at a place, or that none does.
 use borrow.Author.Needs.{needs}
+use mathlib.Core.Path.{_≡_, refl, sym, ap, _∙_, subst}
+use borrow.Author.Tests.{eqb-true, eqb-false, not-true, not-false}
+use Prim.Native.Nat.{_+_}
+use Rattle.lts.proofs.Laws.Layout.{transition-lies, no-transition}
+use Rattle.columns.proofs.Laws.Columns.{column-found, column-lacking}
 use Rattle.lts.proofs.reading.transition_line.Statement.{statement}
 use Rattle.lts.proofs.reading.transition_line.Tie as tie
 use Rattle.lts.proofs.reading.transition_line.Reads as reads
@@ -6,77 +12,79 @@ use Rattle.lts.proofs.reading.transition_line.Lts as lts
 use Rattle.columns.proofs.read_column.Reads as read-column-reads
 use Rattle.lts.proofs.reading.stands.Reads as stands-reads
 
--- src/reading.rt:221:32
 read-column-requires : tie.Need-read-column-requires
 read-column-requires c κs = search needs
 
--- src/reading.rt:221:24
 enum-known-from : tie.Need-enum-known-from
 enum-known-from c = search needs
 
--- src/reading.rt:222:9
 enum-told : tie.Need-enum-told
 enum-told c = search needs
 
--- src/reading.rt:222:9
 returns : tie.Need-returns
-returns c = ?
+returns c =
+    let s = c .before .before .before .before .args .text .now in
+    let at = c .before .before .before .before .args .at in
+    no-transition s at (λ x y z p q r e. column-lacking s at x (sym (c .before .before .read-column .ensures) ∙ c .enum-told .given .1) p)
 
--- src/reading.rt:224:60
 add-read-column : tie.Need-add-read-column
 add-read-column c = search needs
 
--- src/reading.rt:224:33
 read-column-requires-2 : tie.Need-read-column-requires-2
 read-column-requires-2 c κs = search needs
 
--- src/reading.rt:224:24
 enum-known-label : tie.Need-enum-known-label
 enum-known-label c = search needs
 
--- src/reading.rt:225:9
 enum-told-2 : tie.Need-enum-told-2
 enum-told-2 c = search needs
 
--- src/reading.rt:225:9
 returns-2 : tie.Need-returns-2
-returns-2 c = ?
+returns-2 c =
+    let s = c .before .before .before .before .before .before .before .before .args .text .now in
+    let at = c .before .before .before .before .before .before .before .before .args .at in
+    no-transition s at (λ x y z p q r e. column-lacking s (at + 6) y (sym (c .before .before .read-column2 .ensures) ∙ c .enum-told2 .given .1) q)
 
--- src/reading.rt:227:57
 add-read-column-2 : tie.Need-add-read-column-2
 add-read-column-2 c = search needs
 
--- src/reading.rt:227:30
 read-column-requires-3 : tie.Need-read-column-requires-3
 read-column-requires-3 c κs = search needs
 
--- src/reading.rt:227:24
 enum-known-to : tie.Need-enum-known-to
 enum-known-to c = search needs
 
--- src/reading.rt:228:9
 enum-told-3 : tie.Need-enum-told-3
 enum-told-3 c = search needs
 
--- src/reading.rt:228:9
 returns-3 : tie.Need-returns-3
-returns-3 c = ?
+returns-3 c =
+    let s = c .before .before .before .before .before .before .before .before .before .before .before .before .args .text .now in
+    let at = c .before .before .before .before .before .before .before .before .before .before .before .before .args .at in
+    no-transition s at (λ x y z p q r e. column-lacking s (at + 12) z (sym (c .before .before .read-column3 .ensures) ∙ c .enum-told3 .given .1) r)
 
--- src/reading.rt:230:21
 add-stands : tie.Need-add-stands
 add-stands c = search needs
 
--- src/reading.rt:230:8
 stands-requires : tie.Need-stands-requires
 stands-requires c κs = search needs
 
--- src/reading.rt:217:1
 returns-4 : tie.Need-returns-4
-returns-4 c = ?
+returns-4 c =
+    let s = c .before .before .before .before .before .before .before .before .before .before .before .before .before .before .before .args .text .now in
+    let at = c .before .before .before .before .before .before .before .before .before .before .before .before .before .before .before .args .at in
+    transition-lies s at
+    (record { from = c .before .before .before .before .before .before .before .before .before .before .before .from .given .0 .0; label = c .before .before .before .before .before .before .before .label .given .0 .0; to = c .before .before .before .to .given .0 .0 })
+    (column-found s (at) (c .before .before .before .before .before .before .before .before .before .before .before .from .given .0 .0) (sym (c .before .before .before .before .before .before .before .before .before .before .before .before .before .read-column .ensures) ∙ c .before .before .before .before .before .before .before .before .before .before .before .from .given .1))
+    (column-found s (at + 6) (c .before .before .before .before .before .before .before .label .given .0 .0) (sym (c .before .before .before .before .before .before .before .before .before .read-column2 .ensures) ∙ c .before .before .before .before .before .before .before .label .given .1))
+    (column-found s (at + 12) (c .before .before .before .to .given .0 .0) (sym (c .before .before .before .before .before .read-column3 .ensures) ∙ c .before .before .before .to .given .1))
+    (eqb-true _ _ (sym (c .before .stands .ensures) ∙ c .if1 .taken))
 
--- src/reading.rt:217:1
 returns-5 : tie.Need-returns-5
-returns-5 c = ?
+returns-5 c =
+    let s = c .before .before .before .before .before .before .before .before .before .before .before .before .before .before .before .args .text .now in
+    let at = c .before .before .before .before .before .before .before .before .before .before .before .before .before .before .before .args .at in
+    no-transition s at (λ x y z p q r e. eqb-false _ _ (sym (c .before .stands .ensures) ∙ c .if1 .left) e)
 
 pub transition-line-spec : {M : Type 1} → statement M
 transition-line-spec =

@@ -1,37 +1,38 @@
+-- `write_name` leaves a name with its length `written`.
 use borrow.Author.Needs.{needs}
+use mathlib.Core.Path.{_≡_, refl, sym, ap, _∙_, subst}
+use Prim.Native.Nat.{_+_, _*_}
+use lib.ListN.{length-set}
+use native.Mathlib.Omega.{arith}
+use Rattle.lts.proofs.Laws.Slots.{written-more}
 use Rattle.lts.proofs.reading.write_name.Statement.{statement}
 use Rattle.lts.proofs.reading.write_name.Tie as tie
 use Rattle.lts.proofs.reading.write_name.Reads as reads
 use Rattle.lts.proofs.reading.write_name.Lts as lts
 use Rattle.lts.proofs.reading.write_at.Reads as write-at-reads
 
--- src/reading.rt:320:13
 mul-i : tie.Need-mul-i
 mul-i c = search needs
 
--- src/reading.rt:321:16
 cast-names : tie.Need-cast-names
 cast-names c = search needs
 
--- src/reading.rt:321:5
 slice-write-names : tie.Need-slice-write-names
 slice-write-names c = search needs
 
--- src/reading.rt:322:21
 add-write-at : tie.Need-add-write-at
 add-write-at c = search needs
 
--- src/reading.rt:322:5
 write-at-requires : tie.Need-write-at-requires
-write-at-requires c κs = ?
+write-at-requires c κs = simp length-set (omega arith)
 
--- src/reading.rt:316:1
 same-length : tie.Need-same-length
-same-length c = ?
+same-length c = search needs
 
--- src/reading.rt:316:1
 returns : tie.Need-returns
-returns c = ?
+returns c =
+    let a = c .before .before .before .before .before .before in
+    c .before .before .write-at .ensures ∙ written-more (a .args .names .now) (a .args .count * 16) _ (a .args .name .now) (omega arith)
 
 pub write-name-spec : {M : Type 1} → statement M
 write-name-spec =
