@@ -2,8 +2,10 @@
 use borrow.Author.Needs.{needs}
 use mathlib.Core.Path.{_≡_, refl, sym, ap, _∙_, subst}
 use borrow.Author.Tests.{eqb-true, eqb-false, not-true, not-false}
-use Prim.Native.Nat.{_+_, _*_}
 use native.Mathlib.Omega.{arith}
+use Prim.Native.Nat.{_+_, _-_, _*_}
+use lib.ListN.{getD, take, drop}
+use Rattle.columns.specs.Bytes.{sameBytes}
 use Rattle.lts.proofs.Laws.Slots.{stored-differs}
 use Rattle.lts.proofs.reading.holds_name.Statement.{statement}
 use Rattle.lts.proofs.reading.holds_name.Tie as tie
@@ -47,7 +49,11 @@ same-bytes-requires : tie.Need-same-bytes-requires
 same-bytes-requires c κs = search needs
 
 returns-2 : tie.Need-returns-2
-returns-2 c = search needs
+returns-2 c =
+    let a = c .before .before .before .before .before .before .args in
+    let n = getD (a .names .now) (a .k * 16) 0 in
+    let long : a .k * 16 + 1 + n - (a .k * 16 + 1) ≡ n = omega arith in
+    c .same-bytes .ensures ∙ ap (λ m. sameBytes (take m (drop (a .k * 16 + 1) (a .names .now))) (a .name .now)) long
 
 pub holds-name-spec : {M : Type 1} → statement M
 holds-name-spec =

@@ -27,7 +27,7 @@ write-at-requires : tie.Need-write-at-requires
 write-at-requires c κs = simp length-set (omega arith)
 
 same-length : tie.Need-same-length
-same-length c = search needs
+same-length c = c .before .before .write-at .kept .0 ∙ simp length-set
 
 returns : tie.Need-returns
 returns c =
