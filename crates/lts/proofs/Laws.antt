@@ -5,3 +5,5 @@ pub mod Lines
 pub mod Layout
 pub mod LabelLayout
 pub mod Slots
+pub mod SlotBytes
+pub mod Turns

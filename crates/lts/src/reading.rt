@@ -1,7 +1,6 @@
 // Reading a table's text, line by line. Names and transitions are gathered in local bytes, laid out as in the prepared table, so that
 // the lent bytes are written only when the whole text is accepted.
 ghost use mathlib.Core.Path.{_≡_};
-ghost use mathlib.Core.Bool.{true};
 ghost use Prim.Native.Nat.{ℕ, _+_, _*_, _<_, _≤_};
 ghost use lib.Dec.{eqb};
 ghost use lib.ListN.{length, getD, drop, replicate};
@@ -10,7 +9,9 @@ ghost use Rattle.lts.specs.Names.{isLower, isNameByte};
 ghost use Rattle.lts.specs.Reading.{headerInRange, stepInRange, stepBelow, used};
 ghost use Rattle.lts.specs.Prepared.{transitionSlot};
 ghost use Rattle.lts.specs.Replies.{tableReply, tableReplied, tableLeft};
-ghost use Rattle.lts.specs.Lines.{written, nameLength, storedNames, risesAfter, header, step, HeaderSays, LabelSays, TransitionSays, headBytes};
+ghost use Rattle.lts.specs.Lines.{written, nameLength, storedNames, risesAfter, header, step, HeaderSays, LabelSays, TransitionSays, LabelTurn, LabelsRead, TransitionTurn, TransitionsRead, headBytes, storedName, counted};
+ghost use Rattle.lts.specs.Reply.{overwritten};
+ghost use mathlib.Core.List.{_++_};
 
 use columns::Column;
 use crate::TableReply;
@@ -142,7 +143,7 @@ fn name_used(names: &[u8], count: usize, name: &[u8]) -> bool
 
 fn holds_name(names: &[u8], k: usize, name: &[u8]) -> bool
     requires { ⌜ (length (now names) ≡ 640) × ((k < 40) × (length (now name) ≤ 12)) ⌝ }
-    ensures { λ r. ⌜ r ≡ sameBytes (Rattle.lts.specs.Lines.storedName (now (names .entry)) k) (now (name .entry)) ⌝ }
+    ensures { λ r. ⌜ r ≡ sameBytes (storedName (now (names .entry)) k) (now (name .entry)) ⌝ }
 {
     let n = names[k * 16] as usize;
     if n != name.len() {
@@ -315,9 +316,140 @@ fn write_transition(slots: &mut [u8], count: usize, t: Transition)
 
 fn write_name(names: &mut [u8], count: usize, name: &[u8])
     requires { ⌜ (count * 16 + 16 ≤ length (now names)) × (length (now name) ≤ 12) ⌝ }
-    ensures { λ _. ⌜ now (names .exit) ≡ written (now (names .entry)) (count * 16) (Rattle.lts.specs.Lines.counted (now (name .entry))) ⌝ }
+    ensures { λ _. ⌜ now (names .exit) ≡ written (now (names .entry)) (count * 16) (counted (now (name .entry))) ⌝ }
 {
     let i = count * 16;
     names[i] = name.len() as u8;
     write_at(names, i + 1, name);
+}
+
+// The line of the label after `count` names.
+fn read_label(text: &[u8], at: usize, names: &mut [u8], count: usize) -> Turn
+    requires { ⌜ (at ≤ length (now text)) × ((length (now names) ≡ 640) × (count < 40)) ⌝ }
+    ensures { λ r. ⌜ LabelTurn (now (text .entry)) at count (now (names .entry)) (now (names .exit)) r ⌝ }
+{
+    let line = count + 2;
+    let LabelLine::Label(number, end) = label_line(text, at) else {
+        return Turn::Refused(TableReply::NotLaidOut(line));
+    };
+    if number != count + 1 {
+        return Turn::Refused(TableReply::OutOfRange(line));
+    }
+    let from = at + 7;
+    if name_used(names, count, &text[from..end]) {
+        return Turn::Refused(TableReply::NameRepeated(line));
+    }
+    write_name(names, count, &text[from..end]);
+    Turn::Next(end + 1)
+}
+
+// The lines of all labels, from `from`.
+fn read_labels(text: &[u8], from: usize, counts: Counts, names: &mut [u8]) -> Turn
+    requires { ⌜ (from ≤ length (now text)) × ((now names ≡ replicate 640 0) × (counts .labels ≤ 40)) ⌝ }
+    ensures { λ r. ⌜ LabelsRead (header counts) (now (text .entry)) from (now (names .exit)) r ⌝ }
+{
+    let labels = counts.labels;
+    let mut at = from;
+    let mut count: usize = 0;
+    while count < labels {
+        let turn = read_label(text, at, names, count);
+        let Turn::Next(to) = turn else {
+            return turn;
+        };
+        at = to;
+        count += 1;
+    }
+    Turn::Next(at)
+}
+
+// The line of the transition after `count` others.
+fn read_transition(text: &[u8], at: usize, counts: Counts, slots: &mut [u8], count: usize) -> Turn
+    requires { ⌜ (at ≤ length (now text)) × ((length (now slots) ≡ 3072) × (count < 1024)) ⌝ }
+    requires { ⌜ (counts .states ≤ 256) × (counts .labels ≤ 40) ⌝ }
+    ensures { λ r. ⌜ TransitionTurn (header counts) (now (text .entry)) at count (now (slots .entry)) (now (slots .exit)) r ⌝ }
+{
+    let line = counts.labels + count + 2;
+    let TransitionLine::Row(t) = transition_line(text, at) else {
+        return Turn::Refused(TableReply::NotLaidOut(line));
+    };
+    if !transition_in_range(counts, t) {
+        return Turn::Refused(TableReply::OutOfRange(line));
+    }
+    if !rises(slots, count, t) {
+        return Turn::Refused(TableReply::NotRising(line));
+    }
+    write_transition(slots, count, t);
+    Turn::Next(at + 19)
+}
+
+// The lines of all transitions, from `from`, and the end of the text.
+fn read_transitions(text: &[u8], from: usize, counts: Counts, slots: &mut [u8]) -> Turn
+    requires { ⌜ (from ≤ length (now text)) × (now slots ≡ replicate 3072 0) ⌝ }
+    requires { ⌜ (counts .states ≤ 256) × ((counts .labels ≤ 40) × (counts .transitions ≤ 1024)) ⌝ }
+    ensures { λ r. ⌜ TransitionsRead (header counts) (now (text .entry)) from (now (slots .exit)) r ⌝ }
+{
+    let transitions = counts.transitions;
+    let mut at = from;
+    let mut count: usize = 0;
+    while count < transitions {
+        let turn = read_transition(text, at, counts, slots, count);
+        let Turn::Next(to) = turn else {
+            return turn;
+        };
+        at = to;
+        count += 1;
+    }
+    if at < text.len() {
+        return Turn::Refused(TableReply::NotLaidOut(counts.labels + count + 2));
+    }
+    Turn::Next(at)
+}
+
+fn write_table(table: &mut [u8], counts: Counts, names: &[u8], slots: &[u8])
+    requires { ⌜ (3718 ≤ length (now table)) × ((length (now names) ≡ 640) × (length (now slots) ≡ 3072)) ⌝ }
+    requires { ⌜ (counts .states ≤ 256) × ((counts .labels ≤ 40) × ((counts .transitions ≤ 1024) × (counts .start < 256))) ⌝ }
+    ensures { λ _. ⌜ now (table .exit) ≡ overwritten (headBytes (header counts) ++ (now (names .entry) ++ now (slots .entry))) (now (table .entry)) ⌝ }
+{
+    let mut head = [0u8; 6];
+    head[0] = (counts.states % 256) as u8;
+    head[1] = (counts.states / 256 % 256) as u8;
+    head[2] = counts.labels as u8;
+    head[3] = (counts.transitions % 256) as u8;
+    head[4] = (counts.transitions / 256 % 256) as u8;
+    head[5] = counts.start as u8;
+    write_at(table, 0, &head);
+    write_at(table, 6, names);
+    write_at(table, 646, slots);
+}
+
+// Reads a table's text into the prepared bytes.
+pub fn read_table(text: &[u8], table: &mut [u8]) -> TableReply
+    ensures { λ r. ⌜ tableReply r ≡ tableReplied (now (text .entry)) (now (table .entry)) ⌝ }
+    ensures { λ _. ⌜ now (table .exit) ≡ tableLeft (now (text .entry)) (now (table .entry)) ⌝ }
+{
+    if table.len() < 3718 {
+        return TableReply::BufferShort(3718);
+    }
+    let HeaderLine::Header(counts) = header_line(text) else {
+        return TableReply::NotLaidOut(1);
+    };
+    if !header_in_range(counts) {
+        return TableReply::OutOfRange(1);
+    }
+    let mut names = [0u8; 640];
+    let labels_read = read_labels(text, 25, counts, &mut names);
+    match labels_read {
+        Turn::Refused(reply) => reply,
+        Turn::Next(at) => {
+            let mut slots = [0u8; 3072];
+            let transitions_read = read_transitions(text, at, counts, &mut slots);
+            match transitions_read {
+                Turn::Refused(reply) => reply,
+                Turn::Next(_) => {
+                    write_table(table, counts, &names, &slots);
+                    TableReply::Accepted
+                }
+            }
+        }
+    }
 }
