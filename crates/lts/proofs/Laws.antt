@@ -7,3 +7,4 @@ pub mod LabelLayout
 pub mod Slots
 pub mod SlotBytes
 pub mod Turns
+pub mod Readings

@@ -348,10 +348,9 @@ fn read_labels(text: &[u8], from: usize, counts: Counts, names: &mut [u8]) -> Tu
     requires { ⌜ (from ≤ length (now text)) × ((now names ≡ replicate 640 0) × (counts .labels ≤ 40)) ⌝ }
     ensures { λ r. ⌜ LabelsRead (header counts) (now (text .entry)) from (now (names .exit)) r ⌝ }
 {
-    let labels = counts.labels;
     let mut at = from;
     let mut count: usize = 0;
-    while count < labels {
+    while count < counts.labels {
         let turn = read_label(text, at, names, count);
         let Turn::Next(to) = turn else {
             return turn;
@@ -388,10 +387,9 @@ fn read_transitions(text: &[u8], from: usize, counts: Counts, slots: &mut [u8]) 
     requires { ⌜ (counts .states ≤ 256) × ((counts .labels ≤ 40) × (counts .transitions ≤ 1024)) ⌝ }
     ensures { λ r. ⌜ TransitionsRead (header counts) (now (text .entry)) from (now (slots .exit)) r ⌝ }
 {
-    let transitions = counts.transitions;
     let mut at = from;
     let mut count: usize = 0;
-    while count < transitions {
+    while count < counts.transitions {
         let turn = read_transition(text, at, counts, slots, count);
         let Turn::Next(to) = turn else {
             return turn;

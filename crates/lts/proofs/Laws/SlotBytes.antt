@@ -11,7 +11,7 @@ use Rattle.columns.specs.Bytes.{padded}
 use Rattle.lts.specs.Lists.{upFrom, bind, every}
 use Rattle.lts.specs.Steps.{Step}
 use Rattle.lts.specs.Names.{isName}
-use Rattle.lts.specs.Reading.{stepBelow, above}
+use Rattle.lts.specs.Reading.{used, stepBelow, above}
 use Rattle.lts.specs.Prepared.{nameSlot, transitionSlot}
 use Rattle.lts.specs.Lines.{written, counted, storedName, storedNames, storedStep, risesAfter, nameBytes, stepBytes}
 use Rattle.lts.proofs.Lists.{and-true-of, and-true-to, bind-append}
@@ -85,6 +85,10 @@ names-snoc (n ∷ names) name e d =
     let f = and-true-of (isName n) (every isName names) e in
     and-true-to (isName n) (every isName (names ++ (name ∷ []))) (f .0) (names-snoc names name (f .1) d)
 
+pub used-stored : (b : List ℕ) (count : ℕ) (names : List (List ℕ)) (name : List ℕ) → length names ≡ count → every isName names ≡ true → b ≡ nameBytes names
+    → used (storedNames b count) name ≡ used names name
+used-stored b count names name c e k = ap (λ l. used l name) (ap₂ storedNames k (sym c) ∙ names-stored names e)
+
 -- Transitions.
 steps-length : (steps : List Step) → length (bind transitionSlot steps) ≡ length steps * 3
 steps-length [] = refl
@@ -117,3 +121,6 @@ unfolding risesAfter
 rises-above [] st = refl
 rises-above (x ∷ l) st =
     ap (λ p. stepBelow (storedStep (stepBytes (x ∷ l)) p) st) (sym (zero-add (length l))) ∙ last-from (stepBytes (x ∷ l)) 0 x l (replicate (3072 - length (bind transitionSlot (x ∷ l))) 0) st refl
+
+pub rises-stored : (b : List ℕ) (count : ℕ) (steps : List Step) (st : Step) → length steps ≡ count → b ≡ stepBytes steps → risesAfter b count st ≡ above steps st
+rises-stored b count steps st c k = ap₂ (λ x n. risesAfter x n st) k (sym c) ∙ rises-above steps st

@@ -5,10 +5,11 @@ use mathlib.Core.List.{List, [], _∷_, _++_, map, append-assoc, append-nil}
 use Prim.Native.Nat.{ℕ, zero, suc, _+_, _-_, _*_, _<_, _≤_}
 use native.Mathlib.Numerals.{add-one}
 use native.Mathlib.Omega.{arith}
-use lib.ListN.{length, getD, set, take, drop, length-take, length-drop}
-use lib.Seq.{take-suc-set, drop-set-lt, append-snoc}
+use lib.ListN.{length, getD, set, take, drop, length-append, length-take, length-drop}
+use lib.Seq.{take-suc-set, drop-set-lt, append-snoc, take-at, drop-append-add, drop-drop}
 use Rattle.columns.specs.Bytes.{sameBytes}
 use Rattle.columns.proofs.Laws.Bytes.{same-of-unequal}
+use Rattle.lts.specs.Reply.{overwritten}
 use Rattle.lts.specs.Lists.{upFrom}
 use Rattle.lts.specs.Reading.{used}
 use Rattle.lts.specs.Lines.{written, storedName, storedNames}
@@ -46,3 +47,20 @@ module _ (b : List ℕ) (count : ℕ) (name : List ℕ) where
 
     pub used-ends : count ≤ k → false ≡ used (storedNames b count) name
     used-ends h = let none : count - k ≡ 0 = omega arith in sym (r .left ∙ ap (λ n. used (map (storedName b) (upFrom k n)) name) none)
+
+-- Parts that are written one behind the other.
+written-behind : (d a v : List ℕ) (n : ℕ) → length a ≡ n → written (overwritten a d) n v ≡ overwritten (a ++ v) d
+written-behind d a v n e =
+    let long : n + length v ≡ length (a ++ v) = ap (λ k. k + length v) (sym e) ∙ sym (length-append a v) in
+    ap₂ (λ x y. (x ++ v) ++ y) (take-at a (drop (length a) d) n e)
+    (ap (λ k. drop (k + length v) (overwritten a d)) (sym e) ∙ drop-append-add a (drop (length a) d) (length v) ∙ drop-drop (length v) (length a) d
+    ∙ ap (λ k. drop (k + length v) d) e ∙ ap (λ k. drop k d) long)
+
+pub table-written : (head names slots d : List ℕ) → length head ≡ 6 → length names ≡ 640 → length slots ≡ 3072
+    → written (written (written d 0 head) 6 names) 646 slots ≡ overwritten (head ++ (names ++ slots)) d
+table-written head names slots d e f g =
+    let first : written d 0 head ≡ overwritten head d = let none : 0 + length head ≡ length head = omega arith in ap (λ k. head ++ drop k d) none in
+    ap (λ x. written (written x 6 names) 646 slots) first
+    ∙ ap (λ x. written x 646 slots) (written-behind d head names 6 e)
+    ∙ written-behind d (head ++ names) slots 646 (length-append head names ∙ omega arith)
+    ∙ ap (λ x. overwritten x d) (append-assoc head names slots)

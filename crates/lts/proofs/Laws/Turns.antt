@@ -1,11 +1,11 @@
 -- Laws of reading one more line: what the line says of the reading from there.
 use mathlib.Core.Path.{_≡_, refl, sym, ap, ap₂, _∙_, subst}
-use mathlib.Core.Bool.{Bool, true, false, cond, not}
+use mathlib.Core.Bool.{Bool, true, false, cond, not, _&&_}
 use mathlib.Core.List.{List, [], _∷_, _++_}
 use Prim.Native.Nat.{ℕ, zero, suc, _+_, _-_, _<_, _≤_}
 use native.Mathlib.Omega.{arith}
-use borrow.Author.Tests.{eq-eqb, ne-eqb}
-use lib.Dec.{eqb}
+use borrow.Author.Tests.{eq-eqb, ne-eqb, ltb-true, leb-true}
+use lib.Dec.{eqb, ltb, leb}
 use lib.ListN.{length, drop}
 use Rattle.columns.specs.Columns.{valueAt}
 use Rattle.lts.specs.Reply.{Reply, accepted, refusal, unless}
@@ -13,6 +13,7 @@ use Rattle.lts.specs.Steps.{Step, Table}
 use Rattle.lts.specs.Reading.{Header, Line, missing, line, firstLine, onLine, headerOf, headerLaidOut, headerInRange, labelLaidOut, used, stepOf, stepLaidOut, stepInRange, above, atEnd, readTransitions, readLabels, readTable}
 use Rattle.lts.specs.Replies.{tableReply}
 use Rattle.lts.specs.Lines.{LineAt, NoLineAt, Refuses}
+use Rattle.lts.proofs.Lists.{and-true-of}
 use Rattle.lts.specs.declared.TableReply.{TableReply}
 use Rattle.lts.specs.declared.TableReply.the-variants.{NotLaidOut, OutOfRange, NameRepeated, NotRising}
 
@@ -25,6 +26,13 @@ no-line laid n (line l rest) next h = ap (λ t. unless t 1 n (next l rest)) (h l
 a-line : (laid : List ℕ → Bool) (n : ℕ) (x : Line) (next : List ℕ → List ℕ → Reply Table) (l rest : List ℕ) → x ≡ line l rest → laid l ≡ true
     → onLine n x (λ l rest. unless (laid l) 1 n (next l rest)) ≡ next l rest
 a-line laid n x next l rest e d = ap (λ y. onLine n y (λ l rest. unless (laid l) 1 n (next l rest))) e ∙ ap (λ t. unless t 1 n (next l rest)) d
+
+-- A test that is passed, and one that is not.
+passed : (t : Bool) (number figure : ℕ) (next : Reply Table) → t ≡ true → unless t number figure next ≡ next
+passed t number figure next e = ap (λ b. unless b number figure next) e
+
+failed : (t : Bool) (number figure : ℕ) (next : Reply Table) → t ≡ false → unless t number figure next ≡ refusal number figure
+failed t number figure next e = ap (λ b. unless b number figure next) e
 
 -- Labels.
 module _ (h : Header) (s : List ℕ) (at left : ℕ) (names : List (List ℕ)) where
@@ -85,17 +93,28 @@ module _ (h : Header) (s : List ℕ) (at left : ℕ) (names : List (List ℕ)) (
     transition-out-of-range n f d = record {
       number = 2;
       figure = 2 + length names + length steps;
-      reply = transition-opened ∙ ap (λ t. unless t 2 (2 + length names + length steps) _) d;
+      reply = transition-opened ∙ failed (stepInRange h st) 2 (2 + length names + length steps) (unless (above steps st) 4 (2 + length names + length steps) (readTransitions h names left (steps ++ (st ∷ [])) (drop to s))) d;
       says = ap (refusal 2) (omega arith);
     }
+
+    in-range-opened : stepInRange h st ≡ true → readTransitions h names (suc left) steps (drop at s)
+        ≡ unless (above steps st) 4 (2 + length names + length steps) (readTransitions h names left (steps ++ (st ∷ [])) (drop to s))
+    in-range-opened d =
+        transition-opened ∙ passed (stepInRange h st) 2 (2 + length names + length steps) (unless (above steps st) 4 (2 + length names + length steps) (readTransitions h names left (steps ++ (st ∷ [])) (drop to s))) d
 
     pub transition-not-rising : (n : ℕ) → n ≡ length names + length steps + 2 → stepInRange h st ≡ true → above steps st ≡ false → Refuses (readTransitions h names (suc left) steps (drop at s)) (NotRising n)
     transition-not-rising n f d u = record {
       number = 4;
       figure = 2 + length names + length steps;
-      reply = transition-opened ∙ ap (λ t. unless t 2 (2 + length names + length steps) _) d ∙ ap (λ t. unless t 4 (2 + length names + length steps) _) u;
+      reply = in-range-opened d ∙ failed (above steps st) 4 (2 + length names + length steps) (readTransitions h names left (steps ++ (st ∷ [])) (drop to s)) u;
       says = ap (refusal 4) (omega arith);
     }
 
     pub transition-accepted : stepInRange h st ≡ true → above steps st ≡ true → readTransitions h names (suc left) steps (drop at s) ≡ readTransitions h names left (steps ++ (st ∷ [])) (drop to s)
-    transition-accepted d u = transition-opened ∙ ap (λ t. unless t 2 (2 + length names + length steps) _) d ∙ ap (λ t. unless t 4 (2 + length names + length steps) _) u
+    transition-accepted d u = in-range-opened d ∙ passed (above steps st) 4 (2 + length names + length steps) (readTransitions h names left (steps ++ (st ∷ [])) (drop to s)) u
+
+pub in-range : (h : Header) (st : Step) → stepInRange h st ≡ true → (st .from < h .states) × (st .label ≤ h .labels) × (st .to < h .states)
+in-range h st e =
+    let a = and-true-of (ltb (st .from) (h .states) && leb (st .label) (h .labels)) (ltb (st .to) (h .states)) e in
+    let b = and-true-of (ltb (st .from) (h .states)) (leb (st .label) (h .labels)) (a .0) in
+    (ltb-true (st .from) (h .states) (b .0), leb-true (st .label) (h .labels) (b .1), ltb-true (st .to) (h .states) (a .1))

@@ -1,3 +1,11 @@
+-- `read_labels` reads every label: the invariant is `NamesSoFar`.
+use mathlib.Core.Path.{_≡_, refl, sym, ap, ap₂, _∙_, subst}
+use Prim.Native.Nat.{_+_, _-_, _*_}
+use lib.ListN.{length}
+use borrow.Author.Needs.{needs}
+use native.Mathlib.Omega.{arith}
+use Rattle.lts.proofs.Laws.Readings.{NamesSoFar, names-start, names-refused, names-go-on, names-end}
+use Rattle.lts.specs.Lines.{header, LabelTurn, LabelsRead}
 use Rattle.lts.proofs.reading.read_labels.Statement.{statement}
 use Rattle.lts.proofs.reading.read_labels.Tie as tie
 use Rattle.lts.proofs.reading.read_labels.Reads as reads
@@ -5,54 +13,68 @@ use Rattle.lts.proofs.reading.read_labels.Lts as lts
 use Rattle.lts.proofs.reading.read_label.Reads as read-label-reads
 
 abbrev Inv-loop : tie.InvT-loop
-Inv-loop text from names₀ labels at₀ count₀ names at count = ?
+Inv-loop text from counts names₀ at₀ count₀ names at count = NamesSoFar (header counts) text from names at count × (length names ≡ 640)
 
 abbrev μ-loop : tie.MeasureT-loop
-μ-loop text from names₀ labels at₀ count₀ names at count = ?
+μ-loop text from counts names₀ at₀ count₀ names at count = counts .labels - count
 
--- src/reading.rt:354:5
 loop-holds : tie.Need-loop-holds Inv-loop μ-loop
-loop-holds c = ?
+loop-holds c =
+    let a = c .before .before .args in
+    (names-start (header (a .counts)) (a .text .now) (a .from) (a .names .now) (c .before .before .pre .0) (c .before .before .pre .1 .0), ap length (c .before .before .pre .1 .0))
 
--- src/reading.rt:355:13
 read-label-requires : tie.Need-read-label-requires Inv-loop μ-loop
-read-label-requires c κs = ?
+read-label-requires c κs = let l = c .before .before .before .loop in omega (arith, l .inv .0 .within, l .inv .0 .few)
 
--- src/reading.rt:356:24
 enum-known-turn : tie.Need-enum-known-turn Inv-loop μ-loop
-enum-known-turn c = ?
+enum-known-turn c = search needs
 
--- src/reading.rt:357:13
 enum-told : tie.Need-enum-told Inv-loop μ-loop
-enum-told c = ?
+enum-told c = search needs
 
--- src/reading.rt:357:13
 same-length : tie.Need-same-length Inv-loop μ-loop
-same-length c = ?
+same-length c = c .before .before .before .before .read-label .kept .1 .1 .0 ∙ c .before .before .before .before .before .before .before .before .loop .inv .1 ∙ sym (ap length (c .before .before .before .before .before .before .before .before .before .before .before .pre .1 .0))
 
--- src/reading.rt:357:13
 returns : tie.Need-returns Inv-loop μ-loop
-returns c = ?
+returns c =
+    let a = c .before .before .before .before .before .before .before .before .before .before .before .args in
+    let h = header (a .counts) in
+    let s = a .text .now in
+    let l = c .before .before .before .before .before .before .before .before .loop in
+    let d = c .before .before .before .before .read-label .last .1 .1 .0 in
+    let r = l .inv .0 in
+    let f = subst (LabelTurn s (l .at) (l .count) (l .names) d) (c .enum-told .given .1) (c .before .before .before .before .read-label .ensures) in
+    subst (LabelsRead h s (a .from) d) (sym (c .enum-told .given .1))
+    (names-refused h s (a .from) (l .names) (l .at) (l .count) r (c .before .before .before .before .before .before .if1 .taken) (f h (h .labels - (l .count + 1)) (r .names) (r .counts) (r .all-names) (r .kept)))
 
--- src/reading.rt:360:9
 add-count : tie.Need-add-count Inv-loop μ-loop
-add-count c = ?
+add-count c = omega arith
 
--- src/reading.rt:354:5
 loop-less : tie.Need-loop-less Inv-loop μ-loop
-loop-less c = ?
+loop-less c = omega arith
 
--- src/reading.rt:354:5
 loop-again : tie.Need-loop-again Inv-loop μ-loop
-loop-again c = ?
+loop-again c =
+    let a = c .before .before .before .before .before .before .before .before .before .before .before .before .args in
+    let h = header (a .counts) in
+    let s = a .text .now in
+    let l = c .before .before .before .before .before .before .before .before .before .loop in
+    let d = c .before .before .before .before .before .read-label .last .1 .1 .0 in
+    let r = l .inv .0 in
+    let f = subst (LabelTurn s (l .at) (l .count) (l .names) d) (c .before .turn .given .1) (c .before .before .before .before .before .read-label .ensures) in
+    (names-go-on h s (a .from) (l .names) (l .at) (l .count) r (c .before .before .before .before .before .before .before .if1 .taken) (c .before .turn .given .0 .0) d (f h (h .labels - (l .count + 1)) (r .names) (r .counts) (r .all-names) (r .kept)),
+    c .before .before .before .before .before .read-label .kept .1 .1 .0 ∙ l .inv .1)
 
--- src/reading.rt:347:1
 same-length-2 : tie.Need-same-length-2 Inv-loop μ-loop
-same-length-2 c = ?
+same-length-2 c = c .before .before .loop .inv .1 ∙ sym (ap length (c .before .before .before .before .before .pre .1 .0))
 
--- src/reading.rt:347:1
 returns-2 : tie.Need-returns-2 Inv-loop μ-loop
-returns-2 c = ?
+returns-2 c =
+    let a = c .before .before .before .before .before .args in
+    let h = header (a .counts) in
+    let s = a .text .now in
+    let l = c .before .before .loop in
+    names-end h s (a .from) (l .names) (l .at) (l .count) (l .inv .0) (c .if1 .left)
 
 pub read-labels-spec : {M : Type 1} → statement M
 read-labels-spec =

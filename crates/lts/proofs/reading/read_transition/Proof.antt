@@ -1,4 +1,13 @@
+-- `read_transition` says what one more line of a transition makes of the reading, and keeps it.
 use borrow.Author.Needs.{needs}
+use mathlib.Core.Path.{_≡_, refl, sym, ap, ap₂, _∙_, subst}
+use borrow.Author.Tests.{eqb-true, eqb-false, not-true, not-false}
+use Prim.Native.Nat.{_+_, _-_, _*_}
+use native.Mathlib.Omega.{arith}
+use Rattle.lts.proofs.Laws.Turns.{transition-refused, transition-out-of-range, transition-not-rising, transition-accepted, in-range}
+use Rattle.lts.proofs.Laws.SlotBytes.{step-written, rises-stored}
+use Rattle.lts.specs.Lines.{TransitionSays, written, header, step}
+use Rattle.lts.specs.Prepared.{transitionSlot}
 use Rattle.lts.proofs.reading.read_transition.Statement.{statement}
 use Rattle.lts.proofs.reading.read_transition.Tie as tie
 use Rattle.lts.proofs.reading.read_transition.Reads as reads
@@ -8,65 +17,85 @@ use Rattle.lts.proofs.reading.transition_in_range.Reads as transition-i
 use Rattle.lts.proofs.reading.transition_line.Reads as transition-line-reads
 use Rattle.lts.proofs.reading.write_transition.Reads as write-transition-reads
 
--- src/reading.rt:371:16
 add-line : tie.Need-add-line
 add-line c = search needs
 
--- src/reading.rt:371:16
 add-line-2 : tie.Need-add-line-2
 add-line-2 c = search needs
 
--- src/reading.rt:372:34
 transition-line-requires : tie.Need-transition-line-requires
 transition-line-requires c κs = search needs
 
--- src/reading.rt:372:29
 enum-known-t : tie.Need-enum-known-t
 enum-known-t c = search needs
 
--- src/reading.rt:373:30
 enum-told : tie.Need-enum-told
 enum-told c = search needs
 
--- src/reading.rt:373:9
 returns : tie.Need-returns
-returns c = ?
+returns c =
+    let s = c .before .before .before .before .before .before .args .text .now in
+    let at = c .before .before .before .before .before .before .args .at in
+    let h = header (c .before .before .before .before .before .before .args .counts) in
+    λ left names steps e f g. transition-refused h s at left names steps _ (omega arith) (subst (TransitionSays s at) (c .enum-told .given .1) (c .before .before .transition-line .ensures))
 
--- src/reading.rt:375:9
 transition-in-range-requires : tie.Need-transition-in-range-requires
 transition-in-range-requires c κs = search needs
 
--- src/reading.rt:376:9
 returns-2 : tie.Need-returns-2
-returns-2 c = ?
+returns-2 c =
+    let s = c .before .before .before .before .before .before .before .before .before .args .text .now in
+    let at = c .before .before .before .before .before .before .before .before .before .args .at in
+    let h = header (c .before .before .before .before .before .before .before .before .before .args .counts) in
+    let t = c .before .before .before .t .given .0 .0 in
+    let (l, lies, values) = subst (TransitionSays s at) (c .before .before .before .t .given .1) (c .before .before .before .before .before .transition-line .ensures) in
+    λ left names steps e f g. transition-out-of-range h s at left names steps (at + 19) l lies (step t) values _ (omega arith) (sym (c .before .transition-in-range .ensures) ∙ not-true _ (c .if1 .taken))
 
--- src/reading.rt:378:9
 rises-requires : tie.Need-rises-requires
 rises-requires c κs = search needs
 
--- src/reading.rt:379:9
 same-length : tie.Need-same-length
 same-length c = search needs
 
--- src/reading.rt:379:9
 returns-3 : tie.Need-returns-3
-returns-3 c = ?
+returns-3 c =
+    let s = c .before .before .before .before .before .before .before .before .before .before .before .before .args .text .now in
+    let at = c .before .before .before .before .before .before .before .before .before .before .before .before .args .at in
+    let h = header (c .before .before .before .before .before .before .before .before .before .before .before .before .args .counts) in
+    let t = c .before .before .before .before .before .before .t .given .0 .0 in
+    let (l, lies, values) = subst (TransitionSays s at) (c .before .before .before .before .before .before .t .given .1) (c .before .before .before .before .before .before .before .before .transition-line .ensures) in
+    λ left names steps e f g. transition-not-rising h s at left names steps (at + 19) l lies (step t) values _ (omega arith)
+    (sym (c .before .before .before .before .transition-in-range .ensures) ∙ not-false _ (c .before .before .before .if1 .left))
+    (sym (rises-stored (c .before .before .before .before .before .before .before .before .before .before .before .before .args .slots .now) (c .before .before .before .before .before .before .before .before .before .before .before .before .args .count) steps (step t) f g) ∙ sym (c .before .rises .ensures) ∙ not-true _ (c .if2 .taken))
 
--- src/reading.rt:381:5
 write-transition-requires : tie.Need-write-transition-requires
-write-transition-requires c κs = ?
+write-transition-requires c κs =
+    let h = header (c .before .before .before .before .before .before .before .before .before .before .before .before .before .args .counts) in
+    let t = c .before .before .before .before .before .before .before .t .given .0 .0 in
+    let r = in-range h (step t) (sym (c .before .before .before .before .before .transition-in-range .ensures) ∙ not-false _ (c .before .before .before .before .if1 .left)) in
+    let p = c .before .before .before .before .before .before .before .before .before .before .before .before .before .pre in
+    omega arith
 
--- src/reading.rt:382:16
 add-t8 : tie.Need-add-t8
 add-t8 c = search needs
 
--- src/reading.rt:366:1
 same-length-2 : tie.Need-same-length-2
 same-length-2 c = search needs
 
--- src/reading.rt:366:1
 returns-4 : tie.Need-returns-4
-returns-4 c = ?
+returns-4 c =
+    let s = c .before .before .before .before .before .before .before .before .before .before .before .before .before .before .before .before .args .text .now in
+    let at = c .before .before .before .before .before .before .before .before .before .before .before .before .before .before .before .before .args .at in
+    let h = header (c .before .before .before .before .before .before .before .before .before .before .before .before .before .before .before .before .args .counts) in
+    let t = c .before .before .before .before .before .before .before .before .before .before .t .given .0 .0 in
+    let (l, lies, values) = subst (TransitionSays s at) (c .before .before .before .before .before .before .before .before .before .before .t .given .1) (c .before .before .before .before .before .before .before .before .before .before .before .before .transition-line .ensures) in
+    λ left names steps e f g. record {
+      last = step t;
+      within = lies .within;
+      reads = transition-accepted h s at left names steps (at + 19) l lies (step t) values (sym (c .before .before .before .before .before .before .before .before .transition-in-range .ensures) ∙ not-false _ (c .before .before .before .before .before .before .before .if1 .left))
+          (sym (rises-stored (c .before .before .before .before .before .before .before .before .before .before .before .before .before .before .before .before .args .slots .now) (c .before .before .before .before .before .before .before .before .before .before .before .before .before .before .before .before .args .count) steps (step t) f g) ∙ sym (c .before .before .before .before .before .rises .ensures) ∙ not-false _ (c .before .before .before .before .if2 .left));
+      kept = c .before .before .write-transition .ensures ∙ ap (λ b. written b (c .before .before .before .before .before .before .before .before .before .before .before .before .before .before .before .before .args .count * 3) (transitionSlot (step t))) g ∙ step-written steps (step t) (c .before .before .before .before .before .before .before .before .before .before .before .before .before .before .before .before .args .count) f (c .before .before .before .before .before .before .before .before .before .before .before .before .before .before .before .before .pre .0 .1 .1);
+    }
 
 pub read-transition-spec : {M : Type 1} → statement M
 read-transition-spec =
