@@ -8,3 +8,4 @@ pub mod Slots
 pub mod SlotBytes
 pub mod Turns
 pub mod Readings
+pub mod Tables

@@ -129,7 +129,7 @@ module _ (h : Header) (s : List ℕ) (from : ℕ) (names : List (List ℕ)) wher
       steps-end m = record {
         steps = r .steps;
         counts = r .counts ∙ k;
-        reads = steps-over ∙ ap (λ l. atEnd (2 + length names + length (r .steps)) l _) (drop-of-length-le s m);
+        reads = steps-over ∙ ap (λ l. atEnd (2 + length names + length (r .steps)) l (accepted (record { states = h .states; names = names; transitions = r .steps; start = h .start }))) (drop-of-length-le s m);
         kept = r .kept;
       }
 

@@ -18,20 +18,20 @@ use Rattle.lts.specs.declared.TableReply.{TableReply}
 use Rattle.lts.specs.declared.TableReply.the-variants.{NotLaidOut, OutOfRange, NameRepeated, NotRising}
 
 -- A line that is not laid out, and one that is.
-no-line : (laid : List ℕ → Bool) (n : ℕ) (x : Line) (next : List ℕ → List ℕ → Reply Table) → ((l rest : List ℕ) → x ≡ line l rest → laid l ≡ false)
+pub no-line : (laid : List ℕ → Bool) (n : ℕ) (x : Line) (next : List ℕ → List ℕ → Reply Table) → ((l rest : List ℕ) → x ≡ line l rest → laid l ≡ false)
     → onLine n x (λ l rest. unless (laid l) 1 n (next l rest)) ≡ refusal 1 n
 no-line laid n missing next h = refl
 no-line laid n (line l rest) next h = ap (λ t. unless t 1 n (next l rest)) (h l rest refl)
 
-a-line : (laid : List ℕ → Bool) (n : ℕ) (x : Line) (next : List ℕ → List ℕ → Reply Table) (l rest : List ℕ) → x ≡ line l rest → laid l ≡ true
+pub a-line : (laid : List ℕ → Bool) (n : ℕ) (x : Line) (next : List ℕ → List ℕ → Reply Table) (l rest : List ℕ) → x ≡ line l rest → laid l ≡ true
     → onLine n x (λ l rest. unless (laid l) 1 n (next l rest)) ≡ next l rest
 a-line laid n x next l rest e d = ap (λ y. onLine n y (λ l rest. unless (laid l) 1 n (next l rest))) e ∙ ap (λ t. unless t 1 n (next l rest)) d
 
 -- A test that is passed, and one that is not.
-passed : (t : Bool) (number figure : ℕ) (next : Reply Table) → t ≡ true → unless t number figure next ≡ next
+pub passed : (t : Bool) (number figure : ℕ) (next : Reply Table) → t ≡ true → unless t number figure next ≡ next
 passed t number figure next e = ap (λ b. unless b number figure next) e
 
-failed : (t : Bool) (number figure : ℕ) (next : Reply Table) → t ≡ false → unless t number figure next ≡ refusal number figure
+pub failed : (t : Bool) (number figure : ℕ) (next : Reply Table) → t ≡ false → unless t number figure next ≡ refusal number figure
 failed t number figure next e = ap (λ b. unless b number figure next) e
 
 -- Labels.
