@@ -1,3 +1,4 @@
+-- Laws that several proofs cite.
 pub mod Bytes
 pub mod Columns
 pub mod Scan

@@ -1,10 +1,9 @@
 -- What `read_column` answers: the number whose column stands at a place of a text.
-use mathlib.Core.Bool.{Bool, true, false}
-use mathlib.Core.List.{List, [], _∷_, _++_}
-use Prim.Native.Nat.{ℕ, zero, suc, _+_, _/_, _%_}
+use mathlib.Core.Bool.{Bool, true, false, cond}
+use mathlib.Core.List.{List}
+use Prim.Native.Nat.{ℕ, _+_, _%_}
 use lib.ListN.{take, drop}
 use lib.Dec.{eqb}
-use mathlib.Core.Bool.{cond}
 use Rattle.columns.specs.Bytes.{sameBytes}
 use Rattle.columns.specs.Columns.{column, valueAt}
 use Rattle.columns.specs.declared.Column.{Column}

@@ -1,6 +1,6 @@
 // Numbers in six columns: the form of every number in the texts of tables and listings.
 ghost use mathlib.Core.Path.{_≡_};
-ghost use Prim.Native.Nat.{ℕ, _+_, _-_, _<_, _≤_};
+ghost use Prim.Native.Nat.{_+_, _-_, _<_, _≤_};
 ghost use lib.ListN.{length, take, drop};
 ghost use Rattle.columns.specs.Bytes.{sameBytes};
 ghost use Rattle.columns.specs.Columns.{column, valueAt};

@@ -1,7 +1,7 @@
 // Reading a table's text, line by line. Names and transitions are gathered in local bytes, laid out as in the prepared table, so that
 // the lent bytes are written only when the whole text is accepted.
 ghost use mathlib.Core.Path.{_≡_};
-ghost use Prim.Native.Nat.{ℕ, _+_, _*_, _<_, _≤_};
+ghost use Prim.Native.Nat.{_+_, _*_, _<_, _≤_};
 ghost use lib.Dec.{eqb};
 ghost use lib.ListN.{length, getD, drop, replicate};
 ghost use Rattle.columns.specs.Bytes.{sameBytes};
@@ -12,9 +12,8 @@ ghost use Rattle.lts.specs.Replies.{tableReply, tableReplied, tableLeft}
 ghost use Rattle.lts.specs.Lines.{written, nameLength, storedNames, risesAfter, header, step, HeaderSays, LabelSays, TransitionSays, LabelTurn, LabelsRead, TransitionTurn, TransitionsRead, headBytes, storedName, counted};
 ghost use Rattle.lts.specs.Reply.{overwritten};
 ghost use mathlib.Core.List.{_++_};
-
-use columns::Column;
 use crate::TableReply;
+use columns::Column;
 
 // What line 1 says.
 pub struct Counts {

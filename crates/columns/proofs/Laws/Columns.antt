@@ -1,21 +1,20 @@
 -- Laws of six columns: their bytes, their width, and the number that they hold.
-use mathlib.Core.Path.{_≡_, refl, sym, ap, ap₂, _∙_, subst}
+use mathlib.Core.Path.{_≡_, refl, sym, ap, _∙_, subst}
 use mathlib.Core.Bool.{Bool, true, false, cond}
 use mathlib.Core.List.{List, [], _∷_, _++_, append-assoc}
 use Prim.Native.Nat.{ℕ, zero, suc, _+_, _-_, _*_, _/_, _%_, _^_, _<_, _≤_}
 use native.Mathlib.Nat.{pow-succ', le-trans, mul-assoc, mul-le-mul-right}
 use native.Mathlib.Numerals.{add-one}
 use native.Mathlib.Omega.{arith}
-use borrow.Author.Tests.{ltb-true, ltb-false, eqb-true, eqb-false, eq-eqb, ne-eqb}
-use lib.Dec.{ltb, eqb}
+use borrow.Author.Tests.{ltb-true, ltb-false, ne-eqb}
+use lib.Dec.{ltb}
 use lib.ListN.{length, replicate, take, drop, length-append, length-replicate, length-take, length-drop, replicate-append-replicate}
-use lib.Seq.{take-append-le, take-all}
+use lib.Seq.{take-all}
 use Rattle.columns.specs.Bytes.{sameBytes}
 use Rattle.columns.specs.Columns.{digitsWithin, decimal, column, valueFrom, valueAt}
 use Rattle.columns.specs.Read.{columnAt, columnIf, lead}
-use Rattle.columns.specs.declared.Column.{Column}
 use Rattle.columns.specs.declared.Column.the-variants.{Number, Bad}
-use Rattle.columns.proofs.Laws.Bytes.{same-equal, same-of-equal, same-of-unequal, unequal-of-same, Each, each-append, each-take}
+use Rattle.columns.proofs.Laws.Bytes.{same-equal, same-of-unequal, unequal-of-same, Each, each-append, each-take}
 
 -- A byte of a column: a blank or a digit.
 abbrev pub Figure : ℕ → Type 0

@@ -6,9 +6,6 @@ use borrow.Author.Needs.{needs}
 use Rattle.columns.proofs.Laws.Scan.{Compared, last-differs, compare-starts, compare-differs, compare-goes-on, compare-ends}
 use Rattle.columns.proofs.is_column.Statement.{statement}
 use Rattle.columns.proofs.is_column.Tie as tie
-use Rattle.columns.proofs.is_column.Reads as reads
-use Rattle.columns.proofs.is_column.Lts as lts
-use Rattle.columns.proofs.leading.Reads as leading-reads
 
 one-more : (i : ℕ) → 0 < i → i ≡ suc (i - 1)
 one-more i h = omega arith

@@ -3,8 +3,6 @@ use borrow.Author.Needs.{needs}
 use borrow.Author.Tests.{eq-eqb, ne-eqb}
 use Rattle.columns.proofs.leading.Statement.{statement}
 use Rattle.columns.proofs.leading.Tie as tie
-use Rattle.columns.proofs.leading.Reads as reads
-use Rattle.columns.proofs.leading.Lts as lts
 
 add-result : tie.Need-add-result
 add-result c = search needs

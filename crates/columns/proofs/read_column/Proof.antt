@@ -6,10 +6,6 @@ use native.Mathlib.Omega.{arith}
 use Rattle.columns.proofs.Laws.Columns.{column-outside, column-too-large, column-of-same}
 use Rattle.columns.proofs.read_column.Statement.{statement}
 use Rattle.columns.proofs.read_column.Tie as tie
-use Rattle.columns.proofs.read_column.Reads as reads
-use Rattle.columns.proofs.read_column.Lts as lts
-use Rattle.columns.proofs.is_column.Reads as is-column-reads
-use Rattle.columns.proofs.value_at.Reads as value-at-reads
 
 returns : tie.Need-returns
 returns c = let a = c .before .before .args in column-outside (a .text .now) (a .at) (omega arith)

@@ -5,9 +5,6 @@ use borrow.Author.Needs.{needs}
 use Rattle.columns.proofs.Laws.Scan.{Valued, value-starts, value-fits, value-goes-on, value-ends}
 use Rattle.columns.proofs.value_at.Statement.{statement}
 use Rattle.columns.proofs.value_at.Tie as tie
-use Rattle.columns.proofs.value_at.Reads as reads
-use Rattle.columns.proofs.value_at.Lts as lts
-use Rattle.columns.proofs.digit.Reads as digit-reads
 
 abbrev Inv-loop : tie.InvT-loop
 Inv-loop text at n₀ i₀ n i = Valued text at n i

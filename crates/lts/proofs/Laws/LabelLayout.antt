@@ -1,19 +1,19 @@
 -- Laws of a label's line: what the columns and bytes at a place say of the line there, and the line of them.
 use mathlib.Core.Path.{_≡_, refl, sym, ap, ap₂, _∙_, subst}
-use mathlib.Core.Bool.{Bool, true, false, cond, _&&_}
-use mathlib.Core.List.{List, [], _∷_, _++_, append-assoc, append-nil}
-use Prim.Native.Nat.{ℕ, zero, suc, _+_, _-_, _<_, _≤_}
+use mathlib.Core.Bool.{true}
+use mathlib.Core.List.{List, _∷_, _++_, append-assoc}
+use Prim.Native.Nat.{ℕ, _+_, _-_, _<_}
 use native.Mathlib.Omega.{arith}
-use lib.ListN.{length, getD, take, drop, take-append-drop, length-append, length-drop}
-use lib.Seq.{drop-drop, take-at, drop-at, length-take-le}
+use lib.ListN.{length, getD, take, drop, take-append-drop}
+use lib.Seq.{drop-at, length-take-le}
 use Rattle.columns.specs.Bytes.{sameBytes}
-use Rattle.columns.specs.Columns.{column, valueFrom, valueAt}
-use Rattle.columns.proofs.Laws.Bytes.{Each, each-append, each-weaken, same-equal, same-of-equal}
+use Rattle.columns.specs.Columns.{column, valueAt}
+use Rattle.columns.proofs.Laws.Bytes.{each-append, each-weaken, same-equal, same-of-equal}
 use Rattle.columns.proofs.Laws.Columns.{ColumnAt}
 use Rattle.lts.specs.Names.{isName}
 use Rattle.lts.specs.Text.{labelLine}
-use Rattle.lts.specs.Reading.{line, firstLine, labelLaidOut}
-use Rattle.lts.specs.Lines.{LineAt, NoLineAt, Labelled, nameLength}
+use Rattle.lts.specs.Reading.{firstLine, labelLaidOut}
+use Rattle.lts.specs.Lines.{NoLineAt, Labelled, nameLength}
 use Rattle.lts.proofs.Lists.{and-true-of, and-true-to}
 use Rattle.lts.proofs.Laws.Lines.{NoEnd, line-here, line-parts, drop-further, column-front, column-back, byte-within, byte-front, byte-back, column-peeled}
 use Rattle.lts.proofs.Laws.NameRuns.{High, name-high, name-short, run-is-name, name-is-run}
@@ -69,7 +69,7 @@ module _ (s : List ℕ) (at : ℕ) where
       let laid = same-equal l (labelLine (valueAt 0 l) (drop 7 l)) (both .0) in
       let first = column-peeled l (32 ∷ drop 7 l) laid in
       let text : drop at s ≡ column (valueAt 0 l) ++ (32 ∷ (drop 7 l ++ (10 ∷ rest))) =
-          line-parts (drop at s) l rest e ∙ ap (λ x. x ++ (10 ∷ rest)) laid ∙ append-assoc (column (valueAt 0 l)) (32 ∷ drop 7 l) (10 ∷ rest) in
+      line-parts (drop at s) l rest e ∙ ap (λ x. x ++ (10 ∷ rest)) laid ∙ append-assoc (column (valueAt 0 l)) (32 ∷ drop 7 l) (10 ∷ rest) in
       let one = column-back s at (at + 6) (valueAt 0 l) _ refl (first .0) text in
       let two = byte-back s (at + 6) (at + 7) 32 (drop 7 l ++ (10 ∷ rest)) (omega arith) (one .1) in
       h (valueAt 0 l) (drop 7 l) rest (one .0) (two .0) (both .1) (two .1))

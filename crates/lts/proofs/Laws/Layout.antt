@@ -1,24 +1,19 @@
 -- Laws of the three kinds of lines: what the columns and bytes at a place say of the line there, and the line of them.
-use mathlib.Core.Path.{_≡_, refl, sym, ap, ap₂, _∙_, subst}
-use mathlib.Core.Bool.{Bool, true, false, cond, _&&_}
+use mathlib.Core.Path.{_≡_, refl, sym, ap, _∙_}
+use mathlib.Core.Bool.{Bool, true, false}
 use mathlib.Core.List.{List, [], _∷_, _++_, append-assoc, append-nil}
-use Prim.Native.Nat.{ℕ, zero, suc, _+_, _-_, _<_, _≤_}
-use native.Mathlib.Numerals.{add-one}
+use Prim.Native.Nat.{ℕ, _+_, _<_}
 use native.Mathlib.Omega.{arith}
-use lib.ListN.{length, getD, take, drop, take-append-drop, length-append}
-use lib.Seq.{drop-drop, take-at, drop-at, take-all, drop-append-add, length-take-le}
-use Rattle.columns.specs.Bytes.{sameBytes}
+use lib.ListN.{getD, take, drop}
+use lib.Seq.{drop-drop, take-at, take-all, drop-append-add}
 use Rattle.columns.specs.Columns.{column, valueFrom, valueAt}
 use Rattle.columns.proofs.Laws.Bytes.{Each, each-append, each-weaken, same-equal, same-of-equal}
 use Rattle.columns.proofs.Laws.Columns.{Figure, ColumnAt, column-figures, column-length, value-column}
 use Rattle.lts.specs.Steps.{Step}
-use Rattle.lts.specs.Names.{isName}
-use Rattle.lts.specs.Text.{headerLine, labelLine, transitionLine}
-use Rattle.lts.specs.Reading.{Header, line, firstLine, headerOf, headerLaidOut, labelLaidOut, stepOf, stepLaidOut}
-use Rattle.lts.specs.Lines.{LineAt, NoLineAt, Labelled, nameLength}
-use Rattle.lts.proofs.Lists.{and-true-of, and-true-to}
-use Rattle.lts.proofs.Laws.Lines.{NoEnd, line-here, line-parts, drop-further, column-front, column-back, byte-within, byte-front, byte-back, column-peeled}
-use Rattle.lts.proofs.Laws.NameRuns.{name-high, name-short, run-is-name, name-is-run}
+use Rattle.lts.specs.Text.{headerLine, transitionLine}
+use Rattle.lts.specs.Reading.{Header, firstLine, headerOf, headerLaidOut, stepOf, stepLaidOut}
+use Rattle.lts.specs.Lines.{LineAt, NoLineAt}
+use Rattle.lts.proofs.Laws.Lines.{NoEnd, line-here, line-parts, column-front, column-back, byte-within, byte-front, byte-back, column-peeled}
 
 pub no-end : (v : ℕ) → Each NoEnd (column v)
 no-end v = each-weaken Figure NoEnd (λ b h e. omega arith) (column v) (column-figures v)
@@ -58,7 +53,7 @@ module _ (s : List ℕ) (at : ℕ) where
         let from : valueAt 0 (transitionLine t) ≡ t .from = value-first (t .from) (a .small) (column (t .label) ++ column (t .to)) in
         let label : valueAt 6 (transitionLine t) ≡ t .label = value-later (t .from) (a .small) (column (t .label) ++ column (t .to)) 0 ∙ value-first (t .label) (b .small) (column (t .to)) in
         let to : valueAt 12 (transitionLine t) ≡ t .to =
-            value-later (t .from) (a .small) (column (t .label) ++ column (t .to)) 6 ∙ value-later (t .label) (b .small) (column (t .to)) 0 ∙ value-only (t .to) (c .small) in
+        value-later (t .from) (a .small) (column (t .label) ++ column (t .to)) 6 ∙ value-later (t .label) (b .small) (column (t .to)) 0 ∙ value-only (t .to) (c .small) in
         λ i. record { from = from i; label = label i; to = to i }
 
     pub transition-lies : (l : List ℕ) × LineAt stepLaidOut s at (at + 19) l × (stepOf l ≡ t)
@@ -81,7 +76,7 @@ module _ (s : List ℕ) (at : ℕ) where
       let second = column-peeled (drop 6 l) (column (valueAt 12 l)) (first .1) in
       let third = column-peeled (drop 12 l) [] (sym (drop-drop 6 6 l) ∙ second .1 ∙ sym (append-nil (column (valueAt 12 l)))) in
       let text : drop at s ≡ column (valueAt 0 l) ++ (column (valueAt 6 l) ++ (column (valueAt 12 l) ++ (10 ∷ rest))) =
-          line-parts (drop at s) l rest e ∙ ap (λ x. x ++ (10 ∷ rest)) laid ∙ simp append-assoc in
+      line-parts (drop at s) l rest e ∙ ap (λ x. x ++ (10 ∷ rest)) laid ∙ simp append-assoc in
       let one = column-back s at (at + 6) (valueAt 0 l) _ refl (first .0) text in
       let two = column-back s (at + 6) (at + 12) (valueAt 6 l) _ (omega arith) (second .0) (one .1) in
       let three = column-back s (at + 12) (at + 18) (valueAt 12 l) _ (omega arith) (third .0) (two .1) in
@@ -109,9 +104,9 @@ module _ (s : List ℕ) where
         let states : valueAt 0 header-line ≡ h .states = value-first (h .states) (a .small) three in
         let labels : valueAt 6 header-line ≡ h .labels = value-later (h .states) (a .small) three 0 ∙ value-first (h .labels) (b .small) two in
         let transitions : valueAt 12 header-line ≡ h .transitions =
-            value-later (h .states) (a .small) three 6 ∙ value-later (h .labels) (b .small) two 0 ∙ value-first (h .transitions) (c .small) (column (h .start)) in
+        value-later (h .states) (a .small) three 6 ∙ value-later (h .labels) (b .small) two 0 ∙ value-first (h .transitions) (c .small) (column (h .start)) in
         let start : valueAt 18 header-line ≡ h .start =
-            value-later (h .states) (a .small) three 12 ∙ value-later (h .labels) (b .small) two 6 ∙ value-later (h .transitions) (c .small) (column (h .start)) 0 ∙ value-only (h .start) (d .small) in
+        value-later (h .states) (a .small) three 12 ∙ value-later (h .labels) (b .small) two 6 ∙ value-later (h .transitions) (c .small) (column (h .start)) 0 ∙ value-only (h .start) (d .small) in
         λ i. record { states = states i; labels = labels i; transitions = transitions i; start = start i }
 
     pub header-lies : (l : List ℕ) × LineAt (λ l. headerLaidOut (headerOf l) l) s 0 25 l × (headerOf l ≡ h)
@@ -136,7 +131,7 @@ module _ (s : List ℕ) where
       let third = column-peeled (drop 12 l) (column (valueAt 18 l)) (sym (drop-drop 6 6 l) ∙ second .1) in
       let fourth = column-peeled (drop 18 l) [] (sym (drop-drop 6 12 l) ∙ third .1 ∙ sym (append-nil (column (valueAt 18 l)))) in
       let text : drop 0 s ≡ column (valueAt 0 l) ++ (column (valueAt 6 l) ++ (column (valueAt 12 l) ++ (column (valueAt 18 l) ++ (10 ∷ rest)))) =
-          line-parts (drop 0 s) l rest e ∙ ap (λ x. x ++ (10 ∷ rest)) laid ∙ simp append-assoc in
+      line-parts (drop 0 s) l rest e ∙ ap (λ x. x ++ (10 ∷ rest)) laid ∙ simp append-assoc in
       let one = column-back s 0 6 (valueAt 0 l) _ refl (first .0) text in
       let two = column-back s 6 12 (valueAt 6 l) _ refl (second .0) (one .1) in
       let three = column-back s 12 18 (valueAt 12 l) _ refl (third .0) (two .1) in

@@ -1,21 +1,19 @@
 -- Laws of lines: where a line ends, and what six columns or a byte at a place say of the text from there.
-use mathlib.Core.Path.{_≡_, refl, sym, ap, ap₂, _∙_, subst}
+use mathlib.Core.Path.{_≡_, refl, sym, ap, ap₂, _∙_}
 use mathlib.Core.Logic.{_⊎_, inl, inr}
 use mathlib.Core.Bool.{Bool, true, false, cond}
-use mathlib.Core.List.{List, [], _∷_, _++_, append-assoc, append-nil}
-use Prim.Native.Nat.{ℕ, zero, suc, _+_, _-_, _<_, _≤_}
-use native.Mathlib.Numerals.{add-one}
+use mathlib.Core.List.{List, [], _∷_, _++_}
+use Prim.Native.Nat.{ℕ, suc, _+_, _<_, _≤_}
 use native.Mathlib.Decide.{decLe}
 use native.Mathlib.Omega.{arith}
-use borrow.Author.Tests.{eqb-true, eqb-false, eq-eqb, ne-eqb}
+use borrow.Author.Tests.{eqb-true, ne-eqb}
 use lib.Dec.{eqb}
 use lib.ListN.{length, getD, take, drop, take-append-drop, length-drop, List·getD-eq-default}
-use lib.Seq.{drop-cons, drop-drop, take-at, drop-at, take-append-le, take-all}
-use Rattle.columns.specs.Columns.{column, valueFrom, valueAt}
+use lib.Seq.{drop-cons, drop-drop, take-at, drop-at, take-append-le}
+use Rattle.columns.specs.Columns.{column, valueFrom}
 use Rattle.columns.proofs.Laws.Bytes.{Each}
 use Rattle.columns.proofs.Laws.Columns.{ColumnAt, column-wide, column-length, column-narrow, value-column}
 use Rattle.lts.specs.Reading.{Line, missing, line, longer, firstLine}
-use Rattle.lts.proofs.Laws.Compare.{getD-any}
 
 abbrev pub NoEnd : ℕ → Type 0
 NoEnd b = b ≡ 10 → ⊥
@@ -50,9 +48,10 @@ pub column-front : (s : List ℕ) (at next v : ℕ) → at + 6 ≡ next → Colu
 column-front s at next v e r = sym (take-append-drop 6 (drop at s)) ∙ ap₂ (λ x y. x ++ y) (r .bytes) (drop-further s at 6 next e)
 
 pub column-back : (s : List ℕ) (at next v : ℕ) (m : List ℕ) → at + 6 ≡ next → v < 1000000 → drop at s ≡ column v ++ m → (take 6 (drop at s) ≡ column v) × (drop next s ≡ m)
-column-back s at next v m e k d =
-    (ap (take 6) d ∙ take-at (column v) m 6 (column-length v k),
-    sym (drop-further s at 6 next e) ∙ ap (drop 6) d ∙ drop-at (column v) m 6 (column-length v k))
+column-back s at next v m e k d = (
+  ap (take 6) d ∙ take-at (column v) m 6 (column-length v k),
+  sym (drop-further s at 6 next e) ∙ ap (drop 6) d ∙ drop-at (column v) m 6 (column-length v k),
+)
 
 pub byte-within : (s : List ℕ) (at b : ℕ) → b < 256 → getD s at 256 ≡ b → at < length s
 byte-within s at b k e = step (leb-or (length s) at)

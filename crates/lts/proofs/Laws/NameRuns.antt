@@ -1,12 +1,12 @@
 -- Laws of the bytes of a name at the start of a text.
-use mathlib.Core.Path.{_≡_, refl, sym, ap, ap₂, _∙_, subst}
+use mathlib.Core.Path.{_≡_, refl, sym, ap, ap₂, _∙_}
 use mathlib.Core.Logic.{_⊎_, inl, inr}
-use mathlib.Core.Bool.{Bool, true, false, cond, true≢false, false≢true, _&&_, _||_}
+use mathlib.Core.Bool.{Bool, true, false, cond, false≢true, _&&_, _||_}
 use mathlib.Core.List.{List, [], _∷_, _++_}
 use Prim.Native.Nat.{ℕ, zero, suc, _+_, _-_, _<_, _≤_}
 use native.Mathlib.Numerals.{add-one}
 use native.Mathlib.Omega.{arith}
-use borrow.Author.Tests.{leb-true, leb-false, eqb-true, eqb-false}
+use borrow.Author.Tests.{leb-true, eqb-true}
 use lib.Dec.{leb, eqb}
 use lib.ListN.{length, getD, take, drop, drop-of-length-le}
 use lib.Seq.{drop-cons}
@@ -69,7 +69,7 @@ module _ (s : List ℕ) (at : ℕ) where
     pub run-goes-on : n < 12 → at + n < length s → isNameByte (getD s (at + n) 0) ≡ true → NameSoFar s at (n + 1)
     run-goes-on h k e =
         let more : nameRun (12 - n) (drop (at + n) s) ≡ suc (nameRun (12 - (n + 1)) (drop (suc (at + n)) s)) =
-            run-opened h k ∙ ap (λ t. cond t (suc (nameRun (12 - (n + 1)) (drop (suc (at + n)) s))) 0) e in
+        run-opened h k ∙ ap (λ t. cond t (suc (nameRun (12 - (n + 1)) (drop (suc (at + n)) s))) 0) e in
         let place : suc (at + n) ≡ at + (n + 1) = omega arith in
         let moved : nameRun (12 - (n + 1)) (drop (suc (at + n)) s) ≡ nameRun (12 - (n + 1)) (drop (at + (n + 1)) s) = ap (λ p. nameRun (12 - (n + 1)) (drop p s)) place in
         record {

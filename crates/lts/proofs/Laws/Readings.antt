@@ -1,8 +1,8 @@
 -- Laws of the loops over labels and transitions: what is read so far, and what is left.
-use mathlib.Core.Path.{_≡_, refl, sym, ap, ap₂, _∙_, subst}
-use mathlib.Core.Bool.{Bool, true, false, not}
+use mathlib.Core.Path.{_≡_, refl, ap, _∙_}
+use mathlib.Core.Bool.{true}
 use mathlib.Core.List.{List, [], _∷_, _++_}
-use Prim.Native.Nat.{ℕ, zero, suc, _+_, _-_, _<_, _≤_}
+use Prim.Native.Nat.{ℕ, suc, _+_, _-_, _<_, _≤_}
 use native.Mathlib.Omega.{arith}
 use lib.ListN.{length, drop, replicate, length-replicate, length-append, length-drop, drop-of-length-le}
 use Rattle.lts.specs.Lists.{every}
@@ -12,8 +12,7 @@ use Rattle.lts.specs.Names.{isName}
 use Rattle.lts.specs.Reading.{Header, atEnd, readTransitions, readLabels}
 use Rattle.lts.specs.Lines.{Refuses, nameBytes, stepBytes, NameRead, NamesRead, StepRead, StepsRead, TransitionTurn, header}
 use Rattle.lts.specs.declared.reading.Counts.{Counts}
-use Rattle.lts.specs.declared.reading.Turn.{Turn}
-use Rattle.lts.specs.declared.reading.Turn.the-variants.{Next, Refused}
+use Rattle.lts.specs.declared.reading.Turn.the-variants.{Next}
 use Rattle.lts.specs.declared.TableReply.{TableReply}
 use Rattle.lts.specs.declared.TableReply.the-variants.{NotLaidOut}
 use Rattle.lts.proofs.Laws.SlotBytes.{names-snoc}

@@ -1,9 +1,9 @@
 -- Laws of the slots' bytes: one more slot is written behind the others, and the slots give back what they hold.
-use mathlib.Core.Path.{_≡_, refl, sym, ap, ap₂, _∙_, subst}
-use mathlib.Core.Bool.{Bool, true, false, _&&_}
+use mathlib.Core.Path.{_≡_, refl, sym, ap, ap₂, _∙_}
+use mathlib.Core.Bool.{true}
 use mathlib.Core.List.{List, [], _∷_, _++_, map, append-assoc, append-nil}
 use Prim.Native.Nat.{ℕ, zero, suc, _+_, _-_, _*_, _<_, _≤_}
-use native.Mathlib.Nat.{add-zero, zero-add, suc-add}
+use native.Mathlib.Nat.{add-zero, zero-add}
 use native.Mathlib.Omega.{arith}
 use lib.ListN.{length, getD, take, drop, replicate, length-append, length-replicate, replicate-append-replicate}
 use lib.Seq.{take-append-seam, drop-append-add, take-at, drop-at, drop-drop, getD-drop}
@@ -73,7 +73,7 @@ stored-from b j (n ∷ names) z e d =
     let here : drop (j * 16) b ≡ nameSlot n ++ (bind nameSlot names ++ z) = d ∙ append-assoc (nameSlot n) (bind nameSlot names) z in
     let next : j * 16 + 16 ≡ suc j * 16 = omega arith in
     let further : drop (suc j * 16) b ≡ bind nameSlot names ++ z =
-        ap (λ p. drop p b) (sym next) ∙ sym (drop-drop 16 (j * 16) b) ∙ ap (drop 16) here ∙ drop-at (nameSlot n) (bind nameSlot names ++ z) 16 (slot-length n (name-short n (f .0) .1)) in
+    ap (λ p. drop p b) (sym next) ∙ sym (drop-drop 16 (j * 16) b) ∙ ap (drop 16) here ∙ drop-at (nameSlot n) (bind nameSlot names ++ z) 16 (slot-length n (name-short n (f .0) .1)) in
     ap₂ (λ x y. x ∷ y) (stored-slot b j n (bind nameSlot names ++ z) here) (stored-from b (suc j) names z (f .1) further)
 
 pub names-stored : (names : List (List ℕ)) → every isName names ≡ true → storedNames (nameBytes names) (length names) ≡ names

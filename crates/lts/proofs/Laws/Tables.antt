@@ -1,15 +1,15 @@
 -- Laws of a whole reading: its header, and what the entry answers and leaves.
-use mathlib.Core.Path.{_≡_, refl, sym, ap, ap₂, _∙_, subst}
-use mathlib.Core.Bool.{Bool, true, false, not, _&&_}
-use mathlib.Core.List.{List, [], _∷_, _++_}
-use Prim.Native.Nat.{ℕ, zero, suc, _+_, _-_, _<_, _≤_}
+use mathlib.Core.Path.{_≡_, refl, sym, ap, _∙_}
+use mathlib.Core.Bool.{Bool, true, false, _&&_}
+use mathlib.Core.List.{List, [], _++_}
+use Prim.Native.Nat.{ℕ, _<_, _≤_}
 use native.Mathlib.Omega.{arith}
 use borrow.Author.Tests.{ltb-true, leb-true, le-leb, lt-leb}
 use lib.Dec.{leb, ltb}
 use lib.ListN.{length, drop}
-use Rattle.lts.specs.Reply.{Reply, accepted, refusal, unless, overwritten, leftIn, answers}
+use Rattle.lts.specs.Reply.{accepted, refusal, unless, overwritten, leftIn, answers}
 use Rattle.lts.specs.Steps.{Step, Table}
-use Rattle.lts.specs.Reading.{Header, line, firstLine, headerOf, headerLaidOut, headerInRange, readLabels, readTable}
+use Rattle.lts.specs.Reading.{Header, firstLine, headerOf, headerLaidOut, headerInRange, readLabels, readTable}
 use Rattle.lts.specs.Prepared.{tableLength, tableBytes}
 use Rattle.lts.specs.Replies.{tableReply, tableReading, tableReplied, tableLeft}
 use Rattle.lts.specs.Lines.{LineAt, NoLineAt, Refuses, nameBytes, stepBytes, headBytes}

@@ -1,20 +1,18 @@
 -- Laws of reading one more line: what the line says of the reading from there.
-use mathlib.Core.Path.{_≡_, refl, sym, ap, ap₂, _∙_, subst}
-use mathlib.Core.Bool.{Bool, true, false, cond, not, _&&_}
+use mathlib.Core.Path.{_≡_, refl, ap, _∙_}
+use mathlib.Core.Bool.{Bool, true, false, not, _&&_}
 use mathlib.Core.List.{List, [], _∷_, _++_}
-use Prim.Native.Nat.{ℕ, zero, suc, _+_, _-_, _<_, _≤_}
+use Prim.Native.Nat.{ℕ, suc, _+_, _<_, _≤_}
 use native.Mathlib.Omega.{arith}
 use borrow.Author.Tests.{eq-eqb, ne-eqb, ltb-true, leb-true}
 use lib.Dec.{eqb, ltb, leb}
 use lib.ListN.{length, drop}
 use Rattle.columns.specs.Columns.{valueAt}
-use Rattle.lts.specs.Reply.{Reply, accepted, refusal, unless}
+use Rattle.lts.specs.Reply.{Reply, refusal, unless}
 use Rattle.lts.specs.Steps.{Step, Table}
-use Rattle.lts.specs.Reading.{Header, Line, missing, line, firstLine, onLine, headerOf, headerLaidOut, headerInRange, labelLaidOut, used, stepOf, stepLaidOut, stepInRange, above, atEnd, readTransitions, readLabels, readTable}
-use Rattle.lts.specs.Replies.{tableReply}
+use Rattle.lts.specs.Reading.{Header, Line, missing, line, firstLine, onLine, labelLaidOut, used, stepOf, stepLaidOut, stepInRange, above, readTransitions, readLabels}
 use Rattle.lts.specs.Lines.{LineAt, NoLineAt, Refuses}
 use Rattle.lts.proofs.Lists.{and-true-of}
-use Rattle.lts.specs.declared.TableReply.{TableReply}
 use Rattle.lts.specs.declared.TableReply.the-variants.{NotLaidOut, OutOfRange, NameRepeated, NotRising}
 
 -- A line that is not laid out, and one that is.

@@ -1,12 +1,10 @@
 -- `below` answers `stepBelow`: from, then label, then to.
-use borrow.Author.Tests.{lt-ltb, le-ltb, le-leb, lt-leb, eq-eqb, ne-eqb, not-true, not-false}
-use mathlib.Core.Path.{_≡_, refl, sym, ap, _∙_, subst}
+use borrow.Author.Tests.{lt-ltb, le-ltb, eq-eqb, ne-eqb}
+use mathlib.Core.Path.{_≡_}
 use Prim.Native.Nat.{_<_}
 use native.Mathlib.Omega.{arith}
 use Rattle.lts.proofs.reading.below.Statement.{statement}
 use Rattle.lts.proofs.reading.below.Tie as tie
-use Rattle.lts.proofs.reading.below.Reads as reads
-use Rattle.lts.proofs.reading.below.Lts as lts
 
 returns : tie.Need-returns
 returns c = simp (lt-ltb _ _ (c .if1 .taken))

@@ -1,9 +1,7 @@
 -- `header_in_range` answers `headerInRange`.
-use borrow.Author.Tests.{lt-ltb, le-ltb, le-leb, lt-leb, eq-eqb, ne-eqb, not-true, not-false}
+use borrow.Author.Tests.{le-leb, lt-leb}
 use Rattle.lts.proofs.reading.header_in_range.Statement.{statement}
 use Rattle.lts.proofs.reading.header_in_range.Tie as tie
-use Rattle.lts.proofs.reading.header_in_range.Reads as reads
-use Rattle.lts.proofs.reading.header_in_range.Lts as lts
 
 returns : tie.Need-returns
 returns c = simp (lt-leb _ _ (c .if1 .taken))

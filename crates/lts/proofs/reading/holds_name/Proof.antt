@@ -1,7 +1,6 @@
 -- `holds_name` compares a name with the one in a slot.
 use borrow.Author.Needs.{needs}
-use mathlib.Core.Path.{_≡_, refl, sym, ap, _∙_, subst}
-use borrow.Author.Tests.{eqb-true, eqb-false, not-true, not-false}
+use mathlib.Core.Path.{_≡_, ap, _∙_}
 use native.Mathlib.Omega.{arith}
 use Prim.Native.Nat.{_+_, _-_, _*_}
 use lib.ListN.{getD, take, drop}
@@ -9,9 +8,6 @@ use Rattle.columns.specs.Bytes.{sameBytes}
 use Rattle.lts.proofs.Laws.Slots.{stored-differs}
 use Rattle.lts.proofs.reading.holds_name.Statement.{statement}
 use Rattle.lts.proofs.reading.holds_name.Tie as tie
-use Rattle.lts.proofs.reading.holds_name.Reads as reads
-use Rattle.lts.proofs.reading.holds_name.Lts as lts
-use Rattle.lts.proofs.reading.same_bytes.Reads as same-bytes-reads
 
 mul-n : tie.Need-mul-n
 mul-n c = search needs

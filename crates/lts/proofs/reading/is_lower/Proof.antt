@@ -1,9 +1,7 @@
 -- `is_lower` answers `isLower`.
-use borrow.Author.Tests.{lt-ltb, le-ltb, le-leb, lt-leb, eq-eqb, ne-eqb, not-true, not-false}
+use borrow.Author.Tests.{le-leb, lt-leb}
 use Rattle.lts.proofs.reading.is_lower.Statement.{statement}
 use Rattle.lts.proofs.reading.is_lower.Tie as tie
-use Rattle.lts.proofs.reading.is_lower.Reads as reads
-use Rattle.lts.proofs.reading.is_lower.Lts as lts
 
 returns : tie.Need-returns
 returns c = simp (lt-leb _ _ (c .if1 .taken))

@@ -1,12 +1,9 @@
 -- `is_name_byte` answers `isNameByte`.
 use borrow.Author.Needs.{needs}
-use borrow.Author.Tests.{lt-ltb, le-ltb, le-leb, lt-leb, eq-eqb, ne-eqb, not-true, not-false}
-use mathlib.Core.Path.{_≡_, refl, sym, ap, _∙_, subst}
+use borrow.Author.Tests.{le-leb, lt-leb, eq-eqb, ne-eqb}
+use mathlib.Core.Path.{sym, _∙_}
 use Rattle.lts.proofs.reading.is_name_byte.Statement.{statement}
 use Rattle.lts.proofs.reading.is_name_byte.Tie as tie
-use Rattle.lts.proofs.reading.is_name_byte.Reads as reads
-use Rattle.lts.proofs.reading.is_name_byte.Lts as lts
-use Rattle.lts.proofs.reading.is_lower.Reads as is-lower-reads
 
 is-lower-requires : tie.Need-is-lower-requires
 is-lower-requires c κs = search needs

@@ -1,6 +1,6 @@
 -- `label_line` says what line of a label stands at a place, or that none does.
 use borrow.Author.Needs.{needs}
-use mathlib.Core.Path.{_≡_, refl, sym, ap, _∙_, subst}
+use mathlib.Core.Path.{refl, sym, _∙_}
 use borrow.Author.Tests.{eqb-true, eqb-false, not-true, not-false}
 use Prim.Native.Nat.{_+_}
 use lib.ListN.{drop, length-drop}
@@ -11,11 +11,6 @@ use Rattle.lts.proofs.Laws.LabelLayout.{label-lies, no-label, run-of-na
 use Rattle.columns.proofs.Laws.Columns.{column-found, column-lacking}
 use Rattle.lts.proofs.reading.label_line.Statement.{statement}
 use Rattle.lts.proofs.reading.label_line.Tie as tie
-use Rattle.lts.proofs.reading.label_line.Reads as reads
-use Rattle.lts.proofs.reading.label_line.Lts as lts
-use Rattle.columns.proofs.read_column.Reads as read-column-reads
-use Rattle.lts.proofs.reading.name_length.Reads as name-length-reads
-use Rattle.lts.proofs.reading.stands.Reads as stands-reads
 
 read-column-requires : tie.Need-read-column-requires
 read-column-requires c κs = search needs

@@ -1,16 +1,12 @@
 -- `name_length` answers `nameLength`: the invariant is `NameSoFar`, what is left of the run.
-use borrow.Author.Tests.{lt-ltb, le-ltb, le-leb, lt-leb, eq-eqb, ne-eqb, not-true, not-false}
-use mathlib.Core.Path.{_≡_, refl, sym, ap, _∙_, subst}
+use borrow.Author.Tests.{not-true, not-false}
+use mathlib.Core.Path.{sym, _∙_}
 use Prim.Native.Nat.{_-_}
 use borrow.Author.Needs.{needs}
 use native.Mathlib.Omega.{arith}
 use Rattle.lts.proofs.Laws.NameRuns.{NameSoFar, no-text, no-letter, run-starts, run-at-end, run-stops, run-goes-on, run-full}
 use Rattle.lts.proofs.reading.name_length.Statement.{statement}
 use Rattle.lts.proofs.reading.name_length.Tie as tie
-use Rattle.lts.proofs.reading.name_length.Reads as reads
-use Rattle.lts.proofs.reading.name_length.Lts as lts
-use Rattle.lts.proofs.reading.is_lower.Reads as is-lower-reads
-use Rattle.lts.proofs.reading.is_name_byte.Reads as is-name-byte-reads
 
 abbrev Inv-loop : tie.InvT-loop
 Inv-loop text at n₀ n = NameSoFar text at n

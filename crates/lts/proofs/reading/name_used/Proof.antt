@@ -1,13 +1,10 @@
 -- `name_used` answers `used`: the invariant is `UsedFrom`, the slots that are left.
-use mathlib.Core.Path.{_≡_, refl, sym, ap, _∙_, subst}
+use mathlib.Core.Path.{sym, _∙_}
 use Prim.Native.Nat.{_-_}
 use native.Mathlib.Omega.{arith}
 use Rattle.lts.proofs.Laws.Slots.{UsedFrom, used-starts, used-found, used-goes-on, used-ends}
 use Rattle.lts.proofs.reading.name_used.Statement.{statement}
 use Rattle.lts.proofs.reading.name_used.Tie as tie
-use Rattle.lts.proofs.reading.name_used.Reads as reads
-use Rattle.lts.proofs.reading.name_used.Lts as lts
-use Rattle.lts.proofs.reading.holds_name.Reads as holds-name-reads
 
 abbrev Inv-loop : tie.InvT-loop
 Inv-loop names count name k₀ k = UsedFrom names count name k

@@ -1,6 +1,6 @@
 -- `read_label` says what one more line of a label makes of the reading, and keeps its name.
 use borrow.Author.Needs.{needs}
-use mathlib.Core.Path.{_≡_, refl, sym, ap, ap₂, _∙_, subst}
+use mathlib.Core.Path.{sym, ap, ap₂, _∙_, subst}
 use Prim.Native.Nat.{_+_, _-_, _*_}
 use lib.ListN.{take, drop, length-take}
 use native.Mathlib.Omega.{arith}
@@ -17,10 +17,6 @@ use Rattle.columns.specs.Bytes.{sameBytes}
 use Rattle.lts.proofs.reading.read_label.Statement.{statement}
 use Rattle.lts.proofs.reading.read_label.Tie as tie
 use Rattle.lts.proofs.reading.read_label.Reads as reads
-use Rattle.lts.proofs.reading.read_label.Lts as lts
-use Rattle.lts.proofs.reading.label_line.Reads as label-line-reads
-use Rattle.lts.proofs.reading.name_used.Reads as name-used-reads
-use Rattle.lts.proofs.reading.write_name.Reads as write-name-reads
 
 add-line : tie.Need-add-line
 add-line c = search needs

@@ -1,6 +1,6 @@
 -- `read_labels` reads every label: the invariant is `NamesSoFar`.
-use mathlib.Core.Path.{_≡_, refl, sym, ap, ap₂, _∙_, subst}
-use Prim.Native.Nat.{_+_, _-_, _*_}
+use mathlib.Core.Path.{_≡_, sym, ap, _∙_, subst}
+use Prim.Native.Nat.{_+_, _-_}
 use lib.ListN.{length}
 use borrow.Author.Needs.{needs}
 use native.Mathlib.Omega.{arith}
@@ -8,9 +8,6 @@ use Rattle.lts.proofs.Laws.Readings.{NamesSoFar, names-start, names-ref
 use Rattle.lts.specs.Lines.{header, LabelTurn, LabelsRead}
 use Rattle.lts.proofs.reading.read_labels.Statement.{statement}
 use Rattle.lts.proofs.reading.read_labels.Tie as tie
-use Rattle.lts.proofs.reading.read_labels.Reads as reads
-use Rattle.lts.proofs.reading.read_labels.Lts as lts
-use Rattle.lts.proofs.reading.read_label.Reads as read-label-reads
 
 abbrev Inv-loop : tie.InvT-loop
 Inv-loop text from counts names₀ at₀ count₀ names at count = NamesSoFar (header counts) text from names at count × (length names ≡ 640)
@@ -61,9 +58,10 @@ loop-again c =
     let l = c .before .before .before .before .before .before .before .before .before .loop in
     let d = c .before .before .before .before .before .read-label .last .1 .1 .0 in
     let r = l .inv .0 in
-    let f = subst (LabelTurn s (l .at) (l .count) (l .names) d) (c .before .turn .given .1) (c .before .before .before .before .before .read-label .ensures) in
-    (names-go-on h s (a .from) (l .names) (l .at) (l .count) r (c .before .before .before .before .before .before .before .if1 .taken) (c .before .turn .given .0 .0) d (f h (h .labels - (l .count + 1)) (r .names) (r .counts) (r .all-names) (r .kept)),
-    c .before .before .before .before .before .read-label .kept .1 .1 .0 ∙ l .inv .1)
+    let f = subst (LabelTurn s (l .at) (l .count) (l .names) d) (c .before .turn .given .1) (c .before .before .before .before .before .read-label .ensures) in (
+      names-go-on h s (a .from) (l .names) (l .at) (l .count) r (c .before .before .before .before .before .before .before .if1 .taken) (c .before .turn .given .0 .0) d (f h (h .labels - (l .count + 1)) (r .names) (r .counts) (r .all-names) (r .kept)),
+      c .before .before .before .before .before .read-label .kept .1 .1 .0 ∙ l .inv .1,
+    )
 
 same-length-2 : tie.Need-same-length-2 Inv-loop μ-loop
 same-length-2 c = c .before .before .loop .inv .1 ∙ sym (ap length (c .before .before .before .before .before .pre .1 .0))

@@ -1,7 +1,7 @@
 -- `read_table` answers `tableReplied` and leaves `tableLeft`.
 use borrow.Author.Needs.{needs}
-use mathlib.Core.Path.{_≡_, refl, sym, ap, ap₂, _∙_, subst}
-use borrow.Author.Tests.{eqb-true, eqb-false, not-true, not-false}
+use mathlib.Core.Path.{refl, sym, ap, ap₂, _∙_, subst}
+use borrow.Author.Tests.{not-true, not-false}
 use mathlib.Core.List.{_++_}
 use Rattle.lts.proofs.Laws.Tables.{header-refused, header-out-of-range, header-accepted, header-bounds, table-bytes, short-replies, refused-replies, accepted-replies}
 use Rattle.lts.proofs.Laws.Readings.{refuses-whole}
@@ -10,12 +10,6 @@ use Rattle.lts.specs.Reply.{overwritten}
 use Rattle.lts.proofs.reading.read_table.Statement.{statement}
 use Rattle.lts.proofs.reading.read_table.Tie as tie
 use Rattle.lts.proofs.reading.read_table.Reads as reads
-use Rattle.lts.proofs.reading.read_table.Lts as lts
-use Rattle.lts.proofs.reading.header_in_range.Reads as header-in-range-reads
-use Rattle.lts.proofs.reading.header_line.Reads as header-line-reads
-use Rattle.lts.proofs.reading.read_labels.Reads as read-labels-reads
-use Rattle.lts.proofs.reading.read_transitions.Reads as read-transitions-reads
-use Rattle.lts.proofs.reading.write_table.Reads as write-table-reads
 
 returns : tie.Need-returns
 returns c =
@@ -98,9 +92,10 @@ write-table-requires c κs =
     let b = c .before .before .before .before .before .before .before .before .before .before .before .before .before .before .before .before .before .before .before .before .before .before .before .args .table .now in
     let h = header (c .before .before .before .before .before .before .before .before .before .before .before .before .before .before .before .before .before .counts .given .0 .0) in
     let (l, lies, values) = subst (HeaderSays s) (c .before .before .before .before .before .before .before .before .before .before .before .before .before .before .before .before .before .counts .given .1) (c .before .before .before .before .before .before .before .before .before .before .before .before .before .before .before .before .before .before .before .header-line .ensures) in
-    let bounds = header-bounds h (sym (c .before .before .before .before .before .before .before .before .before .before .before .before .before .before .before .header-in-range .ensures) ∙ not-false _ (c .before .before .before .before .before .before .before .before .before .before .before .before .before .before .if2 .left)) in
-    ((c .before .before .before .before .before .before .before .before .before .before .before .before .before .before .before .before .before .before .before .before .if1 .left, (c .before .before .before .before .before .before .before .before .before .before .before .before .read-labels .kept .1 .1 .1 .0, c .before .before .before .before .before .before .read-transitions .kept .1 .1 .1 .0)),
-    (bounds .states, (bounds .labels, (bounds .transitions, bounds .start))))
+    let bounds = header-bounds h (sym (c .before .before .before .before .before .before .before .before .before .before .before .before .before .before .before .header-in-range .ensures) ∙ not-false _ (c .before .before .before .before .before .before .before .before .before .before .before .before .before .before .if2 .left)) in (
+      (c .before .before .before .before .before .before .before .before .before .before .before .before .before .before .before .before .before .before .before .before .if1 .left, (c .before .before .before .before .before .before .before .before .before .before .before .before .read-labels .kept .1 .1 .1 .0, c .before .before .before .before .before .before .read-transitions .kept .1 .1 .1 .0)),
+      (bounds .states, (bounds .labels, (bounds .transitions, bounds .start))),
+    )
 
 returns-4 : tie.Need-returns-4
 returns-4 c =

@@ -1,8 +1,8 @@
 -- `read_transition` says what one more line of a transition makes of the reading, and keeps it.
 use borrow.Author.Needs.{needs}
-use mathlib.Core.Path.{_≡_, refl, sym, ap, ap₂, _∙_, subst}
-use borrow.Author.Tests.{eqb-true, eqb-false, not-true, not-false}
-use Prim.Native.Nat.{_+_, _-_, _*_}
+use mathlib.Core.Path.{sym, ap, _∙_, subst}
+use borrow.Author.Tests.{not-true, not-false}
+use Prim.Native.Nat.{_+_, _*_}
 use native.Mathlib.Omega.{arith}
 use Rattle.lts.proofs.Laws.Turns.{transition-refused, transition-out-of-range, transition-not-rising, transition-accepted, in-range}
 use Rattle.lts.proofs.Laws.SlotBytes.{step-written, rises-stored}
@@ -11,11 +11,6 @@ use Rattle.lts.specs.Prepared.{transitionSlot}
 use Rattle.lts.proofs.reading.read_transition.Statement.{statement}
 use Rattle.lts.proofs.reading.read_transition.Tie as tie
 use Rattle.lts.proofs.reading.read_transition.Reads as reads
-use Rattle.lts.proofs.reading.read_transition.Lts as lts
-use Rattle.lts.proofs.reading.rises.Reads as rises-reads
-use Rattle.lts.proofs.reading.transition_in_range.Reads as transition-in-range-reads
-use Rattle.lts.proofs.reading.transition_line.Reads as transition-line-reads
-use Rattle.lts.proofs.reading.write_transition.Reads as write-transition-reads
 
 add-line : tie.Need-add-line
 add-line c = search needs

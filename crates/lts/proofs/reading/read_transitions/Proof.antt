@@ -1,6 +1,6 @@
 -- `read_transitions` reads every transition and the end of the text: the invariant is `InTurn`.
-use mathlib.Core.Path.{_≡_, refl, sym, ap, ap₂, _∙_, subst}
-use Prim.Native.Nat.{_+_, _-_, _*_}
+use mathlib.Core.Path.{_≡_, refl, sym, ap, _∙_, subst}
+use Prim.Native.Nat.{_+_, _-_}
 use lib.ListN.{length}
 use borrow.Author.Needs.{needs}
 use native.Mathlib.Omega.{arith}
@@ -8,9 +8,6 @@ use Rattle.lts.proofs.Laws.Readings.{steps-start, steps-refused, text-f
 use Rattle.lts.specs.Lines.{header, TransitionTurn, TransitionsRead}
 use Rattle.lts.proofs.reading.read_transitions.Statement.{statement}
 use Rattle.lts.proofs.reading.read_transitions.Tie as tie
-use Rattle.lts.proofs.reading.read_transitions.Reads as reads
-use Rattle.lts.proofs.reading.read_transitions.Lts as lts
-use Rattle.lts.proofs.reading.read_transition.Reads as read-transition-reads
 
 abbrev Inv-loop : tie.InvT-loop
 Inv-loop text from counts slots₀ at₀ count₀ slots at count = InTurn counts text from slots at count

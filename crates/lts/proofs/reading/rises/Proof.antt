@@ -1,15 +1,11 @@
 -- `rises` answers `risesAfter`.
 use borrow.Author.Needs.{needs}
-use borrow.Author.Tests.{lt-ltb, le-ltb, le-leb, lt-leb, eq-eqb, ne-eqb, not-true, not-false}
-use mathlib.Core.Path.{_≡_, refl, sym, ap, _∙_, subst}
+use mathlib.Core.Path.{_≡_, sym, ap, _∙_}
 use Prim.Native.Nat.{suc, _+_, _-_, _*_}
 use native.Mathlib.Omega.{arith}
 use Rattle.lts.specs.Lines.{risesAfter, step}
 use Rattle.lts.proofs.reading.rises.Statement.{statement}
 use Rattle.lts.proofs.reading.rises.Tie as tie
-use Rattle.lts.proofs.reading.rises.Reads as reads
-use Rattle.lts.proofs.reading.rises.Lts as lts
-use Rattle.lts.proofs.reading.below.Reads as below-reads
 
 returns : tie.Need-returns
 unfolding risesAfter

@@ -1,5 +1,5 @@
 -- `same_bytes` answers `sameBytes`: the invariant is `SameFrom`, what is left to compare.
-use mathlib.Core.Path.{_≡_, refl, sym, ap, _∙_, subst}
+use mathlib.Core.Path.{sym, ap}
 use Prim.Native.Nat.{_-_}
 use lib.ListN.{length}
 use native.Mathlib.Omega.{arith}
@@ -7,8 +7,6 @@ use Rattle.lts.proofs.Laws.Compare.{SameFrom, same-starts, same-stops, 
 use Rattle.columns.proofs.Laws.Bytes.{same-of-unequal}
 use Rattle.lts.proofs.reading.same_bytes.Statement.{statement}
 use Rattle.lts.proofs.reading.same_bytes.Tie as tie
-use Rattle.lts.proofs.reading.same_bytes.Reads as reads
-use Rattle.lts.proofs.reading.same_bytes.Lts as lts
 
 abbrev Inv-loop : tie.InvT-loop
 Inv-loop a b i₀ i = SameFrom a b i

@@ -1,15 +1,13 @@
 -- `stands` tells whether a byte stands at a place; past the text none does.
 use borrow.Author.Needs.{needs}
-use borrow.Author.Tests.{lt-ltb, le-ltb, le-leb, lt-leb, eq-eqb, ne-eqb, not-true, not-false}
-use mathlib.Core.Path.{_≡_, refl, sym, ap, _∙_, subst}
+use borrow.Author.Tests.{ne-eqb}
+use mathlib.Core.Path.{sym, ap, _∙_}
 use lib.Dec.{eqb}
 use lib.ListN.{getD, List·getD-eq-default}
 use native.Mathlib.Omega.{arith}
 use Rattle.lts.proofs.Laws.Compare.{getD-any}
 use Rattle.lts.proofs.reading.stands.Statement.{statement}
 use Rattle.lts.proofs.reading.stands.Tie as tie
-use Rattle.lts.proofs.reading.stands.Reads as reads
-use Rattle.lts.proofs.reading.stands.Lts as lts
 
 returns : tie.Need-returns
 returns c =

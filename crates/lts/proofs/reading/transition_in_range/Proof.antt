@@ -1,9 +1,7 @@
 -- `transition_in_range` answers `stepInRange`.
-use borrow.Author.Tests.{lt-ltb, le-ltb, le-leb, lt-leb, eq-eqb, ne-eqb, not-true, not-false}
+use borrow.Author.Tests.{lt-ltb, le-ltb, le-leb, lt-leb}
 use Rattle.lts.proofs.reading.transition_in_range.Statement.{statement}
 use Rattle.lts.proofs.reading.transition_in_range.Tie as tie
-use Rattle.lts.proofs.reading.transition_in_range.Reads as reads
-use Rattle.lts.proofs.reading.transition_in_range.Lts as lts
 
 returns : tie.Need-returns
 returns c = simp (le-ltb _ _ (c .if1 .taken))

@@ -1,16 +1,12 @@
 -- `transition_line` says what line of a transition stands at a place, or that none does.
 use borrow.Author.Needs.{needs}
-use mathlib.Core.Path.{_≡_, refl, sym, ap, _∙_, subst}
-use borrow.Author.Tests.{eqb-true, eqb-false, not-true, not-false}
+use mathlib.Core.Path.{sym, _∙_}
+use borrow.Author.Tests.{eqb-true, eqb-false}
 use Prim.Native.Nat.{_+_}
 use Rattle.lts.proofs.Laws.Layout.{transition-lies, no-transition}
 use Rattle.columns.proofs.Laws.Columns.{column-found, column-lacking}
 use Rattle.lts.proofs.reading.transition_line.Statement.{statement}
 use Rattle.lts.proofs.reading.transition_line.Tie as tie
-use Rattle.lts.proofs.reading.transition_line.Reads as reads
-use Rattle.lts.proofs.reading.transition_line.Lts as lts
-use Rattle.columns.proofs.read_column.Reads as read-column-reads
-use Rattle.lts.proofs.reading.stands.Reads as stands-reads
 
 read-column-requires : tie.Need-read-column-requires
 read-column-requires c κs = search needs

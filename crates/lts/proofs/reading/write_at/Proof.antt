@@ -1,5 +1,5 @@
 -- `write_at` leaves `written`: the invariant is that the first i bytes are pasted.
-use mathlib.Core.Path.{_≡_, refl, sym, ap, _∙_, subst}
+use mathlib.Core.Path.{_≡_, refl, sym, ap, _∙_}
 use Prim.Native.Nat.{_+_, _-_, _≤_}
 use native.Mathlib.Numerals.{add-one}
 use mathlib.Core.List.{_++_}
@@ -8,8 +8,6 @@ use lib.Seq.{paste, paste-zero, paste-suc, take-length}
 use native.Mathlib.Omega.{arith}
 use Rattle.lts.proofs.reading.write_at.Statement.{statement}
 use Rattle.lts.proofs.reading.write_at.Tie as tie
-use Rattle.lts.proofs.reading.write_at.Reads as reads
-use Rattle.lts.proofs.reading.write_at.Lts as lts
 
 abbrev Inv-loop : tie.InvT-loop
 Inv-loop bytes₀ at part i₀ bytes i = (bytes ≡ paste bytes₀ at part i) × (i ≤ length part) × (length bytes ≡ length bytes₀)
@@ -38,11 +36,12 @@ loop-less c = omega arith
 loop-again : tie.Need-loop-again Inv-loop μ-loop
 loop-again c =
     let a = c .before .before .before .args in
-    let l = c .before .before .loop in
-    (ap (λ b. set b (a .at + l .i) (getD (a .part .now) (l .i) 0)) (l .inv .0)
-    ∙ paste-suc (a .bytes .now) (a .at) (a .part .now) (l .i) 0 (omega arith) (omega arith) ∙ ap (paste (a .bytes .now) (a .at) (a .part .now)) (sym (add-one (l .i))),
-    omega arith,
-    length-set (l .bytes) (a .at + l .i) (getD (a .part .now) (l .i) 0) ∙ l .inv .2)
+    let l = c .before .before .loop in (
+      ap (λ b. set b (a .at + l .i) (getD (a .part .now) (l .i) 0)) (l .inv .0)
+          ∙ paste-suc (a .bytes .now) (a .at) (a .part .now) (l .i) 0 (omega arith) (omega arith) ∙ ap (paste (a .bytes .now) (a .at) (a .part .now)) (sym (add-one (l .i))),
+      omega arith,
+      length-set (l .bytes) (a .at + l .i) (getD (a .part .now) (l .i) 0) ∙ l .inv .2,
+    )
 
 same-length : tie.Need-same-length Inv-loop μ-loop
 same-length c = c .before .loop .inv .2

@@ -1,15 +1,12 @@
 -- `write_name` leaves a name with its length `written`.
 use borrow.Author.Needs.{needs}
-use mathlib.Core.Path.{_≡_, refl, sym, ap, _∙_, subst}
-use Prim.Native.Nat.{_+_, _*_}
+use mathlib.Core.Path.{_∙_}
+use Prim.Native.Nat.{_*_}
 use lib.ListN.{length-set}
 use native.Mathlib.Omega.{arith}
 use Rattle.lts.proofs.Laws.Slots.{written-more}
 use Rattle.lts.proofs.reading.write_name.Statement.{statement}
 use Rattle.lts.proofs.reading.write_name.Tie as tie
-use Rattle.lts.proofs.reading.write_name.Reads as reads
-use Rattle.lts.proofs.reading.write_name.Lts as lts
-use Rattle.lts.proofs.reading.write_at.Reads as write-at-reads
 
 mul-i : tie.Need-mul-i
 mul-i c = search needs

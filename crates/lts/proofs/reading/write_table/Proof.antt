@@ -1,15 +1,10 @@
 -- `write_table` leaves the head, the names and the transitions, one behind the other.
 use borrow.Author.Needs.{needs}
-use mathlib.Core.Path.{_≡_, refl, sym, ap, ap₂, _∙_, subst}
-use Prim.Native.Nat.{_+_, _-_, _*_}
-use lib.ListN.{length}
+use mathlib.Core.Path.{refl, ap, _∙_}
 use Rattle.lts.proofs.Laws.Slots.{table-written}
 use Rattle.lts.specs.Lines.{header, headBytes, written}
 use Rattle.lts.proofs.reading.write_table.Statement.{statement}
 use Rattle.lts.proofs.reading.write_table.Tie as tie
-use Rattle.lts.proofs.reading.write_table.Reads as reads
-use Rattle.lts.proofs.reading.write_table.Lts as lts
-use Rattle.lts.proofs.reading.write_at.Reads as write-at-reads
 
 cast-head : tie.Need-cast-head
 cast-head c = search needs

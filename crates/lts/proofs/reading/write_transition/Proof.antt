@@ -1,6 +1,6 @@
 -- `write_transition` leaves the slot of its transition `written`.
 use borrow.Author.Needs.{needs}
-use mathlib.Core.Path.{_≡_, refl, sym, ap, _∙_, subst}
+use mathlib.Core.Path.{_≡_}
 use Prim.Native.Nat.{suc, _+_, _*_}
 use mathlib.Core.List.{[], _∷_}
 use lib.ListN.{length-set}
@@ -8,8 +8,6 @@ use lib.Seq.{sets-eq}
 use native.Mathlib.Omega.{arith}
 use Rattle.lts.proofs.reading.write_transition.Statement.{statement}
 use Rattle.lts.proofs.reading.write_transition.Tie as tie
-use Rattle.lts.proofs.reading.write_transition.Reads as reads
-use Rattle.lts.proofs.reading.write_transition.Lts as lts
 
 mul-i : tie.Need-mul-i
 mul-i c = search needs
