@@ -1,4 +1,4 @@
 -- Laws that several proofs cite.
-pub mod Bytes
-pub mod Columns
+pub mod Compared
+pub mod ColumnsRead
 pub mod Scan

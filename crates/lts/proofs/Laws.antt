@@ -1,10 +1,10 @@
 -- Laws that several proofs cite.
 pub mod Compare
 pub mod NameRuns
-pub mod Lines
+pub mod LinesRead
 pub mod Layout
 pub mod LabelLayout
-pub mod Slots
+pub mod SlotsWritten
 pub mod SlotBytes
 pub mod Turns
 pub mod Readings

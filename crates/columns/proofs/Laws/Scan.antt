@@ -11,8 +11,8 @@ use lib.Seq.{take-suc, drop-cons, take-at, getD-at, getD-take, getD-drop, length
 use Rattle.columns.specs.Bytes.{sameBytes}
 use Rattle.columns.specs.Columns.{column, valueFrom, valueAt}
 use Rattle.columns.specs.Read.{lead}
-use Rattle.columns.proofs.Laws.Bytes.{same-of-equal, same-of-unequal}
-use Rattle.columns.proofs.Laws.Columns.{leads, leads-length, column-leads}
+use Rattle.columns.proofs.Laws.Compared.{same-of-equal, same-of-unequal}
+use Rattle.columns.proofs.Laws.ColumnsRead.{leads, leads-length, column-leads}
 
 -- The six bytes at a place.
 abbrev six : List ℕ → ℕ → List ℕ

@@ -3,7 +3,7 @@ use borrow.Author.Needs.{needs}
 use mathlib.Core.Path.{sym, _∙_}
 use mathlib.Core.Bool.{true, false}
 use native.Mathlib.Omega.{arith}
-use Rattle.columns.proofs.Laws.Columns.{column-outside, column-too-large, column-of-same}
+use Rattle.columns.proofs.Laws.ColumnsRead.{column-outside, column-too-large, column-of-same}
 use Rattle.columns.proofs.read_column.Statement.{statement}
 use Rattle.columns.proofs.read_column.Tie as tie
 

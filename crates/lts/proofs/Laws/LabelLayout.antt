@@ -8,14 +8,14 @@ use lib.ListN.{length, getD, take, drop, take-append-drop}
 use lib.Seq.{drop-at, length-take-le}
 use Rattle.columns.specs.Bytes.{sameBytes}
 use Rattle.columns.specs.Columns.{column, valueAt}
-use Rattle.columns.proofs.Laws.Bytes.{each-append, each-weaken, same-equal, same-of-equal}
-use Rattle.columns.proofs.Laws.Columns.{ColumnAt}
+use Rattle.columns.proofs.Laws.Compared.{each-append, each-weaken, same-equal, same-of-equal}
+use Rattle.columns.proofs.Laws.ColumnsRead.{ColumnAt}
 use Rattle.lts.specs.Names.{isName}
 use Rattle.lts.specs.Text.{labelLine}
 use Rattle.lts.specs.Reading.{firstLine, labelLaidOut}
 use Rattle.lts.specs.Lines.{NoLineAt, Labelled, nameLength}
 use Rattle.lts.proofs.Lists.{and-true-of, and-true-to}
-use Rattle.lts.proofs.Laws.Lines.{NoEnd, line-here, line-parts, drop-further, column-front, column-back, byte-within, byte-front, byte-back, column-peeled}
+use Rattle.lts.proofs.Laws.LinesRead.{NoEnd, line-here, line-parts, drop-further, column-front, column-back, byte-within, byte-front, byte-back, column-peeled}
 use Rattle.lts.proofs.Laws.NameRuns.{High, name-high, name-short, run-is-name, name-is-run}
 use Rattle.lts.proofs.Laws.Layout.{no-end, never, value-first, drop-later}
 

@@ -7,13 +7,13 @@ use native.Mathlib.Omega.{arith}
 use lib.ListN.{getD, take, drop}
 use lib.Seq.{drop-drop, take-at, take-all, drop-append-add}
 use Rattle.columns.specs.Columns.{column, valueFrom, valueAt}
-use Rattle.columns.proofs.Laws.Bytes.{Each, each-append, each-weaken, same-equal, same-of-equal}
-use Rattle.columns.proofs.Laws.Columns.{Figure, ColumnAt, column-figures, column-length, value-column}
+use Rattle.columns.proofs.Laws.Compared.{Each, each-append, each-weaken, same-equal, same-of-equal}
+use Rattle.columns.proofs.Laws.ColumnsRead.{Figure, ColumnAt, column-figures, column-length, value-column}
 use Rattle.lts.specs.Steps.{Step}
 use Rattle.lts.specs.Text.{headerLine, transitionLine}
 use Rattle.lts.specs.Reading.{Header, firstLine, headerOf, headerLaidOut, stepOf, stepLaidOut}
 use Rattle.lts.specs.Lines.{LineAt, NoLineAt}
-use Rattle.lts.proofs.Laws.Lines.{NoEnd, line-here, line-parts, column-front, column-back, byte-within, byte-front, byte-back, column-peeled}
+use Rattle.lts.proofs.Laws.LinesRead.{NoEnd, line-here, line-parts, column-front, column-back, byte-within, byte-front, byte-back, column-peeled}
 
 pub no-end : (v : ℕ) → Each NoEnd (column v)
 no-end v = each-weaken Figure NoEnd (λ b h e. omega arith) (column v) (column-figures v)

@@ -10,7 +10,7 @@ use borrow.Author.Tests.{leb-true, eqb-true}
 use lib.Dec.{leb, eqb}
 use lib.ListN.{length, getD, take, drop, drop-of-length-le}
 use lib.Seq.{drop-cons}
-use Rattle.columns.proofs.Laws.Bytes.{Each}
+use Rattle.columns.proofs.Laws.Compared.{Each}
 use Rattle.lts.specs.Names.{isLower, isNameByte, atMost, isName}
 use Rattle.lts.specs.Lines.{nameRun, nameLength}
 use Rattle.lts.proofs.Lists.{and-true-of, or-true-of}

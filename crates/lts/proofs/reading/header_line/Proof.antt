@@ -3,7 +3,7 @@ use borrow.Author.Needs.{needs}
 use mathlib.Core.Path.{sym, _∙_}
 use borrow.Author.Tests.{eqb-true, eqb-false}
 use Rattle.lts.proofs.Laws.Layout.{header-lies, no-header}
-use Rattle.columns.proofs.Laws.Columns.{column-found, column-lacking}
+use Rattle.columns.proofs.Laws.ColumnsRead.{column-found, column-lacking}
 use Rattle.lts.proofs.reading.header_line.Statement.{statement}
 use Rattle.lts.proofs.reading.header_line.Tie as tie
 

@@ -5,7 +5,7 @@ use native.Mathlib.Omega.{arith}
 use Prim.Native.Nat.{_+_, _-_, _*_}
 use lib.ListN.{getD, take, drop}
 use Rattle.columns.specs.Bytes.{sameBytes}
-use Rattle.lts.proofs.Laws.Slots.{stored-differs}
+use Rattle.lts.proofs.Laws.SlotsWritten.{stored-differs}
 use Rattle.lts.proofs.reading.holds_name.Statement.{statement}
 use Rattle.lts.proofs.reading.holds_name.Tie as tie
 

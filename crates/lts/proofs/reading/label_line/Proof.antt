@@ -6,9 +6,9 @@ use Prim.Native.Nat.{_+_}
 use lib.ListN.{drop, length-drop}
 use native.Mathlib.Omega.{arith}
 use Rattle.lts.proofs.Laws.NameRuns.{run-is-name}
-use Rattle.lts.proofs.Laws.Lines.{byte-within}
+use Rattle.lts.proofs.Laws.LinesRead.{byte-within}
 use Rattle.lts.proofs.Laws.LabelLayout.{label-lies, no-label, run-of-name}
-use Rattle.columns.proofs.Laws.Columns.{column-found, column-lacking}
+use Rattle.columns.proofs.Laws.ColumnsRead.{column-found, column-lacking}
 use Rattle.lts.proofs.reading.label_line.Statement.{statement}
 use Rattle.lts.proofs.reading.label_line.Tie as tie
 

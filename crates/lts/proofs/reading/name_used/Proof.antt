@@ -2,7 +2,7 @@
 use mathlib.Core.Path.{sym, _∙_}
 use Prim.Native.Nat.{_-_}
 use native.Mathlib.Omega.{arith}
-use Rattle.lts.proofs.Laws.Slots.{UsedFrom, used-starts, used-found, used-goes-on, used-ends}
+use Rattle.lts.proofs.Laws.SlotsWritten.{UsedFrom, used-starts, used-found, used-goes-on, used-ends}
 use Rattle.lts.proofs.reading.name_used.Statement.{statement}
 use Rattle.lts.proofs.reading.name_used.Tie as tie
 

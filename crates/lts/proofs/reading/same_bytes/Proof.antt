@@ -4,7 +4,7 @@ use Prim.Native.Nat.{_-_}
 use lib.ListN.{length}
 use native.Mathlib.Omega.{arith}
 use Rattle.lts.proofs.Laws.Compare.{SameFrom, same-starts, same-stops, same-goes-on, same-ends}
-use Rattle.columns.proofs.Laws.Bytes.{same-of-unequal}
+use Rattle.columns.proofs.Laws.Compared.{same-of-unequal}
 use Rattle.lts.proofs.reading.same_bytes.Statement.{statement}
 use Rattle.lts.proofs.reading.same_bytes.Tie as tie
 

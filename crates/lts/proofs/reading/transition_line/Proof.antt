@@ -4,7 +4,7 @@ use mathlib.Core.Path.{sym, _∙_}
 use borrow.Author.Tests.{eqb-true, eqb-false}
 use Prim.Native.Nat.{_+_}
 use Rattle.lts.proofs.Laws.Layout.{transition-lies, no-transition}
-use Rattle.columns.proofs.Laws.Columns.{column-found, column-lacking}
+use Rattle.columns.proofs.Laws.ColumnsRead.{column-found, column-lacking}
 use Rattle.lts.proofs.reading.transition_line.Statement.{statement}
 use Rattle.lts.proofs.reading.transition_line.Tie as tie
 

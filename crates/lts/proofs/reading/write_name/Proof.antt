@@ -4,7 +4,7 @@ use mathlib.Core.Path.{_∙_}
 use Prim.Native.Nat.{_*_}
 use lib.ListN.{length-set}
 use native.Mathlib.Omega.{arith}
-use Rattle.lts.proofs.Laws.Slots.{written-more}
+use Rattle.lts.proofs.Laws.SlotsWritten.{written-more}
 use Rattle.lts.proofs.reading.write_name.Statement.{statement}
 use Rattle.lts.proofs.reading.write_name.Tie as tie
 

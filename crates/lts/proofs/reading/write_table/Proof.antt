@@ -1,7 +1,7 @@
 -- `write_table` leaves the head, the names and the transitions, one behind the other.
 use borrow.Author.Needs.{needs}
 use mathlib.Core.Path.{refl, ap, _∙_}
-use Rattle.lts.proofs.Laws.Slots.{table-written}
+use Rattle.lts.proofs.Laws.SlotsWritten.{table-written}
 use Rattle.lts.specs.Lines.{header, headBytes, written}
 use Rattle.lts.proofs.reading.write_table.Statement.{statement}
 use Rattle.lts.proofs.reading.write_table.Tie as tie

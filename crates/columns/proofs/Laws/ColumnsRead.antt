@@ -14,7 +14,7 @@ use Rattle.columns.specs.Bytes.{sameBytes}
 use Rattle.columns.specs.Columns.{digitsWithin, decimal, column, valueFrom, valueAt}
 use Rattle.columns.specs.Read.{columnAt, columnIf, lead}
 use Rattle.columns.specs.declared.Column.the-variants.{Number, Bad}
-use Rattle.columns.proofs.Laws.Bytes.{same-equal, same-of-unequal, unequal-of-same, Each, each-append, each-take}
+use Rattle.columns.proofs.Laws.Compared.{same-equal, same-of-unequal, unequal-of-same, Each, each-append, each-take}
 
 -- A byte of a column: a blank or a digit.
 abbrev pub Figure : ℕ → Type 0

@@ -8,7 +8,7 @@ use native.Mathlib.Omega.{arith}
 use lib.ListN.{length, getD, set, take, drop, length-append, length-take, length-drop}
 use lib.Seq.{take-suc-set, drop-set-lt, append-snoc, take-at, drop-append-add, drop-drop}
 use Rattle.columns.specs.Bytes.{sameBytes}
-use Rattle.columns.proofs.Laws.Bytes.{same-of-unequal}
+use Rattle.columns.proofs.Laws.Compared.{same-of-unequal}
 use Rattle.lts.specs.Reply.{overwritten}
 use Rattle.lts.specs.Lists.{upFrom}
 use Rattle.lts.specs.Reading.{used}

@@ -11,8 +11,8 @@ use lib.Dec.{eqb}
 use lib.ListN.{length, getD, take, drop, take-append-drop, length-drop, List·getD-eq-default}
 use lib.Seq.{drop-cons, drop-drop, take-at, drop-at, take-append-le}
 use Rattle.columns.specs.Columns.{column, valueFrom}
-use Rattle.columns.proofs.Laws.Bytes.{Each}
-use Rattle.columns.proofs.Laws.Columns.{ColumnAt, column-wide, column-length, column-narrow, value-column}
+use Rattle.columns.proofs.Laws.Compared.{Each}
+use Rattle.columns.proofs.Laws.ColumnsRead.{ColumnAt, column-wide, column-length, column-narrow, value-column}
 use Rattle.lts.specs.Reading.{Line, missing, line, longer, firstLine}
 
 abbrev pub NoEnd : ℕ → Type 0
