@@ -5,3 +5,7 @@ pub mod Figures
 pub mod Copying
 pub mod Pasting
 pub mod Decimal
+-- Laws that several proofs cite.
+pub mod Compared
+pub mod ColumnsRead
+pub mod Scan

@@ -2,3 +2,4 @@ pub mod Lists
 pub mod Steps
 pub mod Laws
 pub mod Examples
+pub mod Laws
