@@ -2,4 +2,3 @@ pub mod Lists
 pub mod Steps
 pub mod Laws
 pub mod Examples
-pub mod Laws
