@@ -11,7 +11,7 @@ use automaton::WordReply;
 use labelling::VerdictReply;
 use lts::TableReply;
 
-fn table_number(reply: TableReply) -> u32
+pub fn table_number(reply: TableReply) -> u32
     ensures { λ r. ⌜ r ≡ numberIn (tableReply reply) ⌝ }
 {
     match reply {
@@ -24,7 +24,7 @@ fn table_number(reply: TableReply) -> u32
     }
 }
 
-fn table_figure(reply: TableReply) -> u64
+pub fn table_figure(reply: TableReply) -> u64
     ensures { λ r. ⌜ r ≡ figureIn (λ _. 0) (tableReply reply) ⌝ }
 {
     match reply {
@@ -37,7 +37,7 @@ fn table_figure(reply: TableReply) -> u64
     }
 }
 
-fn formula_number(reply: FormulaReply) -> u32
+pub fn formula_number(reply: FormulaReply) -> u32
     ensures { λ r. ⌜ r ≡ numberIn (formulaReply reply) ⌝ }
 {
     match reply {
@@ -52,7 +52,7 @@ fn formula_number(reply: FormulaReply) -> u32
     }
 }
 
-fn formula_figure(reply: FormulaReply) -> u64
+pub fn formula_figure(reply: FormulaReply) -> u64
     ensures { λ r. ⌜ r ≡ figureIn (λ _. 0) (formulaReply reply) ⌝ }
 {
     match reply {
@@ -67,7 +67,7 @@ fn formula_figure(reply: FormulaReply) -> u64
     }
 }
 
-fn verdict_number(reply: VerdictReply) -> u32
+pub fn verdict_number(reply: VerdictReply) -> u32
     ensures { λ r. ⌜ r ≡ numberIn (verdictReply reply) ⌝ }
 {
     match reply {
@@ -79,7 +79,7 @@ fn verdict_number(reply: VerdictReply) -> u32
     }
 }
 
-fn verdict_figure(reply: VerdictReply) -> u64
+pub fn verdict_figure(reply: VerdictReply) -> u64
     ensures { λ r. ⌜ r ≡ figureIn (λ holds. holds) (verdictReply reply) ⌝ }
 {
     match reply {
@@ -91,7 +91,7 @@ fn verdict_figure(reply: VerdictReply) -> u64
     }
 }
 
-fn build_number(reply: BuildReply) -> u32
+pub fn build_number(reply: BuildReply) -> u32
     ensures { λ r. ⌜ r ≡ numberIn (buildReply reply) ⌝ }
 {
     match reply {
@@ -104,7 +104,7 @@ fn build_number(reply: BuildReply) -> u32
     }
 }
 
-fn build_figure(reply: BuildReply) -> u64
+pub fn build_figure(reply: BuildReply) -> u64
     ensures { λ r. ⌜ r ≡ figureIn (λ counts. counts .rows) (buildReply reply) ⌝ }
 {
     match reply {
@@ -117,7 +117,7 @@ fn build_figure(reply: BuildReply) -> u64
     }
 }
 
-fn word_number(reply: WordReply) -> u32
+pub fn word_number(reply: WordReply) -> u32
     ensures { λ r. ⌜ r ≡ numberIn (wordReply reply) ⌝ }
 {
     match reply {
@@ -130,7 +130,7 @@ fn word_number(reply: WordReply) -> u32
     }
 }
 
-fn word_figure(reply: WordReply) -> u64
+pub fn word_figure(reply: WordReply) -> u64
     ensures { λ r. ⌜ r ≡ figureIn (λ accepted. accepted) (wordReply reply) ⌝ }
 {
     match reply {

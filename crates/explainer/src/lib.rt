@@ -1,4 +1,5 @@
 // What integrators call: the entries together.
+pub mod exports;
 mod interface;
 pub mod print;
 
