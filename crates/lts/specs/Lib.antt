@@ -8,3 +8,5 @@ pub mod Reading
 pub mod Prepared
 pub mod Replies
 pub mod Lines
+pub mod Slots
+pub mod Turns
