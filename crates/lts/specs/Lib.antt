@@ -10,3 +10,5 @@ pub mod Replies
 pub mod Access
 pub mod Check
 pub mod Lines
+pub mod Slots
+pub mod Turns

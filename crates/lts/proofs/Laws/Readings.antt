@@ -10,7 +10,9 @@ use Rattle.lts.specs.Reply.{Reply, accepted, refusal}
 use Rattle.lts.specs.Steps.{Step, Table}
 use Rattle.lts.specs.Names.{isName}
 use Rattle.lts.specs.Reading.{Header, atEnd, readTransitions, readLabels}
-use Rattle.lts.specs.Lines.{Refuses, nameBytes, stepBytes, NameRead, NamesRead, StepRead, StepsRead, TransitionTurn, header}
+use Rattle.lts.specs.Slots.{nameBytes, stepBytes}
+use Rattle.lts.specs.Lines.{header}
+use Rattle.lts.specs.Turns.{Refuses, NameRead, NamesRead, StepRead, StepsRead, TransitionTurn}
 use Rattle.lts.specs.declared.reading.Counts.{Counts}
 use Rattle.lts.specs.declared.reading.Turn.the-variants.{Next}
 use Rattle.lts.specs.declared.TableReply.{TableReply}

@@ -13,7 +13,7 @@ use Rattle.lts.specs.Steps.{Step}
 use Rattle.lts.specs.Names.{isName}
 use Rattle.lts.specs.Reading.{used, stepBelow, above}
 use Rattle.lts.specs.Prepared.{nameSlot, transitionSlot}
-use Rattle.lts.specs.Lines.{written, counted, storedName, storedNames, storedStep, risesAfter, nameBytes, stepBytes}
+use Rattle.lts.specs.Slots.{written, counted, storedName, storedNames, storedStep, risesAfter, nameBytes, stepBytes}
 use Rattle.lts.proofs.Lists.{and-true-of, and-true-to, bind-append}
 use Rattle.lts.proofs.Laws.NameRuns.{name-short}
 

@@ -12,7 +12,7 @@ use Rattle.columns.proofs.Laws.Compared.{same-of-unequal}
 use Rattle.lts.specs.Reply.{overwritten}
 use Rattle.lts.specs.Lists.{upFrom}
 use Rattle.lts.specs.Reading.{used}
-use Rattle.lts.specs.Lines.{written, storedName, storedNames}
+use Rattle.lts.specs.Slots.{written, storedName, storedNames}
 
 pub written-more : (l : List ℕ) (i n : ℕ) (vs : List ℕ) → i < length l → written (set l i n) (i + 1) vs ≡ written l i (n ∷ vs)
 written-more l i n vs h =

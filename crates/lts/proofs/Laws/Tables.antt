@@ -12,7 +12,9 @@ use Rattle.lts.specs.Steps.{Step, Table}
 use Rattle.lts.specs.Reading.{Header, firstLine, headerOf, headerLaidOut, headerInRange, readLabels, readTable}
 use Rattle.lts.specs.Prepared.{tableLength, tableBytes}
 use Rattle.lts.specs.Replies.{tableReply, tableReading, tableReplied, tableLeft}
-use Rattle.lts.specs.Lines.{LineAt, NoLineAt, Refuses, nameBytes, stepBytes, headBytes}
+use Rattle.lts.specs.Slots.{nameBytes, stepBytes, headBytes}
+use Rattle.lts.specs.Lines.{LineAt, NoLineAt}
+use Rattle.lts.specs.Turns.{Refuses}
 use Rattle.lts.specs.declared.TableReply.{TableReply}
 use Rattle.lts.specs.declared.TableReply.the-variants.{NotLaidOut, OutOfRange}
 use Rattle.lts.proofs.Lists.{and-true-of}

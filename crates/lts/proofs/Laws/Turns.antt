@@ -11,7 +11,8 @@ use Rattle.columns.specs.Columns.{valueAt}
 use Rattle.lts.specs.Reply.{Reply, refusal, unless}
 use Rattle.lts.specs.Steps.{Step, Table}
 use Rattle.lts.specs.Reading.{Header, Line, missing, line, firstLine, onLine, labelLaidOut, used, stepOf, stepLaidOut, stepInRange, above, readTransitions, readLabels}
-use Rattle.lts.specs.Lines.{LineAt, NoLineAt, Refuses}
+use Rattle.lts.specs.Lines.{LineAt, NoLineAt}
+use Rattle.lts.specs.Turns.{Refuses}
 use Rattle.lts.proofs.Lists.{and-true-of}
 use Rattle.lts.specs.declared.TableReply.the-variants.{NotLaidOut, OutOfRange, NameRepeated, NotRising}
 

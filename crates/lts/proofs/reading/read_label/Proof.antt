@@ -8,7 +8,8 @@ use Rattle.lts.proofs.Laws.Turns.{label-refused, label-out-of-turn, lab
 use Rattle.lts.proofs.Laws.SlotBytes.{name-written, used-stored}
 use Rattle.lts.proofs.Laws.NameRuns.{name-short}
 use Rattle.lts.proofs.Lists.{and-true-of}
-use Rattle.lts.specs.Lines.{LabelSays, written, counted}
+use Rattle.lts.specs.Slots.{written, counted}
+use Rattle.lts.specs.Lines.{LabelSays}
 use Rattle.lts.specs.Reading.{used}
 use Rattle.lts.specs.Text.{labelLine}
 use Rattle.lts.specs.Names.{isName}

@@ -5,7 +5,9 @@ use borrow.Author.Tests.{not-true, not-false}
 use mathlib.Core.List.{_++_}
 use Rattle.lts.proofs.Laws.Tables.{header-refused, header-out-of-range, header-accepted, header-bounds, table-bytes, short-replies, refused-replies, accepted-replies}
 use Rattle.lts.proofs.Laws.Readings.{refuses-whole}
-use Rattle.lts.specs.Lines.{header, headBytes, HeaderSays, LabelsRead, TransitionsRead}
+use Rattle.lts.specs.Slots.{headBytes}
+use Rattle.lts.specs.Lines.{header, HeaderSays}
+use Rattle.lts.specs.Turns.{LabelsRead, TransitionsRead}
 use Rattle.lts.specs.Reply.{overwritten}
 use Rattle.lts.proofs.reading.read_table.Statement.{statement}
 use Rattle.lts.proofs.reading.read_table.Tie as tie

@@ -6,7 +6,8 @@ use Prim.Native.Nat.{_+_, _*_}
 use native.Mathlib.Omega.{arith}
 use Rattle.lts.proofs.Laws.Turns.{transition-refused, transition-out-of-range, transition-not-rising, transition-accepted, in-range}
 use Rattle.lts.proofs.Laws.SlotBytes.{step-written, rises-stored}
-use Rattle.lts.specs.Lines.{TransitionSays, written, header, step}
+use Rattle.lts.specs.Slots.{written}
+use Rattle.lts.specs.Lines.{TransitionSays, header, step}
 use Rattle.lts.specs.Prepared.{transitionSlot}
 use Rattle.lts.proofs.reading.read_transition.Statement.{statement}
 use Rattle.lts.proofs.reading.read_transition.Tie as tie

@@ -5,7 +5,8 @@ use lib.ListN.{length}
 use borrow.Author.Needs.{needs}
 use native.Mathlib.Omega.{arith}
 use Rattle.lts.proofs.Laws.Readings.{steps-start, steps-refused, text-follows, steps-end, InTurn, turn-taken}
-use Rattle.lts.specs.Lines.{header, TransitionTurn, TransitionsRead}
+use Rattle.lts.specs.Lines.{header}
+use Rattle.lts.specs.Turns.{TransitionTurn, TransitionsRead}
 use Rattle.lts.proofs.reading.read_transitions.Statement.{statement}
 use Rattle.lts.proofs.reading.read_transitions.Tie as tie
 

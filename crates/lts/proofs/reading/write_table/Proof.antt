@@ -2,7 +2,8 @@
 use borrow.Author.Needs.{needs}
 use mathlib.Core.Path.{refl, ap, _∙_}
 use Rattle.lts.proofs.Laws.SlotsWritten.{table-written}
-use Rattle.lts.specs.Lines.{header, headBytes, written}
+use Rattle.lts.specs.Slots.{headBytes, written}
+use Rattle.lts.specs.Lines.{header}
 use Rattle.lts.proofs.reading.write_table.Statement.{statement}
 use Rattle.lts.proofs.reading.write_table.Tie as tie
 
