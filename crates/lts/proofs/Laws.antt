@@ -27,3 +27,4 @@ pub mod SlotBytes
 pub mod Turns
 pub mod Readings
 pub mod Tables
+pub mod Bounded
