@@ -11,3 +11,8 @@ pub mod Slots
 pub mod TableBytes
 pub mod Prepared
 pub mod Names
+pub mod Decides
+pub mod Spelling
+pub mod Filled
+pub mod WellFormed
+pub mod Held

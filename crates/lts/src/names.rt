@@ -1,17 +1,35 @@
-// The names in a prepared table: comparing one, copying one out, and looking a label up by its name.
+// Names: their bytes, and those in a prepared table: comparing one, copying one out, and looking a label up by its name.
 use crate::prepared::byte;
 use crate::prepared::label_count;
 ghost use mathlib.Core.Path.{_≡_};
 ghost use Prim.Native.Nat.{_+_, _*_, _≤_, _<_};
 ghost use lib.ListN.{length, take};
 ghost use Rattle.lts.specs.Steps.{labels};
-ghost use Rattle.lts.specs.Names.{lookup};
+ghost use Rattle.lts.specs.Names.{isLower, isNameByte, lookup};
 ghost use Rattle.lts.specs.Prepared.{tableLength, tableIn, byteAt, nameAt};
 ghost use Rattle.lts.specs.Access.{Decides, foundIn};
 
 pub enum Found {
     At(usize),
     Nothing,
+}
+
+pub fn is_lower(b: usize) -> bool
+    ensures { λ r. ⌜ r ≡ isLower b ⌝ }
+{
+    97 <= b && b <= 122
+}
+
+pub fn is_name_byte(b: usize) -> bool
+    ensures { λ r. ⌜ r ≡ isNameByte b ⌝ }
+{
+    if is_lower(b) {
+        return true;
+    }
+    if b == 95 {
+        return true;
+    }
+    48 <= b && b <= 57
 }
 
 // Whether the name in slot k is the first `len` bytes of `name`.

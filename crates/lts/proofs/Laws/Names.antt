@@ -1,6 +1,6 @@
 -- Names in slots, byte by byte; and looking a name up, by the names before it.
 use mathlib.Core.Path.{_≡_, refl, sym, ap, ap₂, _∙_, subst}
-use mathlib.Core.Bool.{Bool, true, false, cond}
+use mathlib.Core.Bool.{Bool, true, false, false≢true, cond}
 use mathlib.Core.List.{List, [], _∷_, _++_}
 use mathlib.Core.Option.{Option, none, some}
 use Prim.Native.Nat.{ℕ, zero, suc, _+_, _-_, _*_, _≤_, _<_}
@@ -12,7 +12,6 @@ use Rattle.columns.specs.Bytes.{sameBytes}
 use Rattle.columns.proofs.Laws.Bytes.{same-of, same-to}
 use Rattle.lts.specs.Names.{findFrom, lookup}
 use Rattle.lts.specs.Prepared.{tableLength, byteAt, nameAt}
-use Rattle.lts.proofs.Lists.{not-false}
 
 -- Beginnings of one length.
 pub prefix-same : (n : ℕ) (a c : List ℕ) → n ≤ length a → n ≤ length c → ((i : ℕ) → i < n → getD a i 0 ≡ getD c i 0) → take n a ≡ take n c
@@ -72,3 +71,18 @@ lookup-at j names name h e d = found-from 1 j names name h e d ∙ ap some (omeg
 
 pub lookup-nowhere : (names : List (List ℕ)) (name : List ℕ) → ((i : ℕ) → i < length names → getD names i [] ≡ name → ⊥) → lookup names name ≡ none
 lookup-nowhere names name d = found-nowhere 1 names name d
+
+-- What is found is the first of its name.
+found-first : (k m : ℕ) (names : List (List ℕ)) (name : List ℕ) → findFrom k names name ≡ some m → (i : ℕ) → k + i < m → i < length names → getD names i [] ≡ name → ⊥
+unfolding findFrom
+found-first k m [] name e i h l d = omega arith
+found-first k m (x ∷ l) name e i h b d = step (sameBytes x name) refl e i h b d (found-first (suc k) m l name)
+  where
+    step : (t : Bool) → sameBytes x name ≡ t → cond t (some k) (findFrom (suc k) l name) ≡ some m → (i : ℕ) → k + i < m → i < suc (length l) → getD (x ∷ l) i [] ≡ name
+        → (findFrom (suc k) l name ≡ some m → (i : ℕ) → suc k + i < m → i < length l → getD l i [] ≡ name → ⊥) → ⊥
+    step true z f i h b d g = let q : k ≡ m = cc in omega arith
+    step false z f zero h b d g = false≢true (sym z ∙ same-to x name d)
+    step false z f (suc i) h b d g = g f i (omega arith) (omega arith) d
+
+pub lookup-first : (k : ℕ) (names : List (List ℕ)) (name : List ℕ) → lookup names name ≡ some (suc k) → (i : ℕ) → i < k → i < length names → getD names i [] ≡ name → ⊥
+lookup-first k names name e i h l d = found-first 1 (suc k) names name e i (omega arith) l d
