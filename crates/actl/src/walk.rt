@@ -1,11 +1,11 @@
 // Walking a formula's nodes for numbering and classes: over their kinds in node order, from a node into its arms.
 use crate::node::node_count;
 ghost use mathlib.Core.Path.{_≡_};
-ghost use mathlib.Core.List.{map};
+ghost use mathlib.Core.Option.{none};
 ghost use Prim.Native.Nat.{ℕ, _+_, _*_, _<_, _≤_};
 ghost use lib.ListN.{length, getD, set, take};
-ghost use Rattle.actl.specs.Formulas.{Formula, classOfOr, highestWithoutClass};
-ghost use Rattle.actl.specs.Walk.{classFrom, classOfArm, kindAt, kindsIn, Walks, kindsOf, classlessNode, IsShape};
+ghost use Rattle.actl.specs.Formulas.{classOfOr};
+ghost use Rattle.actl.specs.Walk.{classFrom, classOfArm, kindAt, kindsIn, Walks, classlessNode, lastNone, IsHighest, IsShape};
 
 // 01: "The class of a node follows from this table": four for each kind, by the arm's class, the last for the node T. Zero is no class.
 const CLASSES: [u8; 40] = [
@@ -137,6 +137,36 @@ fn walk(kinds: &[u8], k: usize, ends: &mut [u8], classes: &mut [u8]) -> Walked
     let class = class_of_or(left, right);
     note(ends, classes, k, end, class);
     Walked::Node(end, class)
+}
+
+// The last of the classes that is none.
+fn last_none(classes: &[u8]) -> Classless
+    ensures { λ r. ⌜ classlessNode r ≡ lastNone 0 (now (classes .entry)) none ⌝ }
+{
+    let mut found = classes.len();
+    let mut k = 0;
+    while k < classes.len() {
+        if classes[k] == 0 {
+            found = k;
+        }
+        k += 1;
+    }
+    if found == classes.len() {
+        return Classless::Nowhere;
+    }
+    Classless::At(found)
+}
+
+// 01: "a node without class": "the highest-numbered one". Of a formula, by the kinds of its nodes.
+pub fn highest_classless(kinds: &[u8]) -> Classless
+    requires { ⌜ length (now kinds) ≤ 40 ⌝ }
+    ensures { λ r. ⌜ IsHighest r (now (kinds .entry)) ⌝ }
+{
+    let mut ends = [0u8; 40];
+    let mut classes = [0u8; 40];
+    walk(kinds, 0, &mut ends, &mut classes);
+    let count = kinds.len();
+    last_none(&classes[..count])
 }
 
 // The kinds of a prepared formula's first nodes.

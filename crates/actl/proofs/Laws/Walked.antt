@@ -8,8 +8,8 @@ use native.Mathlib.Nat.{zero-add}
 use native.Mathlib.Decide.{decLt}
 use native.Mathlib.Omega.{arith}
 use lib.Dec.{eqb}
-use lib.ListN.{length, getD, length-map, List·getD-append, List·getD-map}
-use lib.Seq.{sets, getD-append-add, ext-getD}
+use lib.ListN.{length, getD, take, drop, length-map, List·getD-append, List·getD-map}
+use lib.Seq.{sets, sets-eq, take-at, getD-append-add, ext-getD}
 use Rattle.lts.specs.Lists.{upFrom}
 use Rattle.actl.specs.Formulas.{Formula, tru, not, or, ex, ax, eu, euThen, size, nodes, classOf, hasNoClass, highestFrom, highestWithoutClass}
 use Rattle.actl.specs.Prepared.{slotAt, preparedFormula}
@@ -114,3 +114,9 @@ length-kinds-in b n = length-map (upFrom 0 n) (λ k. getD b (1 + k * 17) 0) ∙ 
 pub shape-noted : (n : ℕ) (b : List ℕ) {F : Formula} → preparedFormula n b ≡ some F
     → {K E E' C C' : List ℕ} (r : Walked) → K ≡ kindsIn b (getD b 0 0) → Walks K E E' C C' 0 r → Noted E E' C C' F
 shape-noted n b {F} e r d h = walk-noted r F (sym (d ∙ kinds-prepared n b e)) h
+
+-- The classes that a walk leaves, as a list.
+pub noted-classes : {E E' C C' : List ℕ} (F : Formula) → Noted E E' C C' F → size F ≤ length C → take (size F) C' ≡ classesOf F
+noted-classes {C} F h m =
+    let z : 0 + length (classesOf F) ≤ length C = omega (arith, length-classes F) in
+    ap (take (size F)) (h .classes ∙ sets-eq (classesOf F) C 0 z) ∙ take-at (classesOf F) (drop (0 + length (classesOf F)) C) (size F) (length-classes F)
