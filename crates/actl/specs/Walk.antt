@@ -3,10 +3,11 @@ use mathlib.Core.Path.{_≡_}
 use mathlib.Core.Bool.{Bool, cond, _&&_}
 use mathlib.Core.List.{List, [], _∷_, _++_, map}
 use mathlib.Core.Option.{Option, none, some}
-use Prim.Native.Nat.{ℕ, zero, suc, _+_, _<_}
+use Prim.Native.Nat.{ℕ, zero, suc, _+_, _*_, _<_}
 use lib.Dec.{leb, eqb}
 use lib.ListN.{drop, getD}
 use lib.Seq.{sets}
+use Rattle.lts.specs.Lists.{upFrom}
 use Rattle.actl.specs.Formulas.{Formula, tru, not, or, ex, ax, eu, euThen, size, nodes, isT, classOf, classOfNot, classOfSome, classOfAll, highestWithoutClass}
 use Rattle.actl.specs.Prepared.{slotOf, preparedFormula}
 use Rattle.actl.specs.declared.walk.Walked.{Walked}
@@ -21,6 +22,14 @@ kindOf f = slotOf f .kind
 
 abbrev pub kindsOf : Formula → List ℕ
 kindsOf f = map kindOf (nodes f)
+
+-- The kinds of the first n nodes, in a prepared formula's bytes.
+abbrev pub kindsIn : List ℕ → ℕ → List ℕ
+kindsIn b n = map (λ k. getD b (1 + k * 17) 0) (upFrom 0 n)
+
+-- The kind of node k; 0 if there is none.
+abbrev pub kindAt : List ℕ → ℕ → ℕ
+kindAt kinds k = cond (leb (getD kinds k 0) 9) (getD kinds k 0) 0
 
 -- What a node is as an arm: its class, or 3 for the node T, which AX tells from other nodes of class 1.
 abbrev pub armOf : Formula → ℕ
@@ -72,6 +81,14 @@ Walks kinds ends endsAfter classes classesAfter k (Node end arm) = Found kinds e
 abbrev pub classlessNode : Classless → Option ℕ
 classlessNode Nowhere = none
 classlessNode (At k) = some k
+
+-- The last of the classes that is none, where k is the number of the list's first node.
+abbrev pub lastNone : ℕ → List ℕ → Option ℕ → Option ℕ
+lastNone k [] found = found
+lastNone k (class ∷ l) found = lastNone (suc k) l (cond (eqb class 0) (some k) found)
+
+abbrev pub IsHighest : Classless → List ℕ → Type 0
+IsHighest r kinds = (F : Formula) → kindsOf F ≡ kinds → classlessNode r ≡ highestWithoutClass F
 
 -- The ends and classes of a formula's nodes.
 pub record ShapeOf (s : Shape) (F : Formula) : Type 0 where
