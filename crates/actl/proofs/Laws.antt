@@ -1,6 +1,7 @@
 -- Laws that several proofs cite, by topic.
 pub mod Accepted
 pub mod Bare
+pub mod Checked
 pub mod Classed
 pub mod Forms
 pub mod Lists
