@@ -3,6 +3,7 @@ pub mod Accepted
 pub mod Bare
 pub mod Checked
 pub mod Classed
+pub mod Decided
 pub mod Dressed
 pub mod Forms
 pub mod Lists

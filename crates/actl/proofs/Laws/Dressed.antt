@@ -67,19 +67,24 @@ dresses-arm node kind f g h n e below slots rest l d t =
       kinds = n (s .first) (s .second) F ∙ (ap (λ z. kind ∷ z) (arm .kinds) ∙ sym e);
     })
 
-dresses-or : (f g : Formula) → Dresses f → Dresses g → Dresses (or f g)
+or-decodes : (s : Slot) → s .kind ≡ 3 → (a b : List Slot) (F G : Formula) (l : List Formula) → treesIn (a ++ b) ≡ some (F ∷ G ∷ l)
+    → (m : List Slot) → m ≡ a ++ b → treesIn (s ∷ m) ≡ some (or F G ∷ l)
 unfolding graft
+or-decodes s k a b F G l t m e = ap (λ z. graftOn s (treesIn z)) e ∙ (ap (graftOn s) t ∙ graft-kind s 3 k (F ∷ G ∷ l))
+
+or-kinds : (f g F G : Formula) → kindsOf F ≡ kindsOf f → kindsOf G ≡ kindsOf g → kindsOf (or F G) ≡ kindsOf (or f g)
+or-kinds f g F G d e = ap (λ z. 3 ∷ z) (map-append kindOf (nodes F) (nodes G) ∙ ((λ i. d i ++ e i) ∙ sym (map-append kindOf (nodes f) (nodes g))))
+
+dresses-or : (f g : Formula) → Dresses f → Dresses g → Dresses (or f g)
 dresses-or f g left right slots rest l d t =
     let (s, m, c, k, r) = image-cons slots 3 (map kindOf (nodes f ++ nodes g)) d in
     let (a, b, q, x, y) = image-append m (kindsOf f) (kindsOf g) (r ∙ map-append kindOf (nodes f) (nodes g)) in
     let second = right b rest l y t in
     let first = left a (b ++ rest) (second .formula ∷ l) x (second .decodes) in
-    let F = first .formula in
-    let G = second .formula in
     subst (λ z. Dressed (or f g) (z ++ rest) l) (sym (c ∙ ap (λ z. s ∷ z) q)) (record {
-      formula = or F G;
-      decodes = ap (λ z. graftOn s (treesIn z)) (append-assoc a b rest) ∙ (ap (graftOn s) (first .decodes) ∙ graft-kind s 3 k (F ∷ G ∷ l));
-      kinds = ap (λ z. 3 ∷ z) (map-append kindOf (nodes F) (nodes G) ∙ ((λ i. first .kinds i ++ second .kinds i) ∙ sym (map-append kindOf (nodes f) (nodes g))));
+      formula = or (first .formula) (second .formula);
+      decodes = or-decodes s k a (b ++ rest) (first .formula) (second .formula) l (first .decodes) ((a ++ b) ++ rest) (append-assoc a b rest);
+      kinds = or-kinds f g (first .formula) (second .formula) (first .kinds) (second .kinds);
     })
 
 dresses : (f : Formula) → Dresses f

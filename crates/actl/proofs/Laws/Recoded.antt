@@ -36,6 +36,10 @@ low-first-number (suc n) (x ∷ l) h b =
     let q : (x + m * 256) / 256 ≡ m = omega arith in
     (λ i. r i ∷ lowFirst n (q i)) ∙ ap (λ z. x ∷ z) (low-first-number n l (omega arith) (λ i. b (suc i)))
 
+bind-map : {A : Type 0} (g : Slot → List ℕ) (h : A → Slot) (l : List A) → bind g (map h l) ≡ bind (λ x. g (h x)) l
+bind-map g h [] = refl
+bind-map g h (x ∷ l) = ap (λ z. g (h x) ++ z) (bind-map g h l)
+
 module _ (b : List ℕ) (long : formulaLength ≤ length b) (bytes : Bytes b) where
   slot-bytes : (k : ℕ) → k < 40 → slotBytes (slotAt b k) ≡ take 17 (drop (1 + k * 17) b)
   slot-bytes k h =
@@ -69,3 +73,20 @@ module _ (b : List ℕ) (long : formulaLength ≤ length b) (bytes : Bytes b) wh
         let zero-there : getD b (1 + c * 17 + i) 0 ≡ 0 =
           eqb-true (getD b (1 + c * 17 + i) 0) 0 (every-of (λ j. eqb (getD b j 0) 0) (upFrom (1 + c * 17) (formulaLength - (1 + c * 17))) e (1 + c * 17 + i) (upFrom-to (1 + c * 17) (formulaLength - (1 + c * 17)) (1 + c * 17 + i) (omega arith) (omega arith))) in
         getD-take n l i 0 near ∙ (getD-drop (c * 17) (drop 1 b) i 0 ∙ (getD-drop 1 b (c * 17 + i) 0 ∙ (ap (λ j. getD b j 0) place ∙ (zero-there ∙ sym (getD-replicate n i 0 0 near))))))
+
+  pub form-of-bytes : (F : Formula) → getD b 0 0 ≡ size F → size F ≤ 40 → zerosFrom b (1 + getD b 0 0 * 17) ≡ true
+      → map (slotAt b) (upFrom 0 (getD b 0 0)) ≡ map slotOf (nodes F) → take formulaLength b ≡ formulaBytes F
+  unfolding formulaBytes
+  form-of-bytes F count few zeros same =
+      let c = getD b 0 0 in
+      let X = bind (λ k. slotBytes (slotAt b k)) (upFrom 0 c) in
+      let all = all-slots c (omega arith) in
+      let parts : X ≡ bind (λ f. slotBytes (slotOf f)) (nodes F) = sym (bind-map slotBytes (slotAt b) (upFrom 0 c)) ∙ (ap (bind slotBytes) same ∙ bind-map slotBytes slotOf (nodes F)) in
+      let wide : length X ≡ c * 17 = ap length all ∙ length-take-le (c * 17) (drop 1 b) (omega (arith, length-drop 1 b)) in
+      let sum : 680 ≡ c * 17 + (680 - c * 17) = omega arith in
+      let body : take 680 (drop 1 b) ≡ padded 680 X =
+        ap (λ n. take n (drop 1 b)) sum
+        ∙ (take-add (c * 17) (680 - c * 17) (drop 1 b)
+        ∙ ((λ i. sym all i ++ zeros-behind c (omega arith) zeros i) ∙ ap (λ n. X ++ replicate (680 - n) 0) (sym wide))) in
+      let front : take formulaLength b ≡ c ∷ take 680 (drop 1 b) = ap (take formulaLength) (drop-cons b 0 0 (omega arith)) in
+      front ∙ (λ i. count i ∷ (body ∙ ap (padded 680) parts) i)
