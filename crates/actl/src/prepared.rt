@@ -1,5 +1,6 @@
 // The check that prepared formula bytes are the one form of a formula, over a table's labels.
-use crate::node::{mask, node_count};
+use crate::node::mask;
+use crate::node::node_count;
 use crate::walk::spelled;
 ghost use mathlib.Core.Path.{_≡_};
 ghost use mathlib.Core.Bool.{_&&_, _||_};

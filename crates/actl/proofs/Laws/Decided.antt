@@ -31,33 +31,32 @@ none-prepared none h = refl
 none-prepared (some F) h = absurd (h F refl)
 
 module _ (n : ℕ) (b : List ℕ) where
-
   -- A test that fails.
   pub short-bytes : length b < formulaLength → false ≡ isPrepared n b
   short-bytes h = sym (none-prepared (preparedFormula n b) (λ F e.
-    let f = prepared-of n b e in
-    omega (arith, sym (length-take formulaLength b) ∙ (ap length (f .form) ∙ length-form F (f .few)))))
+      let f = prepared-of n b e in
+      omega (arith, sym (length-take formulaLength b) ∙ (ap length (f .form) ∙ length-form F (f .few)))))
 
   pub many-nodes : 40 < getD b 0 0 → false ≡ isPrepared n b
   many-nodes h = sym (none-prepared (preparedFormula n b) (λ F e. omega (arith, prepared-few n b e, prepared-count n b e)))
 
   fits-prepared : {F : Formula} → preparedFormula n b ≡ some F → slotsFit n b (getD b 0 0) ≡ true
   fits-prepared {F} e = every-to (λ k. slotFits n (slotAt b k)) (upFrom 0 (getD b 0 0)) (λ k m.
-    let l : k < size F = omega (arith, upFrom-of 0 (getD b 0 0) m, prepared-count n b e) in
-    let f = getD (nodes F) k tru in
-    and-true-to (shaped (slotAt b k)) (slotWithin n (slotAt b k)) (prepared-shaped n b e k l)
-    (ap (slotWithin n) (prepared-slot n b e k l) ∙ prepared-of n b e .within f (getD-mem (nodes F) k tru (omega (arith, length-nodes F)))))
+      let l : k < size F = omega (arith, upFrom-of 0 (getD b 0 0) m, prepared-count n b e) in
+      let f = getD (nodes F) k tru in
+      and-true-to (shaped (slotAt b k)) (slotWithin n (slotAt b k)) (prepared-shaped n b e k l)
+      (ap (slotWithin n) (prepared-slot n b e k l) ∙ prepared-of n b e .within f (getD-mem (nodes F) k tru (omega (arith, length-nodes F)))))
 
   pub slots-foreign : slotsFit n b (getD b 0 0) ≡ false → false ≡ isPrepared n b
   slots-foreign h = sym (none-prepared (preparedFormula n b) (λ F e. false≢true (sym h ∙ fits-prepared e)))
 
   zeros-prepared : {F : Formula} → preparedFormula n b ≡ some F → zerosFrom b (1 + getD b 0 0 * 17) ≡ true
   zeros-prepared {F} e = every-to (λ i. eqb (getD b i 0) 0) (upFrom from (formulaLength - from)) (λ i m.
-    let few = prepared-few n b e in
-    let c = prepared-count n b e in
-    let (low, high) = upFrom-of from (formulaLength - from) m in
-    let inside : i < formulaLength = omega arith in
-    eq-eqb (getD b i 0) 0 (sym (getD-take formulaLength b i 0 inside) ∙ (ap (λ l. getD l i 0) (prepared-of n b e .form) ∙ form-zeros F i (omega arith))))
+      let few = prepared-few n b e in
+      let c = prepared-count n b e in
+      let (low, high) = upFrom-of from (formulaLength - from) m in
+      let inside : i < formulaLength = omega arith in
+      eq-eqb (getD b i 0) 0 (sym (getD-take formulaLength b i 0 inside) ∙ (ap (λ l. getD l i 0) (prepared-of n b e .form) ∙ form-zeros F i (omega arith))))
     where
       from : ℕ
       from = 1 + getD b 0 0 * 17

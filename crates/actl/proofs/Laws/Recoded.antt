@@ -68,11 +68,11 @@ module _ (b : List ℕ) (long : formulaLength ≤ length b) (bytes : Bytes b) wh
       let size : length l ≡ length b - (1 + c * 17) = ap length (drop-drop (c * 17) 1 b) ∙ length-drop (1 + c * 17) b in
       let front : length (take n l) ≡ n = length-take-le n l (omega arith) in
       ext-getD 0 (take n l) (replicate n 0) (front ∙ sym (length-replicate {A = ℕ} n 0)) (λ i s.
-        let near : i < n = omega arith in
-        let place : 1 + (c * 17 + i) ≡ 1 + c * 17 + i = omega arith in
-        let zero-there : getD b (1 + c * 17 + i) 0 ≡ 0 =
-          eqb-true (getD b (1 + c * 17 + i) 0) 0 (every-of (λ j. eqb (getD b j 0) 0) (upFrom (1 + c * 17) (formulaLength - (1 + c * 17))) e (1 + c * 17 + i) (upFrom-to (1 + c * 17) (formulaLength - (1 + c * 17)) (1 + c * 17 + i) (omega arith) (omega arith))) in
-        getD-take n l i 0 near ∙ (getD-drop (c * 17) (drop 1 b) i 0 ∙ (getD-drop 1 b (c * 17 + i) 0 ∙ (ap (λ j. getD b j 0) place ∙ (zero-there ∙ sym (getD-replicate n i 0 0 near))))))
+      let near : i < n = omega arith in
+      let place : 1 + (c * 17 + i) ≡ 1 + c * 17 + i = omega arith in
+      let zero-there : getD b (1 + c * 17 + i) 0 ≡ 0 =
+      eqb-true (getD b (1 + c * 17 + i) 0) 0 (every-of (λ j. eqb (getD b j 0) 0) (upFrom (1 + c * 17) (formulaLength - (1 + c * 17))) e (1 + c * 17 + i) (upFrom-to (1 + c * 17) (formulaLength - (1 + c * 17)) (1 + c * 17 + i) (omega arith) (omega arith))) in
+      getD-take n l i 0 near ∙ (getD-drop (c * 17) (drop 1 b) i 0 ∙ (getD-drop 1 b (c * 17 + i) 0 ∙ (ap (λ j. getD b j 0) place ∙ (zero-there ∙ sym (getD-replicate n i 0 0 near))))))
 
   pub form-of-bytes : (F : Formula) → getD b 0 0 ≡ size F → size F ≤ 40 → zerosFrom b (1 + getD b 0 0 * 17) ≡ true
       → map (slotAt b) (upFrom 0 (getD b 0 0)) ≡ map slotOf (nodes F) → take formulaLength b ≡ formulaBytes F
@@ -85,8 +85,8 @@ module _ (b : List ℕ) (long : formulaLength ≤ length b) (bytes : Bytes b) wh
       let wide : length X ≡ c * 17 = ap length all ∙ length-take-le (c * 17) (drop 1 b) (omega (arith, length-drop 1 b)) in
       let sum : 680 ≡ c * 17 + (680 - c * 17) = omega arith in
       let body : take 680 (drop 1 b) ≡ padded 680 X =
-        ap (λ n. take n (drop 1 b)) sum
-        ∙ (take-add (c * 17) (680 - c * 17) (drop 1 b)
-        ∙ ((λ i. sym all i ++ zeros-behind c (omega arith) zeros i) ∙ ap (λ n. X ++ replicate (680 - n) 0) (sym wide))) in
+      ap (λ n. take n (drop 1 b)) sum
+      ∙ (take-add (c * 17) (680 - c * 17) (drop 1 b)
+      ∙ ((λ i. sym all i ++ zeros-behind c (omega arith) zeros i) ∙ ap (λ n. X ++ replicate (680 - n) 0) (sym wide))) in
       let front : take formulaLength b ≡ c ∷ take 680 (drop 1 b) = ap (take formulaLength) (drop-cons b 0 0 (omega arith)) in
       front ∙ (λ i. count i ∷ (body ∙ ap (padded 680) parts) i)

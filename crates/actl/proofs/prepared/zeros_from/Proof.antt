@@ -1,41 +1,51 @@
+-- `zeros_from` meets its contract: every byte so far is zero.
+use mathlib.Core.Path.{_≡_, sym, _∙_}
+use Prim.Native.Nat.{_+_, _-_, _≤_}
+use native.Mathlib.Omega.{arith}
+use lib.Dec.{eqb}
+use lib.ListN.{getD}
+use borrow.Author.Tests.{eq-eqb, ne-eqb}
+use Rattle.actl.proofs.Laws.Lists.{Passed, passed-more, passed-all, failed-one}
 use Rattle.actl.proofs.prepared.zeros_from.Statement.{statement}
 use Rattle.actl.proofs.prepared.zeros_from.Tie as tie
-use Rattle.actl.proofs.prepared.zeros_from.Reads as reads
-use Rattle.actl.proofs.prepared.zeros_from.Lts as lts
 
 abbrev Inv-loop : tie.InvT-loop
-Inv-loop formula from i₀ i = ?
+Inv-loop formula from i₀ i = (from ≤ i) × (i ≤ 681) × Passed (λ j. eqb (getD formula j 0) 0) from i
 
 abbrev μ-loop : tie.MeasureT-loop
-μ-loop formula from i₀ i = ?
+μ-loop formula from i₀ i = 681 - i
 
--- src/prepared.rt:83:5
 loop-holds : tie.Need-loop-holds Inv-loop μ-loop
-loop-holds c = ?
+loop-holds c = (omega arith, omega (arith, c .pre), λ i l h. absurd (omega arith))
 
--- src/prepared.rt:84:12
 shared-slice-read-if1 : tie.Need-shared-slice-read-if1 Inv-loop μ-loop
-shared-slice-read-if1 c = ?
+shared-slice-read-if1 c = omega (arith, c .before .before .before .pre)
 
--- src/prepared.rt:85:13
 returns : tie.Need-returns Inv-loop μ-loop
-returns c = ?
+returns c =
+    let a = c .before .before .before .before .args in
+    let b = a .formula .now in
+    let i = c .before .before .before .loop .i in
+    sym (failed-one (λ j. eqb (getD b j 0) 0) (a .from) (681 - a .from) i (omega arith) (omega (arith, c .before .before .loop-test .taken)) (ne-eqb (getD b i 0) 0 (c .if1 .taken)))
 
--- src/prepared.rt:87:9
 add-i : tie.Need-add-i Inv-loop μ-loop
-add-i c = ?
+add-i c = omega arith
 
--- src/prepared.rt:83:5
 loop-less : tie.Need-loop-less Inv-loop μ-loop
-loop-less c = ?
+loop-less c = omega arith
 
--- src/prepared.rt:83:5
 loop-again : tie.Need-loop-again Inv-loop μ-loop
-loop-again c = ?
+loop-again c =
+    let a = c .before .before .before .before .args in
+    let b = a .formula .now in
+    let i = c .before .before .before .loop .i in
+    (omega arith, omega arith, passed-more (λ j. eqb (getD b j 0) 0) (a .from) i (c .before .before .before .loop .inv .2) (eq-eqb (getD b i 0) 0 (c .if1 .left)))
 
--- src/prepared.rt:78:1
 returns-2 : tie.Need-returns-2 Inv-loop μ-loop
-returns-2 c = ?
+returns-2 c =
+    let a = c .before .before .args in
+    let b = a .formula .now in
+    sym (passed-all (λ j. eqb (getD b j 0) 0) (a .from) (681 - a .from) (c .before .loop .i) (omega (arith, c .loop-test .left)) (c .before .loop .inv .2))
 
 pub zeros-from-spec : {M : Type 1} → statement M
 zeros-from-spec =
