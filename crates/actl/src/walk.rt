@@ -9,47 +9,17 @@ ghost use Rattle.actl.specs.Walk.{classFrom, classOfArm, kindAt, kindsIn
 ghost use Rattle.actl.specs.Check.{Decides, SpelledClassed};
 
 // 01: "The class of a node follows from this table": four for each kind, by the arm's class, the last for the node T. Zero is no class.
-const CLASSES: [u8; 40] = [
-    0,
-    0,
-    0,
-    0, // no kind
-    1,
-    1,
-    1,
-    1, // T
-    0,
-    2,
-    1,
-    2, // ~
-    0,
-    1,
-    0,
-    1, // |, by each arm
-    0,
-    1,
-    0,
-    1, // EX[.]
-    0,
-    1,
-    0,
-    1, // EX[A]
-    0,
-    0,
-    2,
-    2, // AX[.]
-    0,
-    0,
-    2,
-    2, // AX[A]
-    0,
-    1,
-    0,
-    1, // EU[A]
-    0,
-    1,
-    0,
-    1, // EU[A;B]
+const CLASSES: [[u8; 4]; 10] = [
+    [0, 0, 0, 0], // no kind
+    [1, 1, 1, 1], // T
+    [0, 2, 1, 2], // ~
+    [0, 1, 0, 1], // |, by each arm
+    [0, 1, 0, 1], // EX[.]
+    [0, 1, 0, 1], // EX[A]
+    [0, 0, 2, 2], // AX[.]
+    [0, 0, 2, 2], // AX[A]
+    [0, 1, 0, 1], // EU[A]
+    [0, 1, 0, 1], // EU[A;B]
 ];
 
 // What stands at a node: nothing that is a formula, or one that ends before a node and is such an arm.
@@ -74,7 +44,7 @@ fn class_from(kind: u8, arm: u8) -> u8
     requires { ⌜ arm < 4 ⌝ }
     ensures { λ r. ⌜ r ≡ classFrom kind arm ⌝ }
 {
-    CLASSES[kind as usize * 4 + arm as usize]
+    CLASSES[kind as usize][arm as usize]
 }
 
 fn class_of_or(left: u8, right: u8) -> u8
