@@ -7,3 +7,6 @@ pub mod Meaning
 pub mod Reading
 pub mod Prepared
 pub mod Replies
+pub mod Cursor
+
+-- pub mod Readers

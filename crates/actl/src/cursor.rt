@@ -1,0 +1,107 @@
+// A place in a formula's text, by value. Its methods skip blanks, take a token and hand the cursor back.
+ghost use mathlib.Core.Path.{_≡_};
+ghost use Prim.Native.Nat.{ℕ, _≤_, _<_};
+ghost use lib.ListN.{length};
+ghost use Rattle.lts.specs.Names.{isLower, isNameByte};
+ghost use Rattle.actl.specs.Cursor.{peek, Skipped, MarkSays, TokenSays, KeywordSays, NameSays};
+
+pub struct Cursor {
+    pub at: usize,
+}
+
+// Past a token; or the token does not stand at the cursor.
+pub enum Taken {
+    Past(Cursor),
+    Missing,
+}
+
+fn is_lower(b: u8) -> bool
+    ensures { λ r. ⌜ r ≡ isLower b ⌝ }
+{
+    97 <= b && b <= 122
+}
+
+fn is_name_byte(b: u8) -> bool
+    ensures { λ r. ⌜ r ≡ isNameByte b ⌝ }
+{
+    if is_lower(b) {
+        return true;
+    }
+    if b == 95 {
+        return true;
+    }
+    48 <= b && b <= 57
+}
+
+impl Cursor {
+    // 01: "Blanks may stand between tokens"
+    pub fn skip_blanks(self, text: &[u8]) -> Cursor
+        requires { ⌜ self .at ≤ length (now text) ⌝ }
+        ensures { λ r. ⌜ Skipped (now (text .entry)) (self .at) (r .at) ⌝ }
+    {
+        let mut i = self.at;
+        while i < text.len() {
+            if text[i] != 32 {
+                return Cursor { at: i };
+            }
+            i += 1;
+        }
+        Cursor { at: i }
+    }
+
+    pub fn mark(self, text: &[u8], mark: u8) -> Taken
+        ensures { λ r. ⌜ MarkSays (now (text .entry)) (self .at) mark r ⌝ }
+    {
+        let at = self.at;
+        if at < text.len() {
+            if text[at] == mark {
+                return Taken::Past(Cursor { at: at + 1 });
+            }
+        }
+        Taken::Missing
+    }
+
+    // A mark, and the blanks behind it.
+    pub fn token(self, text: &[u8], mark: u8) -> Taken
+        ensures { λ r. ⌜ TokenSays (now (text .entry)) (self .at) mark r ⌝ }
+    {
+        let Taken::Past(d) = self.mark(text, mark) else {
+            return Taken::Missing;
+        };
+        Taken::Past(d.skip_blanks(text))
+    }
+
+    // 01: "Tokens are the keywords EX, AX and EU"
+    pub fn keyword(self, text: &[u8], word: &[u8; 2]) -> Taken
+        ensures { λ r. ⌜ KeywordSays (now (text .entry)) (self .at) (now (word .entry)) r ⌝ }
+    {
+        let Taken::Past(d) = self.mark(text, word[0]) else {
+            return Taken::Missing;
+        };
+        d.mark(text, word[1])
+    }
+
+    // A name of at most twelve bytes: a thirteenth ends it.
+    pub fn name(self, text: &[u8]) -> Taken
+        ensures { λ r. ⌜ NameSays (now (text .entry)) (self .at) r ⌝ }
+    {
+        let start = self.at;
+        if text.len() <= start {
+            return Taken::Missing;
+        }
+        if !is_lower(text[start]) {
+            return Taken::Missing;
+        }
+        let mut i = start + 1;
+        while i < text.len() {
+            if 12 <= i - start {
+                return Taken::Past(Cursor { at: i });
+            }
+            if !is_name_byte(text[i]) {
+                return Taken::Past(Cursor { at: i });
+            }
+            i += 1;
+        }
+        Taken::Past(Cursor { at: i })
+    }
+}
