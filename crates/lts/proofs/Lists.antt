@@ -64,6 +64,15 @@ upFrom-suc : (k n : ℕ) → upFrom k (suc n) ≡ upFrom k n ++ ((k + n) ∷ [])
 upFrom-suc k zero = rw add-zero
 upFrom-suc k (suc n) = ap (λ l. k ∷ l) (rw (add-suc, ← suc-add) (upFrom-suc (suc k) n))
 
+pub upFrom-length : (k n : ℕ) → length (upFrom k n) ≡ n
+upFrom-length k zero = refl
+upFrom-length k (suc n) = ap suc (upFrom-length (suc k) n)
+
+pub upFrom-at : (k n i d : ℕ) → i < n → getD (upFrom k n) i d ≡ k + i
+upFrom-at k zero i d h = absurd (omega arith)
+upFrom-at k (suc n) zero d h = rw add-zero
+upFrom-at k (suc n) (suc i) d h = rw (add-suc, ← suc-add) (upFrom-at (suc k) n i d (omega arith))
+
 pub upFrom-snoc : (n : ℕ) → upFrom 0 (suc n) ≡ upFrom 0 n ++ (n ∷ [])
 upFrom-snoc n = rw zero-add at (upFrom-suc 0 n)
 
@@ -131,6 +140,10 @@ module _ {A : Type 0} where
         step : (y : A) → List·Memᴰ y l ⊎ List·Memᴰ y m → R x y
         step y (inl d) = r .0 y d
         step y (inr d) = h x y (List·Memᴰ·head refl) d
+
+  pub rising-weaken : (R S : A → A → Type 0) → ((x y : A) → R x y → S x y) → (l : List A) → Rising R l → Rising S l
+  rising-weaken R S h [] r = tt
+  rising-weaken R S h (x ∷ l) r = (λ y m. h x y (r .0 y m), rising-weaken R S h l (r .1))
 
   -- By number.
   pub getD-mem : (l : List A) (i : ℕ) (d : A) → i < length l → List·Memᴰ (getD l i d) l

@@ -7,3 +7,4 @@ pub mod Text
 pub mod Reading
 pub mod Prepared
 pub mod Replies
+pub mod Access

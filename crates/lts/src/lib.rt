@@ -9,3 +9,5 @@ pub enum TableReply {
     NotRising(usize),
     BufferShort(usize),
 }
+
+pub mod prepared;

@@ -1,0 +1,3 @@
+-- Laws of bytes and of numbers in six columns.
+pub mod Bytes
+pub mod Columns

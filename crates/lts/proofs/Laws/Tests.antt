@@ -1,0 +1,169 @@
+-- The tests of reading as facts: names, ranges, order, uses of a name.
+use mathlib.Core.Path.{_≡_, refl, sym, ap, _∙_, subst}
+use mathlib.Core.Logic.{_⊎_, inl, inr}
+use mathlib.Core.Bool.{Bool, true, false, true≢false, false≢true, not, _&&_, _||_}
+use mathlib.Core.List.{List, [], _∷_, _++_, List·Memᴰ, List·Memᴰ·head, List·Memᴰ·tail, List·Memᴰ·not-nil, List·Memᴰ·cases-cons, List·Memᴰ·eq-of-singleton}
+use Prim.Native.Nat.{ℕ, zero, suc, _+_, _≤_, _<_}
+use native.Mathlib.Omega.{arith}
+use lib.Dec.{leb, ltb, eqb}
+use lib.ListN.{length}
+use borrow.Author.Tests.{ltb-true, ltb-false, leb-true, leb-false, eqb-true, lt-ltb, le-leb, eq-eqb}
+use Rattle.columns.specs.Bytes.{sameBytes}
+use Rattle.columns.proofs.Laws.Bytes.{same-of, same-to}
+use Rattle.lts.specs.Lists.{some, Rising}
+use Rattle.lts.specs.Names.{isLower, isNameByte, atMost, isName}
+use Rattle.lts.specs.Steps.{Step, Table, labels}
+use Rattle.lts.specs.Range.{Below, Differ, StepInRange}
+use Rattle.lts.specs.Reading.{Header, headerInRange, used, stepInRange, stepBelow, above}
+use Rattle.lts.proofs.Lists.{and-true-of, and-true-to, or-true-of, or-true-left, or-true-right, not-true, not-false, some-of, some-to, rising-append}
+
+-- Order of transitions.
+pub below-of : (a b : Step) → stepBelow a b ≡ true → Below a b
+below-of a b e = outer (or-true-of (ltb (a .from) (b .from)) _ e)
+  where
+    inner : (ltb (a .label) (b .label) ≡ true) ⊎ ((eqb (a .label) (b .label) && ltb (a .to) (b .to)) ≡ true)
+        → (a .label < b .label) ⊎ ((a .label ≡ b .label) × (a .to < b .to))
+    inner (inl d) = inl (ltb-true _ _ d)
+    inner (inr d) = let p = and-true-of (eqb (a .label) (b .label)) _ d in inr (eqb-true _ _ (p .0), ltb-true _ _ (p .1))
+
+    outer : (ltb (a .from) (b .from) ≡ true) ⊎ ((eqb (a .from) (b .from) && (ltb (a .label) (b .label) || (eqb (a .label) (b .label) && ltb (a .to) (b .to)))) ≡ true) → Below a b
+    outer (inl d) = inl (ltb-true _ _ d)
+    outer (inr d) = let p = and-true-of (eqb (a .from) (b .from)) _ d in inr (eqb-true _ _ (p .0), inner (or-true-of (ltb (a .label) (b .label)) _ (p .1)))
+
+pub below-to : (a b : Step) → Below a b → stepBelow a b ≡ true
+below-to a b (inl l) = or-true-left (ltb (a .from) (b .from)) _ (lt-ltb _ _ l)
+below-to a b (inr r) = or-true-right (ltb (a .from) (b .from)) _ (and-true-to (eqb (a .from) (b .from)) _ (eq-eqb _ _ (r .0)) (inner (r .1)))
+  where
+    inner : (a .label < b .label) ⊎ ((a .label ≡ b .label) × (a .to < b .to)) → (ltb (a .label) (b .label) || (eqb (a .label) (b .label) && ltb (a .to) (b .to))) ≡ true
+    inner (inl l) = or-true-left (ltb (a .label) (b .label)) _ (lt-ltb _ _ l)
+    inner (inr q) = or-true-right (ltb (a .label) (b .label)) _ (and-true-to (eqb (a .label) (b .label)) _ (eq-eqb _ _ (q .0)) (lt-ltb _ _ (q .1)))
+
+abbrev WithinLabel : Step → Step → Type 0
+WithinLabel a b = (a .label < b .label) ⊎ ((a .label ≡ b .label) × (a .to < b .to))
+
+within-trans : (a b c : Step) → WithinLabel a b → WithinLabel b c → WithinLabel a c
+within-trans a b c (inl l) (inl m) = inl (omega arith)
+within-trans a b c (inl l) (inr m) = inl (omega (arith, m .0))
+within-trans a b c (inr l) (inl m) = inl (omega (arith, l .0))
+within-trans a b c (inr l) (inr m) = inr (omega arith, omega arith)
+
+pub below-trans : (a b c : Step) → Below a b → Below b c → Below a c
+below-trans a b c (inl l) (inl m) = inl (omega arith)
+below-trans a b c (inl l) (inr m) = inl (omega (arith, m .0))
+below-trans a b c (inr l) (inl m) = inl (omega (arith, l .0))
+below-trans a b c (inr l) (inr m) = inr (l .0 ∙ m .0, within-trans a b c (l .1) (m .1))
+
+-- Above the last one is above them all.
+pub above-of : (l : List Step) (st : Step) → Rising Below l → above l st ≡ true → (x : Step) → List·Memᴰ x l → Below x st
+above-of [] st r e x m = absurd (List·Memᴰ·not-nil m)
+above-of (y ∷ []) st r e x m = subst (λ z. Below z st) (sym (List·Memᴰ·eq-of-singleton m)) (below-of y st e)
+above-of (y ∷ z ∷ l) st r e x m = step (above-of (z ∷ l) st (r .1) e) (List·Memᴰ·cases-cons m)
+  where
+    step : ((x : Step) → List·Memᴰ x (z ∷ l) → Below x st) → (x ≡ y) ⊎ List·Memᴰ x (z ∷ l) → Below x st
+    step h (inl d) = subst (λ w. Below w st) (sym d) (below-trans y z st (r .0 z (List·Memᴰ·head refl)) (h z (List·Memᴰ·head refl)))
+    step h (inr n) = h x n
+
+pub above-to : (l : List Step) (st : Step) → ((x : Step) → List·Memᴰ x l → Below x st) → above l st ≡ true
+above-to [] st h = refl
+above-to (y ∷ []) st h = below-to y st (h y (List·Memᴰ·head refl))
+above-to (y ∷ z ∷ l) st h = above-to (z ∷ l) st (λ x m. h x (List·Memᴰ·tail m))
+
+-- Ranges of a transition, by the counts that hold.
+pub step-range-of : (h : Header) (st : Step) → stepInRange h st ≡ true → (st .from < h .states) × (st .label ≤ h .labels) × (st .to < h .states)
+step-range-of h st e =
+    let p = and-true-of (ltb (st .from) (h .states) && leb (st .label) (h .labels)) (ltb (st .to) (h .states)) e in
+    let q = and-true-of (ltb (st .from) (h .states)) (leb (st .label) (h .labels)) (p .0) in
+    (ltb-true _ _ (q .0), leb-true _ _ (q .1), ltb-true _ _ (p .1))
+
+pub step-range-to : (h : Header) (st : Step) → st .from < h .states → st .label ≤ h .labels → st .to < h .states → stepInRange h st ≡ true
+step-range-to h st a b c =
+    and-true-to (ltb (st .from) (h .states) && leb (st .label) (h .labels)) (ltb (st .to) (h .states))
+    (and-true-to (ltb (st .from) (h .states)) (leb (st .label) (h .labels)) (lt-ltb _ _ a) (le-leb _ _ b)) (lt-ltb _ _ c)
+
+-- Ranges of the counts.
+pub record Counts (h : Header) : Type 0 where
+  pub some-state : 1 ≤ h .states
+  pub few-states : h .states ≤ 256
+  pub few-labels : h .labels ≤ 40
+  pub few-transitions : h .transitions ≤ 1024
+  pub starts : h .start < h .states
+
+pub counts-of : (h : Header) → headerInRange h ≡ true → Counts h
+counts-of h e =
+    let p = and-true-of (leb 1 (h .states) && leb (h .states) 256 && leb (h .labels) 40 && leb (h .transitions) 1024) _ e in
+    let q = and-true-of (leb 1 (h .states) && leb (h .states) 256 && leb (h .labels) 40) _ (p .0) in
+    let r = and-true-of (leb 1 (h .states) && leb (h .states) 256) _ (q .0) in
+    let s = and-true-of (leb 1 (h .states)) _ (r .0) in
+    record {
+      some-state = leb-true _ _ (s .0);
+      few-states = leb-true _ _ (s .1);
+      few-labels = leb-true _ _ (r .1);
+      few-transitions = leb-true _ _ (q .1);
+      starts = ltb-true _ _ (p .1);
+    }
+
+pub counts-to : (h : Header) → Counts h → headerInRange h ≡ true
+counts-to h c =
+    and-true-to (leb 1 (h .states) && leb (h .states) 256 && leb (h .labels) 40 && leb (h .transitions) 1024) _
+    (and-true-to (leb 1 (h .states) && leb (h .states) 256 && leb (h .labels) 40) _
+    (and-true-to (leb 1 (h .states) && leb (h .states) 256) _
+    (and-true-to (leb 1 (h .states)) _ (le-leb _ _ (c .some-state)) (le-leb _ _ (c .few-states)))
+    (le-leb _ _ (c .few-labels)))
+    (le-leb _ _ (c .few-transitions)))
+    (lt-ltb _ _ (c .starts))
+
+-- Uses of a name.
+pub used-of : (names : List (List ℕ)) (name : List ℕ) → not (used names name) ≡ true → (n : List ℕ) → List·Memᴰ n names → Differ n name
+used-of names name e n m d =
+    true≢false (sym (some-to (λ x. sameBytes x name) names m (same-to n name d)) ∙ not-false (used names name) e)
+
+pub used-to : (names : List (List ℕ)) (name : List ℕ) → ((n : List ℕ) → List·Memᴰ n names → Differ n name) → not (used names name) ≡ true
+used-to names name h = step (used names name) refl
+  where
+    step : (b : Bool) → used names name ≡ b → not b ≡ true
+    step true e = let (n, m, d) = some-of (λ x. sameBytes x name) names e in absurd (h n m (same-of n name d))
+    step false e = refl
+
+-- Bytes of names.
+pub lower-range : (b : ℕ) → isLower b ≡ true → (97 ≤ b) × (b ≤ 122)
+lower-range b e = let p = and-true-of (leb 97 b) (leb b 122) e in (leb-true _ _ (p .0), leb-true _ _ (p .1))
+
+pub name-byte-range : (b : ℕ) → isNameByte b ≡ true → (48 ≤ b) × (b ≤ 122)
+name-byte-range b e = letter (or-true-of (isLower b) _ e)
+  where
+    other : (eqb b 95 ≡ true) ⊎ ((leb 48 b && leb b 57) ≡ true) → (48 ≤ b) × (b ≤ 122)
+    other (inl d) = let z = eqb-true b 95 d in (omega arith, omega arith)
+    other (inr d) = let p = and-true-of (leb 48 b) (leb b 57) d in (leb-true _ _ (p .0), omega (arith, leb-true b 57 (p .1)))
+
+    letter : (isLower b ≡ true) ⊎ ((eqb b 95 || (leb 48 b && leb b 57)) ≡ true) → (48 ≤ b) × (b ≤ 122)
+    letter (inl d) = let p = lower-range b d in (omega arith, p .1)
+    letter (inr d) = other (or-true-of (eqb b 95) _ d)
+
+pub at-most-of : (n : ℕ) (l : List ℕ) → atMost n l ≡ true → (length l ≤ n) × ((b : ℕ) → List·Memᴰ b l → (48 ≤ b) × (b ≤ 122))
+at-most-of n [] e = (omega arith, λ b m. absurd (List·Memᴰ·not-nil m))
+at-most-of zero (x ∷ l) e = absurd (false≢true e)
+at-most-of (suc n) (x ∷ l) e = let p = and-true-of (isNameByte x) (atMost n l) e in join (p .0) (at-most-of n l (p .1))
+  where
+    member : isNameByte x ≡ true → ((b : ℕ) → List·Memᴰ b l → (48 ≤ b) × (b ≤ 122)) → (b : ℕ) → (b ≡ x) ⊎ List·Memᴰ b l → (48 ≤ b) × (b ≤ 122)
+    member d h b (inl z) = name-byte-range b (ap isNameByte z ∙ d)
+    member d h b (inr m) = h b m
+
+    join : isNameByte x ≡ true → (length l ≤ n) × ((b : ℕ) → List·Memᴰ b l → (48 ≤ b) × (b ≤ 122)) → (suc (length l) ≤ suc n) × ((b : ℕ) → List·Memᴰ b (x ∷ l) → (48 ≤ b) × (b ≤ 122))
+    join d h = (omega arith, λ b m. member d (h .1) b (List·Memᴰ·cases-cons m))
+
+-- 01: "A name has 1 to 12 bytes"
+pub record NameShape (n : List ℕ) : Type 0 where
+  pub some-byte : 1 ≤ length n
+  pub short : length n ≤ 12
+  pub bytes : (b : ℕ) → List·Memᴰ b n → (48 ≤ b) × (b ≤ 122)
+
+pub name-shape : (n : List ℕ) → isName n ≡ true → NameShape n
+name-shape [] e = absurd (false≢true e)
+name-shape (x ∷ l) e = let p = and-true-of (isLower x) (atMost 11 l) e in join (lower-range x (p .0)) (at-most-of 11 l (p .1))
+  where
+    member : (97 ≤ x) × (x ≤ 122) → ((b : ℕ) → List·Memᴰ b l → (48 ≤ b) × (b ≤ 122)) → (b : ℕ) → (b ≡ x) ⊎ List·Memᴰ b l → (48 ≤ b) × (b ≤ 122)
+    member d h b (inl z) = (omega arith, omega arith)
+    member d h b (inr m) = h b m
+
+    join : (97 ≤ x) × (x ≤ 122) → (length l ≤ 11) × ((b : ℕ) → List·Memᴰ b l → (48 ≤ b) × (b ≤ 122)) → NameShape (x ∷ l)
+    join d h = record { some-byte = omega arith; short = omega arith; bytes = λ b m. member d (h .1) b (List·Memᴰ·cases-cons m) }

@@ -1,0 +1,47 @@
+-- What the accessors of prepared bytes answer, and which bytes they take.
+use mathlib.Core.Path.{_≡_}
+use mathlib.Core.Bool.{Bool, true, false, cond}
+use mathlib.Core.List.{List, [], _∷_}
+use mathlib.Core.Option.{Option, none, some}
+use Prim.Native.Nat.{ℕ, suc, _≤_, _<_}
+use lib.Dec.{ltb}
+use lib.ListN.{length, getD}
+use Rattle.lts.specs.Steps.{Step, Table}
+use Rattle.lts.specs.Range.{InRange}
+use Rattle.lts.specs.Prepared.{tableLength, tableIn, transitionAt}
+use Rattle.lts.specs.declared.prepared.Transition.{Transition}
+
+abbrev pub isSome : {A : Type 0} → Option A → Bool
+isSome none = false
+isSome (some a) = true
+
+-- Bytes in which a table stands that is in range: those that a reading leaves, whatever stands in slots that are not used.
+pub record HoldsTable (b : List ℕ) : Type 0 where
+  pub long : tableLength ≤ length b
+  pub in-range : InRange (tableIn b)
+
+-- A number read from bytes: which one it is, and what the bytes can hold.
+pub record Counted (limit n r : ℕ) : Type 0 where
+  pub count : r ≡ n
+  pub fits : r < limit
+
+abbrev pub stepIn : Transition → Step
+stepIn r = record { from = r .from; label = r .label; to = r .to }
+
+-- The transition in slot k.
+pub record StepRead (b : List ℕ) (k : ℕ) (r : Transition) : Type 0 where
+  pub step : stepIn r ≡ transitionAt b k
+  pub from-byte : r .from < 256
+  pub label-byte : r .label < 256
+  pub to-byte : r .to < 256
+
+-- How many of the steps leave a state below s.
+abbrev pub exitsBelow : List Step → ℕ → ℕ
+exitsBelow [] s = 0
+exitsBelow (st ∷ l) s = cond (ltb (st .from) s) (suc (exitsBelow l s)) (exitsBelow l s)
+
+-- Where each state's transitions begin: those of s stand from r[s] to before r[s + 1].
+pub record ExitsFound (b r : List ℕ) : Type 0 where
+  pub states : length r ≡ 257
+  pub begins : (s : ℕ) → s ≤ 256 → getD r s 0 ≡ exitsBelow (tableIn b .transitions) s
+  pub few : (s : ℕ) → s ≤ 256 → getD r s 0 ≤ length (tableIn b .transitions)
