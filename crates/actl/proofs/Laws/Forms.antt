@@ -1,0 +1,79 @@
+-- The one form of a formula: its length, its bytes, and the slots in it.
+use mathlib.Core.Path.{_≡_, refl, sym, ap, _∙_, subst}
+use mathlib.Core.List.{List, [], _∷_, _++_, map}
+use Prim.Native.Nat.{ℕ, zero, suc, _+_, _*_, _-_, _^_, _≤_, _<_}
+use native.Mathlib.Omega.{arith}
+use lib.ListN.{length, getD, take, drop, replicate, length-append, length-replicate}
+use lib.Seq.{drop-drop, getD-drop, getD-take}
+use Rattle.columns.specs.Bytes.{padded, lowFirst}
+use Rattle.lts.specs.Lists.{bind}
+use Rattle.actl.specs.Formulas.{Formula, tru, size, nodes}
+use Rattle.actl.specs.Prepared.{formulaLength, Slot, slot, slotOf, slotBytes, formulaBytes, number, slotAt}
+use Rattle.actl.proofs.Nodes.{length-nodes}
+use Rattle.actl.proofs.Laws.Numbers.{length-low-first, number-low-first, number-take}
+use Rattle.actl.proofs.Laws.Widths.{length-parts, drop-parts}
+
+abbrev nodeBytes : Formula → List ℕ
+nodeBytes f = slotBytes (slotOf f)
+
+length-slot : (s : Slot) → length (slotBytes s) ≡ 17
+length-slot s =
+    let e = length-append (lowFirst 8 (s .first)) (lowFirst 8 (s .second)) in
+    let a = length-low-first 8 (s .first) in
+    let b = length-low-first 8 (s .second) in
+    omega arith
+
+pub length-padded : (n : ℕ) (l : List ℕ) → length l ≤ n → length (padded n l) ≡ n
+length-padded n l h = omega (arith, length-append l (replicate (n - length l) 0), length-replicate {A = ℕ} (n - length l) 0)
+
+pub length-form : (F : Formula) → size F ≤ 40 → length (formulaBytes F) ≡ formulaLength
+unfolding formulaBytes
+length-form F h =
+    let e = length-parts nodeBytes 17 (λ f. length-slot (slotOf f)) (nodes F) in
+    let d = length-padded 680 (bind nodeBytes (nodes F)) (omega (arith, length-nodes F)) in
+    ap suc d
+
+-- The slot at the front of a list.
+abbrev slotFrom : List ℕ → Slot
+slotFrom b = slot (getD b 0 0) (number 8 (drop 1 b)) (number 8 (drop 9 b))
+
+slot-from : (b : List ℕ) (k : ℕ) → slotAt b k ≡ slotFrom (drop (1 + k * 17) b)
+slot-from b k =
+    let a : 1 + k * 17 + 0 ≡ 1 + k * 17 = omega arith in
+    let c : 1 + k * 17 + 1 ≡ 2 + k * 17 = omega arith in
+    let d : 1 + k * 17 + 9 ≡ 10 + k * 17 = omega arith in
+    let e : getD (drop (1 + k * 17) b) 0 0 ≡ getD b (1 + k * 17) 0 = rw (getD-drop, a) in
+    let f : drop 1 (drop (1 + k * 17) b) ≡ drop (2 + k * 17) b = rw (drop-drop, c) in
+    let g : drop 9 (drop (1 + k * 17) b) ≡ drop (10 + k * 17) b = rw (drop-drop, d) in
+    λ i. slot (sym e i) (number 8 (sym f i)) (number 8 (sym g i))
+
+-- What stands for s: the same kind, and the same masks where eight bytes carry them.
+pub record StandsFor (s found : Slot) : Type 0 where
+  pub same-kind : found .kind ≡ s .kind
+  pub same-first : s .first < 256 ^ 8 → found .first ≡ s .first
+  pub same-second : s .second < 256 ^ 8 → found .second ≡ s .second
+
+slot-front : (s : Slot) (more : List ℕ) → StandsFor s (slotFrom (slotBytes s ++ more))
+slot-front s more = record {
+  same-kind = refl;
+  same-first = λ h. number-low-first 8 (s .first) more h;
+  same-second = λ h. number-low-first 8 (s .second) more h;
+}
+
+pub slot-of-form : (F : Formula) (k : ℕ) → k < size F → StandsFor (slotOf (getD (nodes F) k tru)) (slotAt (formulaBytes F) k)
+unfolding formulaBytes
+slot-of-form F k h =
+    let f = getD (nodes F) k tru in
+    let all = bind nodeBytes (nodes F) in
+    let (more, e) = drop-parts nodeBytes 17 (λ g. length-slot (slotOf g)) tru (nodes F) k (replicate (680 - length all) 0) (omega (arith, length-nodes F)) in
+    let q : 1 + k * 17 ≡ suc (k * 17) = omega arith in
+    let d : drop (1 + k * 17) (formulaBytes F) ≡ nodeBytes f ++ more = ap (λ i. drop i (formulaBytes F)) q ∙ e in
+    subst (StandsFor (slotOf f)) (sym (slot-from (formulaBytes F) k ∙ ap slotFrom d)) (slot-front (slotOf f) more)
+
+-- Only the first bytes count.
+pub slot-of-front : (b : List ℕ) (k : ℕ) → k < 40 → slotAt (take formulaLength b) k ≡ slotAt b k
+slot-of-front b k h =
+    let e = getD-take formulaLength b (1 + k * 17) 0 (omega arith) in
+    let f = number-take 8 (2 + k * 17) formulaLength b (omega arith) in
+    let g = number-take 8 (10 + k * 17) formulaLength b (omega arith) in
+    λ i. slot (e i) (f i) (g i)

@@ -1,0 +1,36 @@
+-- Numbers in bytes, the low byte first: from the bytes to the number and back.
+use mathlib.Core.Path.{_≡_, refl, sym, ap, _∙_}
+use mathlib.Core.List.{List, [], _∷_, _++_}
+use Prim.Native.Nat.{ℕ, zero, suc, _+_, _*_, _/_, _%_, _^_, _≤_, _<_}
+use native.Mathlib.Nat.{add-zero, add-assoc, pow-suc, pow-zero, zero-add}
+use native.Mathlib.Numerals.{add-one}
+use native.Mathlib.Omega.{arith}
+use lib.ListN.{length, getD, drop, take}
+use lib.Seq.{drop-drop, getD-drop, getD-take}
+use Rattle.columns.specs.Bytes.{lowFirst}
+use Rattle.actl.specs.Prepared.{number}
+
+-- Four bytes, in two pairs; eight bytes, in two fours.
+pub number-of-four : (b : List ℕ) (at : ℕ)
+    → number 4 (drop at b) ≡ getD b at 0 + getD b (at + 1) 0 * 256 + (getD b (at + 2) 0 + getD b (at + 3) 0 * 256) * 65536
+number-of-four b at = simp (drop-drop, getD-drop, add-zero, add-assoc) (omega arith)
+
+pub number-of-eight : (b : List ℕ) (at : ℕ) → number 8 (drop at b) ≡ number 4 (drop at b) + number 4 (drop (at + 4) b) * 4294967296
+number-of-eight b at = simp (drop-drop, getD-drop, add-zero, add-assoc) (omega arith)
+
+pub length-low-first : (n x : ℕ) → length (lowFirst n x) ≡ n
+length-low-first zero x = refl
+length-low-first (suc n) x = ap suc (length-low-first n (x / 256))
+
+-- n bytes carry the numbers below 256 ^ n.
+pub number-low-first : (n x : ℕ) (rest : List ℕ) → x < 256 ^ n → number n (lowFirst n x ++ rest) ≡ x
+number-low-first zero x rest h = omega (arith, pow-zero 256)
+number-low-first (suc n) x rest h = omega (arith, pow-suc 256 n, number-low-first n (x / 256) rest (omega (arith, pow-suc 256 n)))
+
+-- The number in n bytes that stand in the first m.
+pub number-take : (n j m : ℕ) (b : List ℕ) → j + n ≤ m → number n (drop j (take m b)) ≡ number n (drop j b)
+number-take zero j m b h = refl
+number-take (suc n) j m b h =
+    let first : getD (drop j (take m b)) 0 0 ≡ getD (drop j b) 0 0 = simp getD-drop (getD-take m b (j + 0) 0 (omega arith)) in
+    let others : number n (drop 1 (drop j (take m b))) ≡ number n (drop 1 (drop j b)) = simp drop-drop (number-take n (j + 1) m b (omega arith)) in
+    cc
