@@ -7,3 +7,4 @@ pub mod Lines
 pub mod Reading
 pub mod ReadingLabels
 pub mod Texts
+pub mod Lookup

@@ -10,4 +10,5 @@ pub enum TableReply {
     BufferShort(usize),
 }
 
+pub mod lookup;
 pub mod prepared;
