@@ -8,5 +8,5 @@ pub mod Reading
 pub mod Prepared
 pub mod Replies
 pub mod Cursor
--- pub mod Readers
+pub mod Readers
 pub mod Access

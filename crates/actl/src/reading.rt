@@ -1,0 +1,89 @@
+// Reading a formula's text: readers that call each other, each from a cursor to the cursor behind what it read.
+// What they make of it: the nodes in preorder, three cells each (kind and two masks), and the first name that the table lacks.
+ghost use mathlib.Core.Path.{_≡_};
+ghost use mathlib.Core.Option.{some};
+ghost use Prim.Native.Nat.{ℕ, _+_, _*_, _-_, _≤_, _<_};
+ghost use lib.ListN.{length, take, drop};
+ghost use Rattle.lts.specs.Steps.{labels};
+ghost use Rattle.lts.specs.Prepared.{tableIn};
+ghost use Rattle.lts.specs.Access.{HoldsTable};
+ghost use Rattle.actl.specs.Actions.{Action, maskOf};
+ghost use Rattle.actl.specs.Cursor.{Named};
+ghost use Rattle.actl.specs.Readers.{namesIn, Ready, earlier, OperandSays, EnclosedSays, SetSays};
+use crate::cursor::{Cursor, Taken};
+use lts::lookup::Found;
+
+// A set of labels as a mask; or the place where the text is refused. The last number is 0 as long as the table has
+// every name, and else one more than the offset of the first that it lacks.
+pub enum Labels {
+    Read(Cursor, u64, usize),
+    Refused(Cursor),
+}
+
+// A keyword with its bracket, as the kind and the masks of its node.
+pub enum Heading {
+    Read(Cursor, u64, u64, u64, usize),
+    Refused(Cursor),
+}
+
+// A term, and how many nodes there are behind it.
+pub enum Nodes {
+    Read(Cursor, usize, usize),
+    Refused(Cursor),
+}
+
+// A formula's end, the end of the blanks behind it, and how many nodes there are.
+pub enum Chain {
+    Read(Cursor, Cursor, usize, usize),
+    Refused(Cursor),
+}
+
+// A whole text: how many nodes it has, and the first name that the table lacks; or the length of its longest viable beginning.
+pub enum Reading {
+    Whole(usize, usize),
+    Refused(usize),
+}
+
+// 01: "`*` (all labels)". Label 0 is none of them.
+fn all_labels(table: &[u8]) -> u64
+    requires { ⌜ HoldsTable (now table) ⌝ }
+    ensures { λ r. ⌜ r ≡ maskOf (length (namesIn (now (table .entry)))) Action.any ⌝ }
+{
+    (2u64 << lts::prepared::label_count(table)) - 2
+}
+
+// The first offset so far is kept.
+fn earlier_of(lost: usize, at: usize) -> usize
+    requires { ⌜ at < 512 ⌝ }
+    ensures { λ r. ⌜ r ≡ earlier lost (some at) ⌝ }
+{
+    if lost == 0 { at + 1 } else { lost }
+}
+
+// The bytes from `at` up to `to`, of which there are at most twelve.
+fn name_bytes(text: &[u8], at: usize, to: usize) -> [u8; 12]
+    requires { ⌜ (at ≤ to) × (to ≤ length (now text)) × (to ≤ at + 12) ⌝ }
+    ensures { λ r. ⌜ take (to - at) r ≡ take (to - at) (drop at (now (text .entry))) ⌝ }
+{
+    let mut name = [0u8; 12];
+    let mut i = at;
+    while i < to {
+        name[i - at] = text[i];
+        i += 1;
+    }
+    name
+}
+
+// A name's label, where the table has one.
+fn label(table: &[u8], text: &[u8], c: Cursor, d: Cursor, lost: usize) -> Labels
+    requires { ⌜ Ready (now table) (now text) (c .at) × Named (now text) (c .at) (d .at) ⌝ }
+    ensures { λ r. ⌜ OperandSays (namesIn (now (table .entry))) (now (text .entry)) (c .at) lost r ⌝ }
+{
+    let at = c.at;
+    let to = d.at;
+    let x = lts::lookup::find_label(table, name_bytes(text, at, to), to - at);
+    match x {
+        Found::At(a) => Labels::Read(d, 1u64 << a, lost),
+        Found::Nothing => Labels::Read(d, 0, earlier_of(lost, at)),
+    }
+}
