@@ -87,3 +87,71 @@ fn label(table: &[u8], text: &[u8], c: Cursor, d: Cursor, lost: usize) -> Labels
         Found::Nothing => Labels::Read(d, 0, earlier_of(lost, at)),
     }
 }
+
+// 01: "an operand is a name, `*` (all labels), `~` and an operand, or a set in round brackets"
+fn operand(table: &[u8], text: &[u8], c: Cursor, lost: usize) -> Labels
+    requires { ⌜ Ready (now table) (now text) (c .at) ⌝ }
+    ensures { λ r. ⌜ OperandSays (namesIn (now (table .entry))) (now (text .entry)) (c .at) lost r ⌝ }
+{
+    if let Taken::Past(d) = c.mark(text, b'*') {
+        return Labels::Read(d, all_labels(table), lost);
+    }
+    if let Taken::Past(d) = c.token(text, b'~') {
+        let x = operand(table, text, d, lost);
+        return match x {
+            Labels::Read(e, m, l) => Labels::Read(e, all_labels(table) - m, l),
+            Labels::Refused(e) => Labels::Refused(e),
+        };
+    }
+    if let Taken::Past(d) = c.token(text, b'(') {
+        return enclosed(table, text, d, 41, lost);
+    }
+    if let Taken::Past(d) = c.name(text) {
+        return label(table, text, c, d, lost);
+    }
+    Labels::Refused(c)
+}
+
+// A set, and the mark that ends its bracket.
+fn enclosed(table: &[u8], text: &[u8], c: Cursor, mark: u8, lost: usize) -> Labels
+    requires { ⌜ Ready (now table) (now text) (c .at) ⌝ }
+    ensures { λ r. ⌜ EnclosedSays (namesIn (now (table .entry))) (now (text .entry)) (c .at) mark lost r ⌝ }
+{
+    let x = set(table, text, c, lost);
+    match x {
+        Labels::Refused(e) => Labels::Refused(e),
+        Labels::Read(e, m, l) => {
+            let Taken::Past(f) = e.mark(text, mark) else {
+                return Labels::Refused(e);
+            };
+            Labels::Read(f, m, l)
+        }
+    }
+}
+
+// 01: "A set is one or more operands joined by `|`". It is read with the blanks behind it.
+fn set(table: &[u8], text: &[u8], c: Cursor, lost: usize) -> Labels
+    requires { ⌜ Ready (now table) (now text) (c .at) ⌝ }
+    ensures { λ r. ⌜ SetSays (namesIn (now (table .entry))) (now (text .entry)) (c .at) lost r ⌝ }
+{
+    let mut d = c;
+    let mut mask = 0u64;
+    let mut lacks = lost;
+    loop {
+        let x = operand(table, text, d, lacks);
+        match x {
+            Labels::Refused(e) => {
+                return Labels::Refused(e);
+            }
+            Labels::Read(e, m, l) => {
+                let f = e.skip_blanks(text);
+                mask = mask | m;
+                lacks = l;
+                let Taken::Past(g) = f.token(text, b'|') else {
+                    return Labels::Read(f, mask, lacks);
+                };
+                d = g;
+            }
+        }
+    }
+}

@@ -9,9 +9,6 @@ use lib.ListN.{length}
 use Rattle.actl.specs.Actions.{Action, maskOf}
 use Rattle.actl.proofs.reading.all_labels.Statement.{statement}
 use Rattle.actl.proofs.reading.all_labels.Tie as tie
-use Rattle.actl.proofs.reading.all_labels.Reads as reads
-use Rattle.actl.proofs.reading.all_labels.Lts as lts
-use Rattle.lts.proofs.prepared.label_count.Reads as label-count-reads
 
 label-count-requires : tie.Need-label-count-requires
 label-count-requires c κs = search needs

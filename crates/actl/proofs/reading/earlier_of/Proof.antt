@@ -3,8 +3,6 @@ use borrow.Author.Needs.{needs}
 use Rattle.actl.proofs.ReadingLabels.{earlier-first, earlier-kept}
 use Rattle.actl.proofs.reading.earlier_of.Statement.{statement}
 use Rattle.actl.proofs.reading.earlier_of.Tie as tie
-use Rattle.actl.proofs.reading.earlier_of.Reads as reads
-use Rattle.actl.proofs.reading.earlier_of.Lts as lts
 
 add-result : tie.Need-add-result
 add-result c = search needs

@@ -8,11 +8,6 @@ use Rattle.actl.specs.Readers.{OperandRead, namesIn}
 use Rattle.actl.proofs.ReadingLabels.{found-range, shifted-one, label-known, label-unknown}
 use Rattle.actl.proofs.reading.label.Statement.{statement}
 use Rattle.actl.proofs.reading.label.Tie as tie
-use Rattle.actl.proofs.reading.label.Reads as reads
-use Rattle.actl.proofs.reading.label.Lts as lts
-use Rattle.actl.proofs.reading.earlier_of.Reads as earlier-of-reads
-use Rattle.actl.proofs.reading.name_bytes.Reads as name-bytes-reads
-use Rattle.lts.proofs.lookup.find_label.Reads as find-label-reads
 
 name-bytes-requires : tie.Need-name-bytes-requires
 name-bytes-requires c κs = search needs

@@ -6,8 +6,6 @@ use Rattle.actl.proofs.ReadingLabels.{Copied, copied-none, copied-more}
 use lib.ListN.{take, drop}
 use Rattle.actl.proofs.reading.name_bytes.Statement.{statement}
 use Rattle.actl.proofs.reading.name_bytes.Tie as tie
-use Rattle.actl.proofs.reading.name_bytes.Reads as reads
-use Rattle.actl.proofs.reading.name_bytes.Lts as lts
 
 abbrev Inv-loop : tie.InvT-loop
 Inv-loop text at to name₀ i₀ name i = Copied text at to name i
