@@ -4,9 +4,11 @@ use mathlib.Core.Bool.{cond}
 use mathlib.Core.List.{List, [], _∷_}
 use Prim.Native.Nat.{ℕ, zero, suc, _+_, _-_, _≤_, _<_}
 use native.Mathlib.Nat.{add-zero}
+use native.Mathlib.Decide.{decLe}
 use native.Mathlib.Omega.{arith}
 use borrow.Author.Tests.{ne-eqb}
-use lib.ListN.{length, drop}
+use lib.ListN.{length, drop, drop-of-length-le}
+use lib.Seq.{drop-cons}
 use Rattle.actl.specs.Grammar.{gap}
 use Rattle.actl.specs.Reader.{State, Step, go, stop, on, step, finish, proceed, run, refused}
 use Rattle.actl.specs.Cursor.{peek, Token, Skipped, Moves, Fails, Marked, Tokened}
@@ -66,6 +68,16 @@ module _ {K : Type 0} {s : List ℕ} where
 
   pub stops : {at : ℕ} → at ≤ length s → {x : K → State} → ((k : K) → finish (x k) ≡ refused []) → ((k : K) → step (x k) (peek s at) ≡ stop) → Fails s at at x
   stops {at} t {x} f e = record { within = t; reads = λ k. run-stop s at (x k) t (f k) (e k) }
+
+  -- Two states that go on alike.
+  pub alike : {at : ℕ} → at ≤ length s → {x y : K → State} → ((k : K) → finish (x k) ≡ finish (y k)) → ((k : K) → step (x k) (peek s at) ≡ step (y k) (peek s at)) → Moves s at at (λ r. r) x y
+  alike {at} t {x} {y} f e = record { up = omega arith; within = t; text = refl; reads = λ k. case k (decLe (length s) at) }
+    where
+      case : (k : K) → Dec (length s ≤ at) → run (drop at s) (x k) ≡ run (drop at s) (y k)
+      case k (yes q) = let d = drop-of-length-le s q in ap (λ l. run l (x k)) d ∙ (f k ∙ ap (λ l. run l (y k)) (sym d))
+      case k (no q) =
+          let d = drop-cons s at 256 (omega arith) in
+          ap (λ l. run l (x k)) d ∙ (ap (λ v. proceed v (run (drop (suc at) s)) (refused (peek s at ∷ drop (suc at) s))) (e k) ∙ ap (λ l. run l (y k)) (sym d))
 
   -- Two names for a state.
   pub equal : {at : ℕ} → at ≤ length s → {x y : K → State} → ((k : K) → x k ≡ y k) → Moves s at at (λ r. r) x y

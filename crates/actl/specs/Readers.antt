@@ -138,12 +138,15 @@ abbrev pub HeadSays : List (List ℕ) → List ℕ → ℕ → ℕ → Heading �
 HeadSays N s at lost (heading.Read c k a b l) = HeadRead N s at lost (c .at) k a b l
 HeadSays N s at lost (heading.Refused c) = Fails s at (c .at) termAt
 
--- A place at which no `T`, `~`, `(` or blank stands: a keyword, or nothing that a term begins with.
+-- A place at which no `T`, `~` or `(` stands: a term there begins with a keyword.
 pub record NoMark (s : List ℕ) (at : ℕ) : Type 0 where
-  pub token : Token s at
   pub no-true : peek s at ≡ 84 → ⊥
   pub no-not : peek s at ≡ 126 → ⊥
   pub no-paren : peek s at ≡ 40 → ⊥
+
+-- How far a text without keyword there can go on: past an E or an A.
+abbrev pub NoKeyword : List ℕ → ℕ → ℕ → Type 0
+NoKeyword s at to = Marked s at 69 to ⊎ (Marked s at 65 to ⊎ ((peek s at ≡ 69 → ⊥) × (peek s at ≡ 65 → ⊥) × (to ≡ at)))
 
 -- Three cells for each node: its kind and its masks.
 abbrev pub slotCells : Slot → List ℕ
