@@ -155,6 +155,14 @@ slotCells s = s .kind ∷ s .first ∷ s .second ∷ []
 abbrev pub nodeCells : Formula → List ℕ
 nodeCells F = bind (λ f. slotCells (slotOf f)) (nodes F)
 
+-- Cells with node n written anew.
+abbrev pub putAt : ℕ → ℕ → Mask → Mask → List ℕ → List ℕ
+putAt n kind first second e = take (n * 3) e ++ (kind ∷ first ∷ second ∷ drop (n * 3 + 3) e)
+
+-- Cells with `|` written before the nodes from `start` up to n, which move up by one.
+abbrev pub joinedAt : ℕ → ℕ → List ℕ → List ℕ
+joinedAt start n e = take (start * 3) e ++ (3 ∷ 0 ∷ 0 ∷ (drop (start * 3) (take (n * 3) e) ++ drop (n * 3 + 3) e))
+
 -- The cells x are the cells e up to node n, and then l up to node m.
 pub record Written (n m : ℕ) (e x l : List ℕ) : Type 0 where
   pub long : length x ≡ length e

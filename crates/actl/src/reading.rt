@@ -9,7 +9,7 @@ ghost use Rattle.lts.specs.Prepared.{tableIn};
 ghost use Rattle.lts.specs.Access.{HoldsTable};
 ghost use Rattle.actl.specs.Actions.{Action, maskOf};
 ghost use Rattle.actl.specs.Cursor.{Named};
-ghost use Rattle.actl.specs.Readers.{namesIn, Ready, NoMark, NoKeyword, earlier, OperandSays, EnclosedSays, SetSays, NextSays, UntilSays, HeadSays};
+ghost use Rattle.actl.specs.Readers.{namesIn, Ready, NoMark, NoKeyword, earlier, OperandSays, EnclosedSays, SetSays, NextSays, UntilSays, HeadSays, putAt, joinedAt, Room, TermSays, BracketSays, FormulaSays, ReadingSays};
 use crate::cursor::{Cursor, Taken};
 use lts::lookup::Found;
 
@@ -234,4 +234,29 @@ fn head(table: &[u8], text: &[u8], c: Cursor, lost: usize) -> Heading
         return until_head(table, text, d, lost);
     }
     Heading::Refused(no_keyword(text, c))
+}
+
+// Node n: its kind and its masks.
+fn put(cells: &mut [u64; 1536], n: usize, kind: u64, first: u64, second: u64)
+    requires { ⌜ (length (now cells) ≡ 1536) × (n < 512) ⌝ }
+    ensures { λ r. ⌜ now (cells .exit) ≡ putAt n kind first second (now (cells .entry)) ⌝ }
+{
+    let at = n * 3;
+    cells[at] = kind;
+    cells[at + 1] = first;
+    cells[at + 2] = second;
+}
+
+// The nodes from `start` up to n move up by one, and `|` stands before them.
+fn join(cells: &mut [u64; 1536], start: usize, n: usize)
+    requires { ⌜ (length (now cells) ≡ 1536) × (start ≤ n) × (n < 511) ⌝ }
+    ensures { λ r. ⌜ now (cells .exit) ≡ joinedAt start n (now (cells .entry)) ⌝ }
+{
+    let low = start * 3;
+    let mut i = n * 3;
+    while low < i {
+        i -= 1;
+        cells[i + 3] = cells[i];
+    }
+    put(cells, start, 3, 0, 0);
 }
