@@ -169,7 +169,7 @@ pub record Written (n m : ℕ) (e x l : List ℕ) : Type 0 where
   pub cells : take (m * 3) x ≡ take (n * 3) e ++ l
 
 -- Room for the nodes of what is left of the text: there are no more nodes than bytes.
-pub record Room (s e : List ℕ) (at n : ℕ) : Type 0 where
+pub record Room (e : List ℕ) (at n : ℕ) : Type 0 where
   pub below : n ≤ at
   pub long : length e ≡ 1536
 

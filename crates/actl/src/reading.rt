@@ -249,7 +249,7 @@ fn put(cells: &mut [u64; 1536], n: usize, kind: u64, first: u64, second: u64)
 
 // The nodes from `start` up to n move up by one, and `|` stands before them.
 fn join(cells: &mut [u64; 1536], start: usize, n: usize)
-    requires { ⌜ (length (now cells) ≡ 1536) × (start ≤ n) × (n < 511) ⌝ }
+    requires { ⌜ (length (now cells) ≡ 1536) × (start ≤ n) × (n < 512) ⌝ }
     ensures { λ r. ⌜ now (cells .exit) ≡ joinedAt start n (now (cells .entry)) ⌝ }
 {
     let low = start * 3;
@@ -259,4 +259,76 @@ fn join(cells: &mut [u64; 1536], start: usize, n: usize)
         cells[i + 3] = cells[i];
     }
     put(cells, start, 3, 0, 0);
+}
+
+// 01: "A term is `T`, `~` and a term, a keyword with its square bracket and a term, or a formula in round brackets."
+fn term(table: &[u8], text: &[u8], cells: &mut [u64; 1536], c: Cursor, n: usize, lost: usize) -> Nodes
+    requires { ⌜ Ready (now table) (now text) (c .at) × Room (now cells) (c .at) n ⌝ }
+    ensures { λ r. ⌜ TermSays (namesIn (now (table .entry))) (now (text .entry)) (c .at) n lost (now (cells .entry)) (now (cells .exit)) r ⌝ }
+{
+    if let Taken::Past(d) = c.mark(text, b'T') {
+        put(cells, n, 1, 0, 0);
+        return Nodes::Read(d, n + 1, lost);
+    }
+    if let Taken::Past(d) = c.token(text, b'~') {
+        put(cells, n, 2, 0, 0);
+        return term(table, text, cells, d, n + 1, lost);
+    }
+    if let Taken::Past(d) = c.token(text, b'(') {
+        return bracket(table, text, cells, d, n, lost);
+    }
+    let x = head(table, text, c, lost);
+    match x {
+        Heading::Refused(e) => Nodes::Refused(e),
+        Heading::Read(e, kind, first, second, l) => {
+            let f = e.skip_blanks(text);
+            put(cells, n, kind, first, second);
+            term(table, text, cells, f, n + 1, l)
+        }
+    }
+}
+
+// 01: "A bracket holds a whole formula again." From behind `(` to behind `)`.
+fn bracket(table: &[u8], text: &[u8], cells: &mut [u64; 1536], c: Cursor, n: usize, lost: usize) -> Nodes
+    requires { ⌜ Ready (now table) (now text) (c .at) × Room (now cells) (c .at) n ⌝ }
+    ensures { λ r. ⌜ BracketSays (namesIn (now (table .entry))) (now (text .entry)) (c .at) n lost (now (cells .entry)) (now (cells .exit)) r ⌝ }
+{
+    let x = formula(table, text, cells, c, n, lost);
+    match x {
+        Chain::Refused(e) => Nodes::Refused(e),
+        Chain::Read(_, e, m, l) => {
+            let Taken::Past(f) = e.mark(text, b')') else {
+                return Nodes::Refused(e);
+            };
+            Nodes::Read(f, m, l)
+        }
+    }
+}
+
+// 01: "A formula is one or more terms joined by `|`, grouped from the left." It is read with the blanks behind it.
+fn formula(table: &[u8], text: &[u8], cells: &mut [u64; 1536], c: Cursor, n: usize, lost: usize) -> Chain
+    requires { ⌜ Ready (now table) (now text) (c .at) × Room (now cells) (c .at) n ⌝ }
+    ensures { λ r. ⌜ FormulaSays (namesIn (now (table .entry))) (now (text .entry)) (c .at) n lost (now (cells .entry)) (now (cells .exit)) r ⌝ }
+{
+    let mut d = c;
+    let mut k = n;
+    let mut lacks = lost;
+    loop {
+        let x = term(table, text, cells, d, k, lacks);
+        match x {
+            Nodes::Refused(e) => {
+                return Chain::Refused(e);
+            }
+            Nodes::Read(e, m, l) => {
+                let f = e.skip_blanks(text);
+                let Taken::Past(g) = f.token(text, b'|') else {
+                    return Chain::Read(e, f, m, l);
+                };
+                join(cells, n, m);
+                d = g;
+                k = m + 1;
+                lacks = l;
+            }
+        }
+    }
 }
