@@ -10,7 +10,8 @@ ghost use Rattle.lts.specs.Access.{HoldsTable};
 ghost use Rattle.actl.specs.Actions.{Action, maskOf};
 ghost use Rattle.actl.specs.Cursor.{Named};
 ghost use Rattle.actl.specs.Readers.{namesIn, Ready, NoMark, NoKeyword, earlier, OperandSays, EnclosedSays, SetSays, NextSays, UntilSays, HeadSays, putAt, joinedAt, Room, TermSays, BracketSays, FormulaSays, ReadingSays};
-use crate::cursor::{Cursor, Taken};
+use crate::cursor::Cursor;
+use crate::cursor::Taken;
 use lts::lookup::Found;
 
 // A set of labels as a mask; or the place where the text is refused. The last number is 0 as long as the table has
@@ -262,7 +263,14 @@ fn join(cells: &mut [u64; 1536], start: usize, n: usize)
 }
 
 // 01: "A term is `T`, `~` and a term, a keyword with its square bracket and a term, or a formula in round brackets."
-fn term(table: &[u8], text: &[u8], cells: &mut [u64; 1536], c: Cursor, n: usize, lost: usize) -> Nodes
+fn term(
+    table: &[u8],
+    text: &[u8],
+    cells: &mut [u64; 1536],
+    c: Cursor,
+    n: usize,
+    lost: usize,
+) -> Nodes
     requires { ⌜ Ready (now table) (now text) (c .at) × Room (now cells) (c .at) n ⌝ }
     ensures { λ r. ⌜ TermSays (namesIn (now (table .entry))) (now (text .entry)) (c .at) n lost (now (cells .entry)) (now (cells .exit)) r ⌝ }
 {
@@ -289,7 +297,14 @@ fn term(table: &[u8], text: &[u8], cells: &mut [u64; 1536], c: Cursor, n: usize,
 }
 
 // 01: "A bracket holds a whole formula again." From behind `(` to behind `)`.
-fn bracket(table: &[u8], text: &[u8], cells: &mut [u64; 1536], c: Cursor, n: usize, lost: usize) -> Nodes
+fn bracket(
+    table: &[u8],
+    text: &[u8],
+    cells: &mut [u64; 1536],
+    c: Cursor,
+    n: usize,
+    lost: usize,
+) -> Nodes
     requires { ⌜ Ready (now table) (now text) (c .at) × Room (now cells) (c .at) n ⌝ }
     ensures { λ r. ⌜ BracketSays (namesIn (now (table .entry))) (now (text .entry)) (c .at) n lost (now (cells .entry)) (now (cells .exit)) r ⌝ }
 {
@@ -306,7 +321,14 @@ fn bracket(table: &[u8], text: &[u8], cells: &mut [u64; 1536], c: Cursor, n: usi
 }
 
 // 01: "A formula is one or more terms joined by `|`, grouped from the left." It is read with the blanks behind it.
-fn formula(table: &[u8], text: &[u8], cells: &mut [u64; 1536], c: Cursor, n: usize, lost: usize) -> Chain
+fn formula(
+    table: &[u8],
+    text: &[u8],
+    cells: &mut [u64; 1536],
+    c: Cursor,
+    n: usize,
+    lost: usize,
+) -> Chain
     requires { ⌜ Ready (now table) (now text) (c .at) × Room (now cells) (c .at) n ⌝ }
     ensures { λ r. ⌜ FormulaSays (namesIn (now (table .entry))) (now (text .entry)) (c .at) n lost (now (cells .entry)) (now (cells .exit)) r ⌝ }
 {
@@ -328,6 +350,28 @@ fn formula(table: &[u8], text: &[u8], cells: &mut [u64; 1536], c: Cursor, n: usi
                 d = g;
                 k = m + 1;
                 lacks = l;
+            }
+        }
+    }
+}
+
+// A whole text of at most 512 bytes.
+pub fn read_text(table: &[u8], text: &[u8], cells: &mut [u64; 1536]) -> Reading
+    requires { ⌜ HoldsTable (now table) × (length (now text) ≤ 512) × (length (now cells) ≡ 1536) ⌝ }
+    ensures { λ r. ⌜ ReadingSays (namesIn (now (table .entry))) (now (text .entry)) (now (cells .exit)) r ⌝ }
+{
+    let c = Cursor { at: 0 };
+    if let Taken::Past(_) = c.mark(text, b' ') {
+        return Reading::Refused(0);
+    }
+    let x = formula(table, text, cells, c, 0, 0);
+    match x {
+        Chain::Refused(e) => Reading::Refused(e.at),
+        Chain::Read(e, f, n, lost) => {
+            if e.at == text.len() {
+                Reading::Whole(n, lost)
+            } else {
+                Reading::Refused(f.at)
             }
         }
     }

@@ -412,12 +412,14 @@ term-head-requires t c κs =
     let s = a .text .now in
     let e = a .cells .now in
     let at = a .c .at in
-    let pre = c .before .before .before .before .before .before .before .before .before .before .before .pre in
-    (pre .1 .0, record {
-      no-true = subst (MarkSays s at 84) (c .before .before .before .before .before .before .enum-told .given .1) (c .before .before .before .before .before .before .before .before .mark .ensures);
-      no-not = subst (TokenSays s at 126) (c .before .before .before .enum-told2 .given .1) (c .before .before .before .before .before .token .ensures);
-      no-paren = subst (TokenSays s at 40) (c .enum-told3 .given .1) (c .before .before .token2 .ensures);
-    })
+    let pre = c .before .before .before .before .before .before .before .before .before .before .before .pre in (
+      pre .1 .0,
+      record {
+        no-true = subst (MarkSays s at 84) (c .before .before .before .before .before .before .enum-told .given .1) (c .before .before .before .before .before .before .before .before .mark .ensures);
+        no-not = subst (TokenSays s at 126) (c .before .before .before .enum-told2 .given .1) (c .before .before .before .before .before .token .ensures);
+        no-paren = subst (TokenSays s at 40) (c .enum-told3 .given .1) (c .before .before .token2 .ensures);
+      },
+    )
 
 term-enum-known-x : (t : ℕ) → term-lts.Need-enum-known-x (term-claims t) (term-at t) term.Post
 term-enum-known-x t c = search needs
