@@ -7,4 +7,3 @@ pub mod Lines
 pub mod Reading
 pub mod ReadingLabels
 pub mod Texts
-pub mod Lookup

@@ -8,4 +8,3 @@ pub mod Reading
 pub mod Prepared
 pub mod Replies
 pub mod Access
-pub mod Lookup

@@ -10,5 +10,4 @@ pub enum TableReply {
     BufferShort(usize),
 }
 
-pub mod lookup;
 pub mod prepared;
