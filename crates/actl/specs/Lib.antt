@@ -10,3 +10,4 @@ pub mod Replies
 pub mod Cursor
 pub mod Readers
 pub mod Access
+pub mod Walk

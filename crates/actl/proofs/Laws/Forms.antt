@@ -1,7 +1,7 @@
 -- The one form of a formula: its length, its bytes, and the slots in it.
 use mathlib.Core.Path.{_≡_, refl, sym, ap, _∙_, subst}
 use mathlib.Core.List.{List, [], _∷_, _++_, map}
-use Prim.Native.Nat.{ℕ, zero, suc, _+_, _*_, _-_, _^_, _≤_, _<_}
+use Prim.Native.Nat.{ℕ, zero, suc, _+_, _*_, _-_, _/_, _%_, _^_, _≤_, _<_}
 use native.Mathlib.Omega.{arith}
 use lib.ListN.{length, getD, take, drop, replicate, length-append, length-replicate}
 use lib.Seq.{drop-drop, getD-drop, getD-take}
@@ -11,6 +11,7 @@ use Rattle.actl.specs.Formulas.{Formula, tru, size, nodes}
 use Rattle.actl.specs.Prepared.{formulaLength, Slot, slot, slotOf, slotBytes, formulaBytes, number, slotAt}
 use Rattle.actl.proofs.Nodes.{length-nodes}
 use Rattle.actl.proofs.Laws.Numbers.{length-low-first, number-low-first, number-take}
+use Rattle.actl.proofs.Laws.Slots.{Shape, shape-of, node-shaped}
 use Rattle.actl.proofs.Laws.Widths.{length-parts, drop-parts}
 
 abbrev nodeBytes : Formula → List ℕ
@@ -77,3 +78,39 @@ slot-of-front b k h =
     let f = number-take 8 (2 + k * 17) formulaLength b (omega arith) in
     let g = number-take 8 (10 + k * 17) formulaLength b (omega arith) in
     λ i. slot (e i) (f i) (g i)
+
+-- Every one of the form's numbers is a byte.
+abbrev Bytes : List ℕ → Type 0
+Bytes l = (i : ℕ) → getD l i 0 < 256
+
+bytes-cons : (x : ℕ) (l : List ℕ) → x < 256 → Bytes l → Bytes (x ∷ l)
+bytes-cons x l h b zero = h
+bytes-cons x l h b (suc i) = b i
+
+bytes-append : (l m : List ℕ) → Bytes l → Bytes m → Bytes (l ++ m)
+bytes-append [] m a b = b
+bytes-append (x ∷ l) m a b = bytes-cons x (l ++ m) (a 0) (bytes-append l m (λ i. a (suc i)) b)
+
+bytes-low-first : (n x : ℕ) → Bytes (lowFirst n x)
+bytes-low-first zero x = λ i. omega arith
+bytes-low-first (suc n) x = bytes-cons (x % 256) (lowFirst n (x / 256)) (omega arith) (bytes-low-first n (x / 256))
+
+bytes-zeros : (n : ℕ) → Bytes (replicate n 0)
+bytes-zeros zero = λ i. omega arith
+bytes-zeros (suc n) = bytes-cons 0 (replicate n 0) (omega arith) (bytes-zeros n)
+
+bytes-node : (f : Formula) → Bytes (nodeBytes f)
+bytes-node f =
+    let h = shape-of (slotOf f) (node-shaped f) .high in
+    bytes-cons (slotOf f .kind) (lowFirst 8 (slotOf f .first) ++ lowFirst 8 (slotOf f .second)) (omega arith)
+    (bytes-append (lowFirst 8 (slotOf f .first)) (lowFirst 8 (slotOf f .second)) (bytes-low-first 8 (slotOf f .first)) (bytes-low-first 8 (slotOf f .second)))
+
+bytes-nodes : (l : List Formula) → Bytes (bind nodeBytes l)
+bytes-nodes [] = λ i. omega arith
+bytes-nodes (f ∷ l) = bytes-append (nodeBytes f) (bind nodeBytes l) (bytes-node f) (bytes-nodes l)
+
+pub form-bytes : (F : Formula) → size F ≤ 40 → (i : ℕ) → getD (formulaBytes F) i 0 < 256
+unfolding formulaBytes
+form-bytes F h =
+    let all = bind nodeBytes (nodes F) in
+    bytes-cons (size F) (padded 680 all) (omega arith) (bytes-append all (replicate (680 - length all) 0) (bytes-nodes (nodes F)) (bytes-zeros (680 - length all)))

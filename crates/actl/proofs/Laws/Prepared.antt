@@ -1,24 +1,28 @@
 -- What a prepared formula's bytes hold: the node count, and in slot k the node k.
 use mathlib.Core.Path.{_≡_, refl, sym, ap, _∙_, subst}
-use mathlib.Core.Bool.{Bool, true, false, cond, _&&_}
+use mathlib.Core.Bool.{Bool, true, false, cond, not, _&&_}
 use mathlib.Core.List.{List, [], _∷_, _++_, map, append-nil}
 use mathlib.Core.Option.{Option, none, some}
 use Prim.Native.Nat.{ℕ, zero, suc, _+_, _*_, _^_, _≤_, _<_}
+use native.Mathlib.Nat.{lt-of-lt-of-le}
 use native.Mathlib.Omega.{arith}
-use lib.Dec.{leb}
+use lib.Dec.{leb, eqb}
+use lib.Pow.{pow-mono}
 use lib.ListN.{length, getD, take, length-map, List·getD-map}
-use lib.Seq.{getD-take}
-use borrow.Author.Tests.{leb-true, eqb-false, not-true}
+use lib.Seq.{getD-take, ext-getD}
+use borrow.Author.Tests.{leb-true, le-leb, eqb-false, ne-eqb, not-true}
 use Rattle.columns.specs.Bytes.{sameBytes}
 use Rattle.lts.specs.Lists.{upFrom, bind, every}
-use Rattle.lts.proofs.Lists.{and-true-of, every-of}
+use Rattle.lts.proofs.Lists.{and-true-of, and-true-to, every-of, every-to, getD-mem}
+use Rattle.actl.specs.Actions.{Mask}
 use Rattle.actl.specs.Formulas.{Formula, tru, size, nodes, classOf}
-use Rattle.actl.specs.Prepared.{formulaLength, Slot, slot, slotOf, formulaBytes, slotAt, slotWithin, IsForm, isForm, treesIn, formed, preparedFormula}
+use Rattle.actl.specs.Prepared.{formulaLength, Slot, slot, slotOf, formulaBytes, slotAt, maskWithin, slotWithin, IsForm, isForm, treesIn, formed, preparedFormula}
 use Rattle.actl.specs.Access.{shaped, firstUsed, secondUsed}
 use Rattle.actl.proofs.Nodes.{length-nodes}
-use Rattle.actl.proofs.Laws.Lists.{length-upFrom, getD-upFrom, same-bytes-of}
+use Rattle.actl.proofs.Laws.Lists.{length-upFrom, getD-upFrom, same-bytes-of, same-bytes-refl}
+use Rattle.actl.proofs.Laws.Masks.{within-low}
 use Rattle.actl.proofs.Laws.Slots.{slot-by-parts, node-shaped}
-use Rattle.actl.proofs.Laws.Polish.{clean, slotsOf, trees-of}
+use Rattle.actl.proofs.Laws.Polish.{clean, slotsOf, trees-of, tree-of-slots}
 use Rattle.actl.proofs.Laws.Forms.{StandsFor, slot-of-form, slot-of-front}
 
 formed-of : (n : ℕ) (b : List ℕ) (t : Option (List Formula)) {F : Formula} → formed n b t ≡ some F → (t ≡ some (F ∷ [])) × (isForm n b F ≡ true)
@@ -82,3 +86,39 @@ module _ (n : ℕ) (b : List ℕ) {F : Formula} (e : preparedFormula n b ≡ som
 
   pub prepared-shaped : (k : ℕ) → k < size F → shaped (slotAt b k) ≡ true
   prepared-shaped k h = ap shaped (prepared-slot k h) ∙ node-shaped (getD (nodes F) k tru)
+
+-- And back: the one form is a prepared formula. Masks of at most 63 labels fit eight bytes.
+is-form-to : (n : ℕ) (b : List ℕ) (F : Formula) → IsForm n b F → isForm n b F ≡ true
+is-form-to n b F h =
+    and-true-to _ (every (λ f. slotWithin n (slotOf f)) (nodes F))
+    (and-true-to _ (every (λ f. not (eqb (classOf f) 0)) (nodes F))
+    (and-true-to (sameBytes (take formulaLength b) (formulaBytes F)) (leb (size F) 40)
+    (rw (h .form) (same-bytes-refl (formulaBytes F)))
+    (le-leb (size F) 40 (h .few)))
+    (every-to (λ f. not (eqb (classOf f) 0)) (nodes F) (λ f m. ap not (ne-eqb (classOf f) 0 (h .classed f m)))))
+    (every-to (λ f. slotWithin n (slotOf f)) (nodes F) (h .within))
+
+module _ (n : ℕ) (b : List ℕ) (F : Formula) (h : IsForm n b F) where
+  form-count : getD b 0 0 ≡ size F
+  unfolding formulaBytes
+  form-count = sym (getD-take formulaLength b 0 0 (omega arith)) ∙ ap (λ l. getD l 0 0) (h .form)
+
+  form-slot : n ≤ 63 → (k : ℕ) → k < size F → slotAt b k ≡ slotOf (getD (nodes F) k tru)
+  form-slot few k l =
+      let m = h .few in
+      let f = getD (nodes F) k tru in
+      let w = and-true-of (maskWithin n (slotOf f .first)) (maskWithin n (slotOf f .second)) (h .within f (getD-mem (nodes F) k tru (omega (arith, length-nodes F)))) in
+      let s : StandsFor (slotOf f) (slotAt b k) =
+      subst (StandsFor (slotOf f)) (sym (ap (λ x. slotAt x k) (h .form)) ∙ slot-of-front b k (omega arith)) (slot-of-form F k l) in
+      let carried : (x : Mask) → maskWithin n x ≡ true → x < 256 ^ 8 = λ x e. lt-of-lt-of-le (within-low n x e .1) (pow-mono {i = suc n} {j = 64} (omega arith)) in
+      sym (slot-by-parts (slotAt b k) (s .same-kind) (s .same-first (carried (slotOf f .first) (w .0))) (s .same-second (carried (slotOf f .second) (w .1))))
+
+  form-slots : n ≤ 63 → map (slotAt b) (upFrom 0 (getD b 0 0)) ≡ map slotOf (nodes F)
+  form-slots few =
+      let c : length (map (slotAt b) (upFrom 0 (getD b 0 0))) ≡ size F = length-map (upFrom 0 (getD b 0 0)) (slotAt b) ∙ (length-upFrom 0 (getD b 0 0) ∙ form-count) in
+      ext-getD (slot 1 0 0) (map (slotAt b) (upFrom 0 (getD b 0 0))) (map slotOf (nodes F)) (c ∙ sym (length-map (nodes F) slotOf ∙ length-nodes F))
+      (λ k l. getD-upFrom (slotAt b) (getD b 0 0) k (slot 1 0 0) (omega (arith, form-count)) ∙ (form-slot few k (omega arith) ∙ sym (List·getD-map slotOf (nodes F) k tru)))
+
+  pub prepared-to : n ≤ 63 → preparedFormula n b ≡ some F
+  unfolding preparedFormula
+  prepared-to few = ap (λ l. formed n b (treesIn l)) (form-slots few) ∙ (ap (formed n b) (tree-of-slots F) ∙ ap (λ t. cond t (some F) none) (is-form-to n b F h))
