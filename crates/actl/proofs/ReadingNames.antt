@@ -15,13 +15,7 @@ use Rattle.actl.specs.Reader.{InOperand, oFirst, oOr, oNot, State, opera
 use Rattle.actl.specs.Cursor.{peek, Named}
 use Rattle.actl.proofs.ReadingPlaces.{byte-at, inside, getD-any}
 
--- Tests of a byte.
-pub lower-is-name-byte : (b : ℕ) → isLower b ≡ true → true ≡ isNameByte b
-lower-is-name-byte b e = ap (λ t. t || (eqb b 95 || (leb 48 b && leb b 57))) (sym e)
-
-pub other-name-byte : (b : ℕ) (t u : Bool) → isLower b ≡ false → eqb b 95 ≡ t → leb 48 b && leb b 57 ≡ u → t || u ≡ isNameByte b
-other-name-byte b t u e p q = ap (λ v. v || u) (sym p) ∙ (ap (λ v. eqb b 95 || v) (sym q) ∙ ap (λ v. v || (eqb b 95 || (leb 48 b && leb b 57))) (sym e))
-
+-- Tests.
 both : (a b : Bool) → a && b ≡ true → (a ≡ true) × (b ≡ true)
 both true b e = (refl, e)
 both false b e = absurd (true≢false (sym e))

@@ -2,8 +2,9 @@
 ghost use mathlib.Core.Path.{_≡_};
 ghost use Prim.Native.Nat.{ℕ, _≤_, _<_};
 ghost use lib.ListN.{length};
-ghost use Rattle.lts.specs.Names.{isLower, isNameByte};
 ghost use Rattle.actl.specs.Cursor.{peek, Skipped, MarkSays, TokenSays, KeywordSays, NameSays};
+use lts::names::is_lower;
+use lts::names::is_name_byte;
 
 pub struct Cursor {
     pub at: usize,
@@ -13,24 +14,6 @@ pub struct Cursor {
 pub enum Taken {
     Past(Cursor),
     Missing,
-}
-
-fn is_lower(b: u8) -> bool
-    ensures { λ r. ⌜ r ≡ isLower b ⌝ }
-{
-    97 <= b && b <= 122
-}
-
-fn is_name_byte(b: u8) -> bool
-    ensures { λ r. ⌜ r ≡ isNameByte b ⌝ }
-{
-    if is_lower(b) {
-        return true;
-    }
-    if b == 95 {
-        return true;
-    }
-    48 <= b && b <= 57
 }
 
 impl Cursor {
@@ -89,7 +72,7 @@ impl Cursor {
         if text.len() <= start {
             return Taken::Missing;
         }
-        if !is_lower(text[start]) {
+        if !is_lower(text[start] as usize) {
             return Taken::Missing;
         }
         let mut i = start + 1;
@@ -97,7 +80,7 @@ impl Cursor {
             if 12 <= i - start {
                 return Taken::Past(Cursor { at: i });
             }
-            if !is_name_byte(text[i]) {
+            if !is_name_byte(text[i] as usize) {
                 return Taken::Past(Cursor { at: i });
             }
             i += 1;

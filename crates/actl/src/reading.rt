@@ -12,7 +12,7 @@ ghost use Rattle.actl.specs.Cursor.{Named};
 ghost use Rattle.actl.specs.Readers.{namesIn, Ready, NoMark, NoKeyword, earlier, OperandSays, EnclosedSays, SetSays, NextSays, UntilSays, HeadSays, putAt, joinedAt, Room, TermSays, BracketSays, FormulaSays, ReadingSays};
 use crate::cursor::Cursor;
 use crate::cursor::Taken;
-use lts::lookup::Found;
+use lts::names::Found;
 
 // A set of labels as a mask; or the place where the text is refused. The last number is 0 as long as the table has
 // every name, and else one more than the offset of the first that it lacks.
@@ -82,7 +82,7 @@ fn label(table: &[u8], text: &[u8], c: Cursor, d: Cursor, lost: usize) -> Labels
 {
     let at = c.at;
     let to = d.at;
-    let x = lts::lookup::find_label(table, name_bytes(text, at, to), to - at);
+    let x = lts::names::find_label(table, name_bytes(text, at, to), to - at);
     match x {
         Found::At(a) => Labels::Read(d, 1u64 << a, lost),
         Found::Nothing => Labels::Read(d, 0, earlier_of(lost, at)),

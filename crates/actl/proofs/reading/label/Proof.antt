@@ -3,7 +3,7 @@ use borrow.Author.Needs.{needs}
 use mathlib.Core.Path.{sym, ap, _∙_, subst}
 use native.Mathlib.Omega.{arith}
 use Prim.Native.Nat.{_^_}
-use Rattle.lts.specs.Lookup.{foundAs}
+use Rattle.lts.specs.Access.{foundIn}
 use Rattle.actl.specs.Readers.{OperandRead, namesIn}
 use Rattle.actl.proofs.ReadingLabels.{found-range, shifted-one, label-known, label-unknown}
 use Rattle.actl.proofs.reading.label.Statement.{statement}
@@ -23,7 +23,7 @@ enum-known-x c = search needs
 
 shl-t14 : tie.Need-shl-t14
 shl-t14 c =
-    let f = ap foundAs (sym (c .before .x .given .1)) ∙ c .before .before .before .find-label .ensures in
+    let f = ap foundIn (sym (c .before .x .given .1)) ∙ c .before .before .before .find-label .ensures in
     let r = found-range _ _ (c .before .x .given .0 .0) f in
     omega (arith, r .1, c .before .before .before .before .before .before .before .pre .0 .table .in-range .few-labels)
 
@@ -35,7 +35,7 @@ earlier-of-requires c κs = search needs
 
 returns : tie.Need-returns
 returns c =
-    let f = ap foundAs (sym (c .before .x .given .1)) ∙ c .before .before .before .find-label .ensures in
+    let f = ap foundIn (sym (c .before .x .given .1)) ∙ c .before .before .before .find-label .ensures in
     let r = found-range _ _ (c .before .x .given .0 .0) f in
     let a = c .before .before .before .before .before .before .before .args in
     let p = c .before .before .before .before .before .before .before .pre in
@@ -47,7 +47,7 @@ returns-2 : tie.Need-returns-2
 returns-2 c =
     let a = c .before .before .before .before .before .before .before .args in
     let p = c .before .before .before .before .before .before .before .pre in
-    let f = ap foundAs (sym (c .before .enum-told .given .1)) ∙ c .before .before .before .find-label .ensures in
+    let f = ap foundIn (sym (c .before .enum-told .given .1)) ∙ c .before .before .before .find-label .ensures in
     subst (λ l. OperandRead (namesIn (a .table .now)) (a .text .now) (a .c .at) (a .lost) (a .d .at) 0 l) (sym (c .earlier-of .ensures))
     (label-unknown (namesIn (a .table .now)) (a .text .now) (a .c .at) (a .lost) (a .d .at) (p .1) _ (c .before .before .before .before .name-bytes .ensures) f)
 

@@ -22,6 +22,9 @@ returns c = let a = c .before .before .args in ap isLower (peek-end (a .text .no
 shared-slice-read-is-lower : tie.Need-shared-slice-read-is-lower Inv-loop μ-loop
 shared-slice-read-is-lower c = omega arith
 
+cast-is-lower : tie.Need-cast-is-lower Inv-loop μ-loop
+cast-is-lower c = omega (arith, c .shared-slice-known2 .given (c .before .before .before .args .self .at))
+
 is-lower-requires : tie.Need-is-lower-requires Inv-loop μ-loop
 is-lower-requires c κs = tt
 
@@ -42,6 +45,9 @@ returns-3 c = spelled-full _ _ _ (c .before .before .loop .inv) (omega arith) (c
 
 shared-slice-read-is-name-byte : tie.Need-shared-slice-read-is-name-byte Inv-loop μ-loop
 shared-slice-read-is-name-byte c = omega arith
+
+cast-is-name-byte : tie.Need-cast-is-name-byte Inv-loop μ-loop
+cast-is-name-byte c = omega (arith, c .shared-slice-known3 .given (c .before .before .before .loop .i))
 
 is-name-byte-requires : tie.Need-is-name-byte-requires Inv-loop μ-loop
 is-name-byte-requires c κs = tt
@@ -69,6 +75,7 @@ name-spec =
     μ-loop
     returns
     shared-slice-read-is-lower
+    cast-is-lower
     is-lower-requires
     returns-2
     add-i
@@ -76,6 +83,7 @@ name-spec =
     sub-if3
     returns-3
     shared-slice-read-is-name-byte
+    cast-is-name-byte
     is-name-byte-requires
     returns-4
     add-i-2
