@@ -11,3 +11,4 @@ pub mod Cursor
 pub mod Readers
 pub mod Access
 pub mod Walk
+pub mod Writing

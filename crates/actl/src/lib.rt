@@ -3,6 +3,7 @@ pub mod cursor;
 pub mod node;
 pub mod reading;
 pub mod walk;
+pub mod writing;
 
 // What `read_formula` answers. specs/Replies.antt lists the number and the figure of each case.
 pub enum FormulaReply {
