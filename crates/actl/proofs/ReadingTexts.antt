@@ -49,8 +49,8 @@ module _ {N : List (List ℕ)} {s e : List ℕ} {end to m l : ℕ} {x : List ℕ
           let d = drop-cons s to 256 (omega arith) in
           ap (λ r. run r (afterDisjunction (h .value) fTop (to - end))) d ∙ (ap (λ v. proceed v (run (drop (suc to) s)) (refused (peek s to ∷ drop (suc to) s))) stuck ∙ ap refused (sym d))
 
-  pub text-whole : length s ≤ 512 → end ≡ length s → WholeRead N s x m l
-  text-whole short z =
+  pub text-whole : length e ≡ 1536 → end ≡ length s → WholeRead N s x m l
+  text-whole long z =
       let w : to ≡ length s = omega (arith, h .blanks, h .moves .within) in
       let b : to - end ≡ 0 = omega arith in
       let d : drop to s ≡ [] = drop-of-length-le s (let v : length s ≤ to = omega arith in v) in
@@ -59,7 +59,7 @@ module _ {N : List (List ℕ)} {s e : List ℕ} {end to m l : ℕ} {x : List ℕ
         value = h .value;
         reads = h .moves .reads fTop ∙ (λ i. run (d i) (afterDisjunction (h .value) fTop (b i)));
         count = h .count ∙ zero-add _;
-        few = omega (arith, h .few);
+        long = h .written .long ∙ long;
         cells = h .written .cells;
         lacks = h .lacks ∙ (λ i. earlier 0 (unknownIn N (length (t i)) (namesF (h .value) (gap (b i) (d i))))) ∙ ap (earlier 0) (first-unknown N (h .value) (namesF (h .value) []));
       }

@@ -226,7 +226,7 @@ pub record WholeRead (N : List (List ℕ)) (s x : List ℕ) (n left : ℕ) : Typ
   pub value : Disjunction
   pub reads : read s ≡ whole value
   pub count : n ≡ size (formulaOf N value)
-  pub few : n ≤ 512
+  pub long : length x ≡ 1536
   pub cells : take (n * 3) x ≡ nodeCells (formulaOf N value)
   pub lacks : left ≡ earlier 0 (firstUnknown N value (namesF value []))
 
