@@ -82,7 +82,6 @@ answer-requires c κs =
     let a = c .before .before .before .before .before .before .before .before .before .before .before .before .before .before .before .args in
     let b = a .table .now in
     let s = a .text .now in
-    let e = a .formula .now in
     let t = subst (ReadingSays (namesIn b) s (c .before .before .before .before .before .read-text .last .1 .1 .0)) (c .before .before .before .x2 .given .1) (c .before .before .before .before .before .read-text .ensures) in
     (t .long, c .before .before .before .before .before .before .before .before .before .before .if2 .left)
 

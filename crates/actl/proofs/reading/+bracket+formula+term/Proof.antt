@@ -99,7 +99,6 @@ bracket-returns t c =
     let s = a .text .now in
     let e = a .cells .now in
     let at = a .c .at in
-    let pre = c .before .before .before .before .before .before .before .before .before .before .pre in
     let f = c .before .before .before .before .x2 .given .0 .1 .0 .at in
     inr (record {
       end = _;
@@ -116,7 +115,6 @@ bracket-returns-2 t c =
     let s = a .text .now in
     let e = a .cells .now in
     let at = a .c .at in
-    let pre = c .before .before .before .before .before .before .before .pre in
     inl (subst (FormulaSays N s at (a .n) (a .lost) e (c .before .before .before .formula .last .1 .1 .0)) (c .before .x .given .1) (c .before .before .before .formula .ensures))
 
 bracket-returns-3 : (t : ℕ) → bracket-lts.Need-returns-3 (bracket-claims t) (bracket-at t) bracket.Post
@@ -126,7 +124,6 @@ bracket-returns-3 t c =
     let s = a .text .now in
     let e = a .cells .now in
     let at = a .c .at in
-    let pre = c .before .before .before .before .before .before .before .before .before .before .before .pre in
     let f = c .before .before .before .before .before .x2 .given .0 .1 .0 .at in
     record {
       end = _;
@@ -170,8 +167,6 @@ formula-returns t c =
     let a = c .before .before .before .before .before .before .before .before .args in
     let N = namesIn (a .table .now) in
     let s = a .text .now in
-    let e = a .cells .now in
-    let at = a .c .at in
     let pre = c .before .before .before .before .before .before .before .before .pre in
     let l = c .before .before .before .before .before .loop in
     let y = c .before .before .before .term .last .1 .1 .0 in
@@ -186,9 +181,6 @@ formula-skip-blanks-requires t c κs =
     let a = c .before .before .before .before .before .before .before .before .args in
     let N = namesIn (a .table .now) in
     let s = a .text .now in
-    let e = a .cells .now in
-    let at = a .c .at in
-    let pre = c .before .before .before .before .before .before .before .before .pre in
     let l = c .before .before .before .before .before .loop in
     let y = c .before .before .before .term .last .1 .1 .0 in
     let o = subst (TermSays N s (l .d .at) (l .k) (l .lacks) (l .cells) y) (c .before .x2 .given .1) (c .before .before .before .term .ensures) in
@@ -208,8 +200,6 @@ formula-returns-2 t c =
     let a = c .before .before .before .before .before .before .before .before .before .before .before .before .args in
     let N = namesIn (a .table .now) in
     let s = a .text .now in
-    let e = a .cells .now in
-    let at = a .c .at in
     let pre = c .before .before .before .before .before .before .before .before .before .before .before .before .pre in
     let l = c .before .before .before .before .before .before .before .before .before .loop in
     let y = c .before .before .before .before .before .before .before .term .last .1 .1 .0 in
@@ -222,8 +212,6 @@ formula-join-requires t c κs =
     let a = c .before .before .before .before .before .before .before .before .before .before .before .before .before .before .args in
     let N = namesIn (a .table .now) in
     let s = a .text .now in
-    let e = a .cells .now in
-    let at = a .c .at in
     let pre = c .before .before .before .before .before .before .before .before .before .before .before .before .before .before .pre in
     let l = c .before .before .before .before .before .before .before .before .before .before .before .loop in
     let y = c .before .before .before .before .before .before .before .before .before .term .last .1 .1 .0 in
@@ -268,8 +256,6 @@ formula-loop-again t c =
     let a = c .before .before .before .before .before .before .before .before .before .before .before .before .before .before .before .args in
     let N = namesIn (a .table .now) in
     let s = a .text .now in
-    let e = a .cells .now in
-    let at = a .c .at in
     let pre = c .before .before .before .before .before .before .before .before .before .before .before .before .before .before .before .pre in
     let l = c .before .before .before .before .before .before .before .before .before .before .before .before .loop in
     let y = c .before .before .before .before .before .before .before .before .before .before .term .last .1 .1 .0 in
@@ -408,9 +394,7 @@ term-enum-told-3 t c = search needs
 term-head-requires : (t : ℕ) → term-lts.Need-head-requires (term-claims t) (term-at t) term.Post
 term-head-requires t c κs =
     let a = c .before .before .before .before .before .before .before .before .before .before .before .args in
-    let N = namesIn (a .table .now) in
     let s = a .text .now in
-    let e = a .cells .now in
     let at = a .c .at in
     let pre = c .before .before .before .before .before .before .before .before .before .before .before .pre in (
       pre .1 .0,
@@ -432,9 +416,7 @@ term-skip-blanks-requires t c κs =
     let a = c .before .before .before .before .before .before .before .before .before .before .before .before .before .before .before .args in
     let N = namesIn (a .table .now) in
     let s = a .text .now in
-    let e = a .cells .now in
     let at = a .c .at in
-    let pre = c .before .before .before .before .before .before .before .before .before .before .before .before .before .before .before .pre in
     let h = subst (HeadSays N s at (a .lost)) (c .before .x2 .given .1) (c .before .before .before .head .ensures) in
     h .moves .within
 
@@ -480,9 +462,7 @@ term-returns-4 t c =
     let a = c .before .before .before .before .before .before .before .before .before .before .before .before .before .before .before .args in
     let N = namesIn (a .table .now) in
     let s = a .text .now in
-    let e = a .cells .now in
     let at = a .c .at in
-    let pre = c .before .before .before .before .before .before .before .before .before .before .before .before .before .before .before .pre in
     let h = subst (HeadSays N s at (a .lost)) (c .before .x .given .1) (c .before .before .before .head .ensures) in
     h
 

@@ -95,7 +95,6 @@ enclosed-returns t c =
     let N = namesIn (a .table .now) in
     let s = a .text .now in
     let at = a .c .at in
-    let pre = c .before .before .before .before .before .before .before .before .before .pre in
     let e = c .before .before .before .before .x2 .given .0 .0 .at in
     inr (record {
       mask = _;
@@ -110,7 +109,6 @@ enclosed-returns-2 t c =
     let N = namesIn (a .table .now) in
     let s = a .text .now in
     let at = a .c .at in
-    let pre = c .before .before .before .before .before .before .pre in
     inl (subst (SetSays N s at (a .lost)) (c .before .x .given .1) (c .before .before .before .set .ensures))
 
 enclosed-returns-3 : (t : ℕ) → enclosed-lts.Need-returns-3 (enclosed-claims t) (enclosed-at t) enclosed.Post
@@ -119,7 +117,6 @@ enclosed-returns-3 t c =
     let N = namesIn (a .table .now) in
     let s = a .text .now in
     let at = a .c .at in
-    let pre = c .before .before .before .before .before .before .before .before .before .before .pre in
     let e = c .before .before .before .before .before .x2 .given .0 .0 .at in
     record { end = e; contents = subst (SetSays N s at (a .lost)) (c .before .before .before .before .before .x2 .given .1) (c .before .before .before .before .before .before .before .set .ensures); shut = subst (MarkSays s e (a .mark)) (c .before .f .given .1) (c .before .before .before .mark .ensures) }
 
@@ -138,7 +135,6 @@ operand-returns t c =
     let N = namesIn (a .table .now) in
     let s = a .text .now in
     let at = a .c .at in
-    let pre = c .before .before .before .before .before .before .before .pre in
     operand-any N s at (a .lost) (subst (MarkSays s at 42) (c .before .before .d .given .1) (c .before .before .before .before .mark .ensures)) (c .all-labels .ensures)
 
 operand-enum-told : (t : ℕ) → operand-lts.Need-enum-told (operand-claims t) (operand-at t) operand.Post
@@ -172,7 +168,6 @@ operand-sub-t19 t c =
     let N = namesIn (a .table .now) in
     let s = a .text .now in
     let at = a .c .at in
-    let pre = c .before .before .before .before .before .before .before .before .before .before .before .before .before .before .pre in
     let k = subst (TokenSays s at 126) (c .before .before .before .before .before .before .d2 .given .1) (c .before .before .before .before .before .before .before .before .token .ensures) in
     let o = subst (OperandSays N s (c .before .before .before .before .before .before .d2 .given .0 .0 .at) (a .lost)) (c .before .before .x .given .1) (c .before .before .before .before .operand .ensures) in
     except-within N s at (a .lost) k o (c .all-labels2 .ensures)
@@ -186,7 +181,6 @@ operand-returns-2 t c =
     let N = namesIn (a .table .now) in
     let s = a .text .now in
     let at = a .c .at in
-    let pre = c .before .before .before .before .before .before .before .before .before .before .before .before .before .before .pre in
     let k = subst (TokenSays s at 126) (c .before .before .before .before .before .before .d2 .given .1) (c .before .before .before .before .before .before .before .before .token .ensures) in
     let o = subst (OperandSays N s (c .before .before .before .before .before .before .d2 .given .0 .0 .at) (a .lost)) (c .before .before .x .given .1) (c .before .before .before .before .operand .ensures) in
     operand-except N s at (a .lost) k o (c .all-labels2 .ensures)
@@ -197,7 +191,6 @@ operand-returns-3 t c =
     let N = namesIn (a .table .now) in
     let s = a .text .now in
     let at = a .c .at in
-    let pre = c .before .before .before .before .before .before .before .before .before .before .before .before .before .pre in
     let k = subst (TokenSays s at 126) (c .before .before .before .before .before .d2 .given .1) (c .before .before .before .before .before .before .before .token .ensures) in
     let o = subst (OperandSays N s (c .before .before .before .before .before .d2 .given .0 .0 .at) (a .lost)) (c .before .x2 .given .1) (c .before .before .before .operand .ensures) in
     except-fails N s at (a .lost) k o
@@ -227,7 +220,6 @@ operand-returns-4 t c =
     let N = namesIn (a .table .now) in
     let s = a .text .now in
     let at = a .c .at in
-    let pre = c .before .before .before .before .before .before .before .before .before .before .before .before .before .pre in
     let k = subst (TokenSays s at 40) (c .before .before .d3 .given .1) (c .before .before .before .before .token2 .ensures) in
     group-says N s at (a .lost) k (c .enclosed .result) (c .enclosed .ensures)
 
@@ -243,7 +235,6 @@ operand-enum-known-d-4 t c = search needs
 operand-label-requires : (t : ℕ) → operand-lts.Need-label-requires (operand-claims t) (operand-at t) operand.Post
 operand-label-requires t c κs =
     let a = c .before .before .before .before .before .before .before .before .before .before .before .before .before .before .before .args in
-    let N = namesIn (a .table .now) in
     let s = a .text .now in
     let at = a .c .at in
     let pre = c .before .before .before .before .before .before .before .before .before .before .before .before .before .before .before .pre in
@@ -301,8 +292,6 @@ set-returns t c =
     let a = c .before .before .before .before .before .before .before .args in
     let N = namesIn (a .table .now) in
     let s = a .text .now in
-    let at = a .c .at in
-    let pre = c .before .before .before .before .before .before .before .pre in
     let l = c .before .before .before .before .loop in
     let o = subst (OperandSays N s (l .d .at) (l .lacks)) (c .before .x .given .1) (c .before .before .before .operand .ensures) in
     set-fails (l .inv) o
@@ -315,8 +304,6 @@ set-skip-blanks-requires t c κs =
     let a = c .before .before .before .before .before .before .before .args in
     let N = namesIn (a .table .now) in
     let s = a .text .now in
-    let at = a .c .at in
-    let pre = c .before .before .before .before .before .before .before .pre in
     let l = c .before .before .before .before .loop in
     let o = subst (OperandSays N s (l .d .at) (l .lacks)) (c .before .x2 .given .1) (c .before .before .before .operand .ensures) in
     o .moves .within
@@ -335,8 +322,6 @@ set-returns-2 t c =
     let a = c .before .before .before .before .before .before .before .before .before .before .before .args in
     let N = namesIn (a .table .now) in
     let s = a .text .now in
-    let at = a .c .at in
-    let pre = c .before .before .before .before .before .before .before .before .before .before .before .pre in
     let l = c .before .before .before .before .before .before .before .before .loop in
     let o = subst (OperandSays N s (l .d .at) (l .lacks)) (c .before .before .before .before .before .x2 .given .1) (c .before .before .before .before .before .before .before .operand .ensures) in
     let f = c .before .before .before .skip-blanks .result .at in
@@ -360,8 +345,6 @@ set-loop-again t c =
     let a = c .before .before .before .before .before .before .before .before .before .before .before .before .args in
     let N = namesIn (a .table .now) in
     let s = a .text .now in
-    let at = a .c .at in
-    let pre = c .before .before .before .before .before .before .before .before .before .before .before .before .pre in
     let l = c .before .before .before .before .before .before .before .before .before .loop in
     let o = subst (OperandSays N s (l .d .at) (l .lacks)) (c .before .before .before .before .before .before .x2 .given .1) (c .before .before .before .before .before .before .before .before .operand .ensures) in
     let b = c .before .before .before .before .skip-blanks .ensures in

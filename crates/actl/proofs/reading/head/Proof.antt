@@ -31,7 +31,6 @@ returns c =
     let N = namesIn (a .table .now) in
     let s = a .text .now in
     let at = a .c .at in
-    let pre = c .before .before .before .before .before .before .before .before .pre in
     let k = subst (KeywordSays s at (69 ∷ 88 ∷ [])) (c .before .before .d .given .1) (c .before .before .before .before .keyword .ensures) in
     head-EX N s at (a .lost) k (c .next-head .result) (c .next-head .ensures)
 
@@ -60,7 +59,6 @@ returns-2 c =
     let N = namesIn (a .table .now) in
     let s = a .text .now in
     let at = a .c .at in
-    let pre = c .before .before .before .before .before .before .before .before .before .before .before .before .pre in
     let k = subst (KeywordSays s at (65 ∷ 88 ∷ [])) (c .before .before .d2 .given .1) (c .before .before .before .before .keyword2 .ensures) in
     head-AX N s at (a .lost) k (c .next-head2 .result) (c .next-head2 .ensures)
 
@@ -89,7 +87,6 @@ returns-3 c =
     let N = namesIn (a .table .now) in
     let s = a .text .now in
     let at = a .c .at in
-    let pre = c .before .before .before .before .before .before .before .before .before .before .before .before .before .before .before .before .pre in
     let k = subst (KeywordSays s at (69 ∷ 85 ∷ [])) (c .before .before .d3 .given .1) (c .before .before .before .before .keyword3 .ensures) in
     head-EU N s at (a .lost) k (c .until-head .result) (c .until-head .ensures)
 

@@ -26,7 +26,6 @@ returns c =
     let N = namesIn (a .table .now) in
     let s = a .text .now in
     let at = a .c .at in
-    let pre = c .before .before .before .before .before .before .pre in
     let o = c .before .before .before .skip-blanks .result .at in
     next-unopened N s at (a .base) (a .lost) o (c .before .before .before .skip-blanks .ensures) (subst (TokenSays s o 91) (c .enum-told .given .1) (c .before .before .token .ensures))
 
@@ -51,7 +50,6 @@ returns-2 c =
     let N = namesIn (a .table .now) in
     let s = a .text .now in
     let at = a .c .at in
-    let pre = c .before .before .before .before .before .before .before .before .before .before .before .before .before .before .pre in
     let o = c .before .before .before .before .before .before .before .before .before .before .before .skip-blanks .result .at in
     let b = c .before .before .before .before .before .before .before .before .before .before .before .skip-blanks .ensures in
     let k = subst (TokenSays s o 91) (c .before .before .before .before .before .before .before .before .d .given .1) (c .before .before .before .before .before .before .before .before .before .before .token .ensures) in
@@ -66,7 +64,6 @@ returns-3 c =
     let N = namesIn (a .table .now) in
     let s = a .text .now in
     let at = a .c .at in
-    let pre = c .before .before .before .before .before .before .before .before .before .before .before .before .before .before .before .pre in
     let o = c .before .before .before .before .before .before .before .before .before .before .before .before .skip-blanks .result .at in
     let b = c .before .before .before .before .before .before .before .before .before .before .before .before .skip-blanks .ensures in
     let k = subst (TokenSays s o 91) (c .before .before .before .before .before .before .before .before .before .d .given .1) (c .before .before .before .before .before .before .before .before .before .before .before .token .ensures) in
@@ -81,14 +78,10 @@ enum-told-3 c = search needs
 enclosed-requires : tie.Need-enclosed-requires
 enclosed-requires c κs =
     let a = c .before .before .before .before .before .before .before .before .before .before .args in
-    let N = namesIn (a .table .now) in
     let s = a .text .now in
-    let at = a .c .at in
     let pre = c .before .before .before .before .before .before .before .before .before .before .pre in
     let o = c .before .before .before .before .before .before .before .skip-blanks .result .at in
-    let b = c .before .before .before .before .before .before .before .skip-blanks .ensures in
     let k = subst (TokenSays s o 91) (c .before .before .before .before .d .given .1) (c .before .before .before .before .before .before .token .ensures) in
-    let d = c .before .before .before .before .d .given .0 .0 .at in
     record { table = pre .0; short = pre .1; token = token-behind k }
 
 enum-known-x : tie.Need-enum-known-x
@@ -106,7 +99,6 @@ returns-4 c =
     let N = namesIn (a .table .now) in
     let s = a .text .now in
     let at = a .c .at in
-    let pre = c .before .before .before .before .before .before .before .before .before .before .before .before .before .before .pre in
     let o = c .before .before .before .before .before .before .before .before .before .before .before .skip-blanks .result .at in
     let b = c .before .before .before .before .before .before .before .before .before .before .before .skip-blanks .ensures in
     let k = subst (TokenSays s o 91) (c .before .before .before .before .before .before .before .before .d .given .1) (c .before .before .before .before .before .before .before .before .before .before .token .ensures) in
@@ -120,7 +112,6 @@ returns-5 c =
     let N = namesIn (a .table .now) in
     let s = a .text .now in
     let at = a .c .at in
-    let pre = c .before .before .before .before .before .before .before .before .before .before .before .before .before .before .pre in
     let o = c .before .before .before .before .before .before .before .before .before .before .before .skip-blanks .result .at in
     let b = c .before .before .before .before .before .before .before .before .before .before .before .skip-blanks .ensures in
     let k = subst (TokenSays s o 91) (c .before .before .before .before .before .before .before .before .d .given .1) (c .before .before .before .before .before .before .before .before .before .before .token .ensures) in

@@ -17,9 +17,7 @@ enum-told c = search needs
 returns : tie.Need-returns
 returns c =
     let a = c .before .before .before .before .before .args in
-    let N = namesIn (a .table .now) in
     let s = a .text .now in
-    let pre = c .before .before .before .before .before .pre in
     text-blank s (subst (MarkSays s 0 32) (c .enum-told .given .1) (c .before .before .mark .ensures))
 
 enum-told-2 : tie.Need-enum-told-2
@@ -45,7 +43,6 @@ returns-2 c =
     let a = c .before .before .before .before .before .before .before .before .before .before .args in
     let N = namesIn (a .table .now) in
     let s = a .text .now in
-    let pre = c .before .before .before .before .before .before .before .before .before .before .pre in
     text-fails s (subst (FormulaSays N s 0 0 0 (a .cells .now) (c .before .before .before .formula .last .1 .1 .0)) (c .before .x .given .1) (c .before .before .before .formula .ensures))
 
 returns-3 : tie.Need-returns-3
@@ -61,7 +58,6 @@ returns-4 c =
     let a = c .before .before .before .before .before .before .before .before .before .before .before .before .args in
     let N = namesIn (a .table .now) in
     let s = a .text .now in
-    let pre = c .before .before .before .before .before .before .before .before .before .before .before .before .pre in
     text-rest (subst (FormulaSays N s 0 0 0 (a .cells .now) (c .before .before .before .before .before .formula .last .1 .1 .0)) (c .before .before .before .x2 .given .1) (c .before .before .before .before .before .formula .ensures)) (c .if1 .left)
 
 pub read-text-spec : {M : Type 1} → statement M

@@ -26,21 +26,16 @@ returns c =
     let N = namesIn (a .table .now) in
     let s = a .text .now in
     let at = a .c .at in
-    let pre = c .before .before .before .before .before .before .pre in
     let o = c .before .before .before .skip-blanks .result .at in
     until-unopened N s at (a .lost) o (c .before .before .before .skip-blanks .ensures) (subst (TokenSays s o 91) (c .enum-told .given .1) (c .before .before .token .ensures))
 
 set-requires : tie.Need-set-requires
 set-requires c κs =
     let a = c .before .before .before .before .before .before .before .args in
-    let N = namesIn (a .table .now) in
     let s = a .text .now in
-    let at = a .c .at in
     let pre = c .before .before .before .before .before .before .before .pre in
     let o = c .before .before .before .before .skip-blanks .result .at in
-    let b = c .before .before .before .before .skip-blanks .ensures in
     let k = subst (TokenSays s o 91) (c .before .d .given .1) (c .before .before .before .token .ensures) in
-    let d = c .before .d .given .0 .0 .at in
     record { table = pre .0; short = pre .1; token = token-behind k }
 
 enum-known-x : tie.Need-enum-known-x
@@ -73,7 +68,6 @@ returns-2 c =
     let N = namesIn (a .table .now) in
     let s = a .text .now in
     let at = a .c .at in
-    let pre = c .before .before .before .before .before .before .before .before .before .before .before .before .before .before .before .before .before .pre in
     let o = c .before .before .before .before .before .before .before .before .before .before .before .before .before .before .skip-blanks .result .at in
     let b = c .before .before .before .before .before .before .before .before .before .before .before .before .before .before .skip-blanks .ensures in
     let k = subst (TokenSays s o 91) (c .before .before .before .before .before .before .before .before .before .before .before .d .given .1) (c .before .before .before .before .before .before .before .before .before .before .before .before .before .token .ensures) in
@@ -89,7 +83,6 @@ returns-3 c =
     let N = namesIn (a .table .now) in
     let s = a .text .now in
     let at = a .c .at in
-    let pre = c .before .before .before .before .before .before .before .before .before .before .before .before .before .before .before .before .before .before .pre in
     let o = c .before .before .before .before .before .before .before .before .before .before .before .before .before .before .before .skip-blanks .result .at in
     let b = c .before .before .before .before .before .before .before .before .before .before .before .before .before .before .before .skip-blanks .ensures in
     let k = subst (TokenSays s o 91) (c .before .before .before .before .before .before .before .before .before .before .before .before .d .given .1) (c .before .before .before .before .before .before .before .before .before .before .before .before .before .before .token .ensures) in
@@ -101,18 +94,10 @@ returns-3 c =
 enclosed-requires : tie.Need-enclosed-requires
 enclosed-requires c κs =
     let a = c .before .before .before .before .before .before .before .before .before .before .before .before .before .before .before .args in
-    let N = namesIn (a .table .now) in
     let s = a .text .now in
-    let at = a .c .at in
     let pre = c .before .before .before .before .before .before .before .before .before .before .before .before .before .before .before .pre in
-    let o = c .before .before .before .before .before .before .before .before .before .before .before .before .skip-blanks .result .at in
-    let b = c .before .before .before .before .before .before .before .before .before .before .before .before .skip-blanks .ensures in
-    let k = subst (TokenSays s o 91) (c .before .before .before .before .before .before .before .before .before .d .given .1) (c .before .before .before .before .before .before .before .before .before .before .before .token .ensures) in
-    let d = c .before .before .before .before .before .before .before .before .before .d .given .0 .0 .at in
-    let c₁ = subst (SetSays N s d (a .lost)) (c .before .before .before .before .before .x2 .given .1) (c .before .before .before .before .before .before .before .set .ensures) in
     let e = c .before .before .before .before .before .x2 .given .0 .0 .at in
     let u = subst (TokenSays s e 59) (c .before .g .given .1) (c .before .before .before .token2 .ensures) in
-    let g = c .before .g .given .0 .0 .at in
     record { table = pre .0; short = pre .1; token = token-behind u }
 
 enum-known-y : tie.Need-enum-known-y
@@ -127,7 +112,6 @@ returns-4 c =
     let N = namesIn (a .table .now) in
     let s = a .text .now in
     let at = a .c .at in
-    let pre = c .before .before .before .before .before .before .before .before .before .before .before .pre in
     let o = c .before .before .before .before .before .before .before .before .skip-blanks .result .at in
     let b = c .before .before .before .before .before .before .before .before .skip-blanks .ensures in
     let k = subst (TokenSays s o 91) (c .before .before .before .before .before .d .given .1) (c .before .before .before .before .before .before .before .token .ensures) in
@@ -140,7 +124,6 @@ returns-5 c =
     let N = namesIn (a .table .now) in
     let s = a .text .now in
     let at = a .c .at in
-    let pre = c .before .before .before .before .before .before .before .before .before .before .before .before .before .before .before .before .before .before .before .pre in
     let o = c .before .before .before .before .before .before .before .before .before .before .before .before .before .before .before .before .skip-blanks .result .at in
     let b = c .before .before .before .before .before .before .before .before .before .before .before .before .before .before .before .before .skip-blanks .ensures in
     let k = subst (TokenSays s o 91) (c .before .before .before .before .before .before .before .before .before .before .before .before .before .d .given .1) (c .before .before .before .before .before .before .before .before .before .before .before .before .before .before .before .token .ensures) in
@@ -157,7 +140,6 @@ returns-6 c =
     let N = namesIn (a .table .now) in
     let s = a .text .now in
     let at = a .c .at in
-    let pre = c .before .before .before .before .before .before .before .before .before .before .before .before .before .before .before .before .before .before .before .pre in
     let o = c .before .before .before .before .before .before .before .before .before .before .before .before .before .before .before .before .skip-blanks .result .at in
     let b = c .before .before .before .before .before .before .before .before .before .before .before .before .before .before .before .before .skip-blanks .ensures in
     let k = subst (TokenSays s o 91) (c .before .before .before .before .before .before .before .before .before .before .before .before .before .d .given .1) (c .before .before .before .before .before .before .before .before .before .before .before .before .before .before .before .token .ensures) in

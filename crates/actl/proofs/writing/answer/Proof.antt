@@ -33,7 +33,6 @@ array-share-prefix-kinds c = search needs
 slice-aggregate-highest-classless : tie.Need-slice-aggregate-highest-classless
 slice-aggregate-highest-classless c =
     let a = c .before .before .before .before .before .args in
-    let e = a .formula .now in
     sym (ap length (c .before .kinds-of .ensures) ∙ length-kinds (a .cells .now) (a .n))
 
 highest-classless-requires : tie.Need-highest-classless-requires

@@ -32,7 +32,6 @@ put-zeros-requires c κs =
 same-length : tie.Need-same-length
 same-length c =
     let a = c .before .before .before .before .before .before .before .before .before .args in
-    let p = c .before .before .before .before .before .before .before .before .before .pre in
     let e = a .formula .now in
     c .before .before .put-zeros .kept .0 ∙ (c .before .before .before .before .before .before .put-nodes .kept .1 .1 .0 ∙ length-set e 0 (a .n))
 
