@@ -1,32 +1,27 @@
 -- The answer behind the grammar: the cells of a formula are its prepared bytes, and its refusals come in their order.
-use mathlib.Core.Path.{_≡_, refl, sym, ap, _∙_, subst}
-use mathlib.Core.Bool.{Bool, true, false}
+use mathlib.Core.Path.{_≡_, refl, sym, ap, _∙_}
+use mathlib.Core.Bool.{false}
 use mathlib.Core.List.{List, [], _∷_, _++_, map, append-nil}
 use mathlib.Core.Option.{Option, none, some}
 use Prim.Native.Nat.{ℕ, zero, suc, _+_, _*_, _-_, _%_, _≤_, _<_}
-use native.Mathlib.Nat.{add-zero, add-suc, zero-add}
+use native.Mathlib.Nat.{add-zero, zero-add}
 use native.Mathlib.Omega.{arith}
 use borrow.Author.Tests.{le-leb, lt-leb}
 use lib.Dec.{leb}
 use lib.ListN.{length, getD, take, drop, replicate}
 use lib.Seq.{getD-take, getD-drop}
-use Rattle.columns.specs.Bytes.{padded, lowFirst}
+use Rattle.columns.specs.Bytes.{lowFirst}
 use Rattle.lts.specs.Lists.{upFrom, bind}
-use Rattle.lts.specs.Reply.{Reply, accepted, refusal, unless, leftIn, answers, overwritten}
+use Rattle.lts.specs.Reply.{accepted, refusal, unless, leftIn, answers}
 use Rattle.actl.specs.Actions.{silent, labels}
 use Rattle.actl.specs.Formulas.{Formula, tru, not, or, ex, ax, eu, euThen, size, nodes, highestWithoutClass}
-use Rattle.actl.specs.Prepared.{formulaLength, slotOf, slotBytes, formulaBytes}
+use Rattle.actl.specs.Prepared.{slotOf, slotBytes, formulaBytes}
 use Rattle.actl.specs.Reading.{unlessFound, withClasses}
-use Rattle.actl.specs.Replies.{formulaReply}
-use Rattle.actl.specs.Readers.{earlier, slotCells, nodeCells}
-use Rattle.actl.specs.Walk.{kindOf, kindsOf, classlessNode}
+use Rattle.actl.specs.Readers.{slotCells, nodeCells}
+use Rattle.actl.specs.Walk.{kindOf, kindsOf}
 use Rattle.actl.specs.Writing.{placed, bytesAt, cellBytes, cellKinds, preparedBytes, Answers, Holds}
-use Rattle.actl.specs.declared.FormulaReply.{FormulaReply}
 use Rattle.actl.specs.declared.FormulaReply.the-variants.{Accepted, NameUnknown, TooManyNodes, NoClass}
-use Rattle.actl.specs.declared.walk.Classless.{Classless}
-use Rattle.actl.specs.declared.walk.Classless.the-variants.{Nowhere, At}
 use Rattle.actl.proofs.Nodes.{length-nodes}
-use Rattle.actl.proofs.Laws.Forms.{length-form}
 use Rattle.actl.proofs.Laws.Widths.{drop-parts}
 use Rattle.actl.proofs.ReadingBytes.{length-cell-bytes}
 

@@ -1,12 +1,12 @@
 -- Bytes written one part after the other, and the prepared bytes of the nodes in cells.
-use mathlib.Core.Path.{_≡_, refl, sym, ap, _∙_, subst}
+use mathlib.Core.Path.{_≡_, refl, sym, ap, _∙_}
 use mathlib.Core.List.{List, [], _∷_, _++_, map, append-assoc, append-nil}
-use Prim.Native.Nat.{ℕ, zero, suc, _+_, _*_, _-_, _/_, _%_, _≤_, _<_}
+use Prim.Native.Nat.{ℕ, suc, _+_, _*_, _-_, _/_, _%_, _≤_, _<_}
 use native.Mathlib.Nat.{add-zero, zero-add}
 use native.Mathlib.Numerals.{add-one}
 use native.Mathlib.Omega.{arith}
-use lib.ListN.{length, getD, take, drop, set, replicate, length-append, length-take, length-drop, length-set, length-replicate, length-map, take-append-drop, replicate-append-replicate}
-use lib.Seq.{length-take-le, take-at, drop-at, drop-append-add, set-split, drop-drop, take-suc-set}
+use lib.ListN.{length, getD, take, drop, set, replicate, length-append, length-drop, length-set, length-replicate, length-map, take-append-drop, replicate-append-replicate}
+use lib.Seq.{length-take-le, take-at, drop-append-add, set-split, drop-drop, take-suc-set}
 use Rattle.columns.specs.Bytes.{lowFirst}
 use Rattle.lts.specs.Lists.{upFrom, bind}
 use Rattle.lts.proofs.Lists.{upFrom-append, upFrom-length, bind-append, map-append}

@@ -1,14 +1,13 @@
 -- Cells: nodes written one after the other, and moved up by one.
-use mathlib.Core.Path.{_≡_, refl, sym, ap, _∙_, subst}
+use mathlib.Core.Path.{_≡_, refl, sym, ap, _∙_}
 use mathlib.Core.List.{List, [], _∷_, _++_, append-assoc, append-nil}
-use Prim.Native.Nat.{ℕ, zero, suc, _+_, _*_, _-_, _≤_, _<_}
+use Prim.Native.Nat.{ℕ, suc, _+_, _*_, _-_, _≤_, _<_}
 use native.Mathlib.Numerals.{add-one}
 use native.Mathlib.Omega.{arith}
-use lib.ListN.{length, getD, take, drop, set, length-append, length-take, length-drop, length-set, take-append-drop, drop-of-length-le, List·getD-append}
-use lib.Seq.{length-take-le, take-all, take-suc, drop-cons, take-append-le, take-append-add, take-at, drop-at, drop-append-le, set-at, set-split, getD-take, take-take, drop-drop, sets, sets-eq}
-use Rattle.lts.specs.Lists.{bind}
+use lib.ListN.{length, getD, take, drop, set, length-append, length-take, length-drop, take-append-drop, drop-of-length-le, List·getD-append}
+use lib.Seq.{length-take-le, take-suc, drop-cons, take-append-le, take-at, drop-at, set-at, getD-take, take-take, sets-eq}
 use Rattle.lts.proofs.Lists.{bind-append}
-use Rattle.actl.specs.Formulas.{Formula, nodes, size}
+use Rattle.actl.specs.Formulas.{Formula, nodes}
 use Rattle.actl.specs.Prepared.{slotOf}
 use Rattle.actl.specs.Readers.{slotCells, nodeCells, putAt, joinedAt, Written}
 

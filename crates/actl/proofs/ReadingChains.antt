@@ -1,10 +1,10 @@
 -- A formula up to the place of its next term, and the whole text.
 use mathlib.Core.Path.{_≡_, refl, sym, ap, _∙_, subst}
-use mathlib.Core.List.{List, [], _∷_, _++_, append-assoc}
-use Prim.Native.Nat.{ℕ, suc, _+_, _-_, _≤_, _<_}
+use mathlib.Core.List.{List, [], _∷_, _++_}
+use Prim.Native.Nat.{ℕ, _+_, _-_, _≤_, _<_}
 use native.Mathlib.Omega.{arith}
 use lib.ListN.{length, drop}
-use Rattle.actl.specs.Formulas.{Formula, size}
+use Rattle.actl.specs.Formulas.{size}
 use Rattle.actl.specs.Grammar.{gap, Disjunction, term, or, Term, showF, showT}
 use Rattle.actl.specs.Reader.{InDisjunction, InTerm, tFirst, tOr, termAt, afterDisjunction, plugT}
 use Rattle.actl.specs.Meaning.{formulaOf, formulaOfTerm}

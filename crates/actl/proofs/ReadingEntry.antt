@@ -3,26 +3,25 @@ use mathlib.Core.Path.{_≡_, refl, sym, ap, _∙_}
 use mathlib.Core.Bool.{Bool, true, false}
 use mathlib.Core.List.{List, []}
 use mathlib.Core.Option.{Option, none, some}
-use Prim.Native.Nat.{ℕ, _-_, _≤_, _<_}
+use Prim.Native.Nat.{ℕ, _≤_, _<_}
 use native.Mathlib.Omega.{arith}
 use borrow.Author.Tests.{le-leb, lt-leb}
 use lib.Dec.{leb}
 use lib.ListN.{length}
-use Rattle.lts.specs.Reply.{Reply, accepted, refusal, unless, leftIn, answers}
+use Rattle.lts.specs.Reply.{Reply, refusal, unless, leftIn, answers}
 use Rattle.lts.specs.Steps.{Table}
 use Rattle.lts.specs.Prepared.{tableLength, tableIn, preparedTable}
 use Rattle.lts.specs.Access.{isSome, HoldsTable}
 use Rattle.lts.proofs.Laws.Prepared.{prepared-in, prepared-holds}
 use Rattle.actl.specs.Formulas.{Formula}
-use Rattle.actl.specs.Grammar.{Disjunction}
-use Rattle.actl.specs.Reader.{read, whole, refused}
+use Rattle.actl.specs.Reader.{read}
 use Rattle.actl.specs.Meaning.{formulaOf}
 use Rattle.actl.specs.Mentions.{namesF}
 use Rattle.actl.specs.Reading.{firstUnknown, onResult, readFormula}
 use Rattle.actl.specs.Prepared.{formulaLength, formulaBytes}
-use Rattle.actl.specs.Replies.{formulaReply, formulaReading, formulaReplied, formulaLeft, longEnough, withTable}
+use Rattle.actl.specs.Replies.{formulaReply, formulaReading, withTable}
 use Rattle.actl.specs.Readers.{namesIn, WholeRead, RefusedAt}
-use Rattle.actl.specs.Writing.{Answers, Holds, AnswersWith}
+use Rattle.actl.specs.Writing.{Answers, AnswersWith}
 use Rattle.actl.specs.declared.FormulaReply.{FormulaReply}
 use Rattle.actl.specs.declared.FormulaReply.the-variants.{TooLong, NotGrammatical, TableForeign, BufferShort}
 

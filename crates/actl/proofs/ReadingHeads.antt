@@ -1,25 +1,23 @@
 -- What the readers of keywords and their square brackets show at each of their answers.
 use mathlib.Core.Path.{_≡_, refl, sym, ap, _∙_, subst}
 use mathlib.Core.Logic.{_⊎_, inl, inr}
-use mathlib.Core.List.{List, [], _∷_, _++_}
-use Prim.Native.Nat.{ℕ, suc, _+_, _-_, _≤_, _<_}
+use mathlib.Core.List.{List, _∷_}
+use Prim.Native.Nat.{ℕ, suc, _+_, _-_, _<_}
 use native.Mathlib.Numerals.{add-one}
 use native.Mathlib.Omega.{arith}
 use lib.ListN.{length, drop}
 use Rattle.actl.specs.Formulas.{Formula}
-use Rattle.actl.specs.Grammar.{gap, Set, Condition, dot, set, Quantifier, existential, universal, next, until, untilThen, showS, showQ, showH}
-use Rattle.actl.specs.Reader.{InSet, sNext, sUntil, sThen, InTerm, tModal, State, oFirst, termAt, afterE, afterA, afterNext, afterUntil, bracketAt, afterDot, operandAt, afterSet, Step, on, stop, step, operandStep, closeStep}
+use Rattle.actl.specs.Grammar.{gap, dot, set, Quantifier, existential, universal, next, until, untilThen, showS, showQ}
+use Rattle.actl.specs.Reader.{InSet, sNext, sUntil, sThen, InTerm, tModal, oFirst, termAt, afterE, afterA, afterNext, afterUntil, bracketAt, afterDot, operandAt, afterSet}
 use Rattle.actl.specs.Meaning.{modalOf}
-use Rattle.actl.specs.Mentions.{namesS, namesH}
+use Rattle.actl.specs.Mentions.{namesS}
 use Rattle.actl.specs.Prepared.{slot, slotOf}
 use Rattle.actl.specs.Cursor.{peek, Token, Skipped, Moves, Fails, Marked, Tokened, Keyword}
-use Rattle.actl.specs.Readers.{unknownIn, earlier, SetRead, EnclosedRead, Unclosed, EnclosedSays, kindOf, NextRead, NextSays, UntilRead, UntilSays, HeadRead, HeadSays, NoMark, NoKeyword}
-use Rattle.actl.specs.declared.reading.Labels.{Labels}
-use Rattle.actl.specs.declared.reading.Labels.the-variants as labels
+use Rattle.actl.specs.Readers.{unknownIn, earlier, SetRead, EnclosedRead, Unclosed, kindOf, NextRead, NextSays, UntilRead, UntilSays, HeadSays, NoMark, NoKeyword}
 use Rattle.actl.specs.declared.reading.Heading.{Heading}
 use Rattle.actl.specs.declared.reading.Heading.the-variants.{Read, Refused}
-use Rattle.actl.proofs.ReadingMoves.{on-other, skipped-token, then, fail, at-only, fail-only, written-as, skip, stops, alike, marked, tokened}
-use Rattle.actl.proofs.ReadingSets.{token-behind, set-stops}
+use Rattle.actl.proofs.ReadingMoves.{on-other, then, fail, at-only, fail-only, written-as, skip, stops, alike, marked, tokened}
+use Rattle.actl.proofs.ReadingSets.{set-stops}
 use Rattle.actl.proofs.ReadingLabels.{earlier-none, earlier-append}
 
 -- EX or AX, in any context.

@@ -12,7 +12,7 @@ use lib.Seq.{take-suc, take-suc-set, getD-drop, take-at}
 use Rattle.columns.specs.Bytes.{sameBytes}
 use Rattle.lts.specs.Names.{findFrom, lookup}
 use Rattle.actl.specs.Actions.{Action, maskOf}
-use Rattle.actl.specs.Grammar.{Disjunction, Name, name, showF}
+use Rattle.actl.specs.Grammar.{Disjunction, name, showF}
 use Rattle.actl.specs.Meaning.{numberIn}
 use Rattle.actl.specs.Mentions.{Mention}
 use Rattle.actl.specs.Reading.{missing, firstUnknown}

@@ -1,14 +1,12 @@
 -- Masks by the form of their action formula: all labels, one label, complement and union.
-use mathlib.Core.Path.{_≡_, refl, sym, ap, _∙_}
+use mathlib.Core.Path.{_≡_, refl, sym, _∙_}
 use mathlib.Core.Bool.{Bool, true, false, cond, not, _||_}
-use Prim.Native.Nat.{ℕ, zero, suc, _+_, _-_, _*_, _^_, _≤_, _<_}
+use Prim.Native.Nat.{ℕ, zero, suc, _+_, _*_, _^_, _≤_, _<_}
 use native.Mathlib.Nat.{two-pow-succ}
 use native.Mathlib.Decide.{decLe}
 use native.Mathlib.Omega.{arith}
 use borrow.Author.Tests.{eq-eqb, ne-eqb}
-use lib.Bits.{bitOr, or-block, or-lt}
-use lib.Dec.{eqb}
-use lib.Pow.{pow-pos}
+use lib.Bits.{bitOr, or-block}
 use Rattle.actl.specs.Actions.{Action, satisfies, maskOf}
 
 abbrev bit : Bool → ℕ

@@ -1,5 +1,5 @@
 -- A name, a byte at a time.
-use mathlib.Core.Path.{_≡_, refl, sym, ap, _∙_, subst}
+use mathlib.Core.Path.{_≡_, refl, sym, ap, _∙_}
 use mathlib.Core.Bool.{Bool, true, false, cond, Bool-set, true≢false, _&&_, _||_}
 use mathlib.Core.List.{List, [], _∷_, _++_, append-assoc}
 use Prim.Native.Nat.{ℕ, zero, suc, _+_, _-_, _≤_, _<_}
@@ -11,7 +11,7 @@ use lib.ListN.{length, getD, drop, length-append, drop-of-length-le}
 use lib.Seq.{drop-cons}
 use Rattle.lts.specs.Names.{isLower, isNameByte, atMost, isName}
 use Rattle.actl.specs.Grammar.{Name, Operand, name, except}
-use Rattle.actl.specs.Reader.{InOperand, oFirst, oOr, oNot, State, operandAt, naming, Step, step, finish, go, on, named, leaveO, plugO, proceed, run, refused}
+use Rattle.actl.specs.Reader.{InOperand, oFirst, oOr, oNot, operandAt, naming, Step, step, finish, go, on, named, leaveO, plugO, proceed, run, refused}
 use Rattle.actl.specs.Cursor.{peek, Named}
 use Rattle.actl.proofs.ReadingPlaces.{byte-at, inside, getD-any}
 

@@ -1,5 +1,5 @@
 -- Places of a text: the byte at one, the reader's step there, and blanks.
-use mathlib.Core.Path.{_≡_, refl, sym, ap, _∙_, subst}
+use mathlib.Core.Path.{_≡_, refl, ap, _∙_, subst}
 use mathlib.Core.List.{List, [], _∷_}
 use Prim.Native.Nat.{ℕ, zero, suc, _+_, _-_, _≤_, _<_}
 use native.Mathlib.Decide.{decLe}
@@ -9,7 +9,7 @@ use lib.ListN.{length, getD, drop, List·getD-eq-default, drop-of-length-le}
 use lib.Seq.{drop-cons}
 use Rattle.actl.specs.Grammar.{gap}
 use Rattle.actl.specs.Reader.{State, stop, step, finish, proceed, run, refused}
-use Rattle.actl.specs.Cursor.{peek, Skipped, Marked, MarkSays, Tokened, Keyword, KeywordSays}
+use Rattle.actl.specs.Cursor.{peek, Skipped, Marked, MarkSays, Tokened, KeywordSays}
 use Rattle.actl.specs.declared.cursor.Taken.{Taken}
 use Rattle.actl.specs.declared.cursor.Taken.the-variants.{Past, Missing}
 

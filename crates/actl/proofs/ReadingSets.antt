@@ -1,16 +1,16 @@
 -- What the readers of operands and sets show at each of their answers.
-use mathlib.Core.Path.{_≡_, refl, sym, ap, _∙_, subst}
-use mathlib.Core.Logic.{_⊎_, inl, inr}
+use mathlib.Core.Path.{_≡_, refl, sym, ap, _∙_}
+use mathlib.Core.Logic.{inl, inr}
 use mathlib.Core.Bool.{true, false, _&&_}
-use mathlib.Core.List.{List, [], _∷_, _++_}
-use Prim.Native.Nat.{ℕ, suc, _+_, _-_, _≤_, _<_}
+use mathlib.Core.List.{List, [], _∷_}
+use Prim.Native.Nat.{ℕ, _+_, _-_, _≤_}
 use native.Mathlib.Omega.{arith}
 use lib.Bits.{bitOr, or-zero-l}
 use lib.ListN.{length, drop}
 use Rattle.lts.specs.Names.{isLower}
 use Rattle.actl.specs.Actions.{Action, maskOf}
 use Rattle.actl.specs.Grammar.{gap, Set, operand, union, Operand, any, except, group, showS, showO}
-use Rattle.actl.specs.Reader.{InSet, sParen, InOperand, oFirst, oOr, oNot, State, operandAt, afterSet, stop, closeStep, plugO}
+use Rattle.actl.specs.Reader.{InSet, sParen, InOperand, oFirst, oOr, oNot, operandAt, afterSet, stop, closeStep, plugO}
 use Rattle.actl.specs.Meaning.{actionOfSet, actionOfOperand, maskIn}
 use Rattle.actl.specs.Mentions.{namesS, namesO}
 use Rattle.actl.specs.Cursor.{peek, Token, Skipped, Moves, Fails, Marked, Tokened}

@@ -1,24 +1,23 @@
 -- What the readers of terms, brackets and formulas show at each of their answers.
 use mathlib.Core.Path.{_≡_, refl, sym, ap, _∙_, subst}
-use mathlib.Core.Logic.{_⊎_, inl, inr}
+use mathlib.Core.Logic.{inl, inr}
 use mathlib.Core.List.{List, [], _∷_, _++_}
 use Prim.Native.Nat.{ℕ, suc, _+_, _-_, _≤_, _<_}
 use native.Mathlib.Omega.{arith}
 use lib.ListN.{length, drop}
-use Rattle.actl.specs.Formulas.{Formula, size, nodes}
-use Rattle.actl.specs.Grammar.{gap, Quantifier, existential, universal, Condition, dot, set, Head, next, until, untilThen, Disjunction, term, or, Term, tru, not, modal, paren, showF, showT, showH}
-use Rattle.actl.specs.Reader.{InDisjunction, fParen, InTerm, tFirst, tOr, tNot, tModal, State, termAt, afterDisjunction, plugT}
-use Rattle.actl.specs.Meaning.{modalOf, formulaOf, formulaOfTerm}
+use Rattle.actl.specs.Formulas.{Formula, size}
+use Rattle.actl.specs.Grammar.{gap, existential, universal, Head, next, until, untilThen, tru, not, modal, paren, showT, showH}
+use Rattle.actl.specs.Reader.{fParen, tFirst, tNot, tModal, termAt, afterDisjunction, plugT}
+use Rattle.actl.specs.Meaning.{modalOf, formulaOfTerm}
 use Rattle.actl.specs.Mentions.{namesF, namesT, namesH}
-use Rattle.actl.specs.Prepared.{slot, slotOf}
-use Rattle.actl.specs.Cursor.{peek, Token, Skipped, Moves, Fails, Marked, Tokened}
-use Rattle.actl.specs.Readers.{unknownIn, earlier, HeadRead, slotCells, nodeCells, putAt, joinedAt, Written, Room, TermRead, TermSays, FormulaRead, BracketRead, Unbracketed, BracketSays}
+use Rattle.actl.specs.Prepared.{slotOf}
+use Rattle.actl.specs.Cursor.{peek, Skipped, Moves, Fails, Marked, Tokened}
+use Rattle.actl.specs.Readers.{unknownIn, earlier, HeadRead, slotCells, nodeCells, putAt, Written, Room, TermRead, TermSays, BracketRead, Unbracketed, BracketSays}
 use Rattle.actl.specs.declared.reading.Nodes.{Nodes}
 use Rattle.actl.specs.declared.reading.Nodes.the-variants.{Read, Refused}
-use Rattle.actl.proofs.ReadingMoves.{on-other, skipped-token, then, fail, at-only, fail-only, written-as, skip, stops, equal, marked, tokened}
-use Rattle.actl.proofs.ReadingSets.{token-behind}
+use Rattle.actl.proofs.ReadingMoves.{on-other, then, fail, at-only, fail-only, skip, stops, marked, tokened}
 use Rattle.actl.proofs.ReadingLabels.{earlier-none, earlier-append}
-use Rattle.actl.proofs.ReadingCells.{written-none, written-more, put-node, join-nodes, cells-or}
+use Rattle.actl.proofs.ReadingCells.{written-more, put-node}
 
 -- A keyword adds one node, whatever its arm.
 modal-size : (N : List (List ℕ)) (h : Head) (f : Formula) → size (modalOf N h f) ≡ suc (size f)

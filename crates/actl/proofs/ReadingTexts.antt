@@ -1,18 +1,15 @@
 -- A whole text: read to its end, or refused where no grammatical text goes on.
-use mathlib.Core.Path.{_≡_, refl, sym, ap, _∙_, subst}
+use mathlib.Core.Path.{_≡_, refl, sym, ap, _∙_}
 use mathlib.Core.List.{List, [], _∷_}
-use Prim.Native.Nat.{ℕ, zero, suc, _+_, _-_, _*_, _≤_, _<_}
+use Prim.Native.Nat.{ℕ, zero, suc, _-_, _≤_}
 use native.Mathlib.Nat.{zero-add}
 use native.Mathlib.Decide.{decLe}
 use native.Mathlib.Omega.{arith}
-use lib.ListN.{length, take, drop, length-drop, drop-of-length-le}
+use lib.ListN.{length, drop, length-drop, drop-of-length-le}
 use lib.Seq.{drop-cons}
-use Rattle.actl.specs.Formulas.{size}
 use Rattle.actl.specs.Grammar.{gap, showF}
-use Rattle.actl.specs.Reader.{fTop, tFirst, State, termAt, afterDisjunction, stop, step, ended, proceed, run, start, read, Result, whole, refused}
-use Rattle.actl.specs.Meaning.{formulaOf}
+use Rattle.actl.specs.Reader.{fTop, tFirst, termAt, afterDisjunction, stop, step, ended, proceed, run, start, read, refused}
 use Rattle.actl.specs.Mentions.{namesF}
-use Rattle.actl.specs.Reading.{firstUnknown}
 use Rattle.actl.specs.Cursor.{peek, Token, Marked, Fails}
 use Rattle.actl.specs.Readers.{unknownIn, earlier, FormulaRead, WholeRead, RefusedAt}
 use Rattle.actl.proofs.ReadingPlaces.{run-stop}

@@ -12,10 +12,10 @@ use Rattle.lts.specs.Prepared.{tableIn}
 use Rattle.lts.specs.Access.{HoldsTable}
 use Rattle.actl.specs.Actions.{Mask, maskOf}
 use Rattle.actl.specs.Formulas.{Formula, size, nodes}
-use Rattle.actl.specs.Grammar.{gap, Set, Operand, Condition, Quantifier, existential, universal, Head, next, Disjunction, Term, showS, showO, showQ, showC, showH, showF, showT}
-use Rattle.actl.specs.Reader.{InSet, oFirst, InTerm, tFirst, tModal, termAt, afterNext, afterUntil, operandAt, afterSet, afterDisjunction, plugO, plugT, read, whole, refused}
+use Rattle.actl.specs.Grammar.{gap, Set, Operand, Condition, Quantifier, existential, universal, Head, next, Disjunction, Term, showS, showO, showC, showH, showF, showT}
+use Rattle.actl.specs.Reader.{oFirst, InTerm, tFirst, tModal, termAt, afterNext, afterUntil, operandAt, afterSet, afterDisjunction, plugO, plugT, read, whole, refused}
 use Rattle.actl.specs.Mentions.{Mention, namesS, namesO, namesC, namesH, namesF, namesT}
-use Rattle.actl.specs.Meaning.{actionOfSet, actionOfOperand, maskIn, modalOf, formulaOf, formulaOfTerm}
+use Rattle.actl.specs.Meaning.{actionOfOperand, maskIn, modalOf, formulaOf, formulaOfTerm}
 use Rattle.actl.specs.Reading.{missing, firstUnknown}
 use Rattle.actl.specs.Prepared.{Slot, slot, slotOf}
 use Rattle.actl.specs.Cursor.{peek, Token, Moves, Fails, Marked}

@@ -1,8 +1,7 @@
 // A place in a formula's text, by value. Its methods skip blanks, take a token and hand the cursor back.
-ghost use mathlib.Core.Path.{_≡_};
-ghost use Prim.Native.Nat.{ℕ, _≤_, _<_};
+ghost use Prim.Native.Nat.{_≤_, _<_};
 ghost use lib.ListN.{length};
-ghost use Rattle.actl.specs.Cursor.{peek, Skipped, MarkSays, TokenSays, KeywordSays, NameSays};
+ghost use Rattle.actl.specs.Cursor.{Skipped, MarkSays, TokenSays, KeywordSays, NameSays};
 use lts::names::is_lower;
 use lts::names::is_name_byte;
 

@@ -2,10 +2,8 @@
 // What they make of it: the nodes in preorder, three cells each (kind and two masks), and the first name that the table lacks.
 ghost use mathlib.Core.Path.{_≡_};
 ghost use mathlib.Core.Option.{some};
-ghost use Prim.Native.Nat.{ℕ, _+_, _*_, _-_, _≤_, _<_};
+ghost use Prim.Native.Nat.{_+_, _*_, _-_, _≤_, _<_};
 ghost use lib.ListN.{length, take, drop};
-ghost use Rattle.lts.specs.Steps.{labels};
-ghost use Rattle.lts.specs.Prepared.{tableIn};
 ghost use Rattle.lts.specs.Access.{HoldsTable};
 ghost use Rattle.actl.specs.Actions.{Action, maskOf};
 ghost use Rattle.actl.specs.Cursor.{Named};

@@ -1,6 +1,6 @@
 // The answer behind the grammar, and the prepared bytes: what reading left in cells goes into the lent buffer.
 ghost use mathlib.Core.Path.{_≡_};
-ghost use Prim.Native.Nat.{ℕ, _+_, _*_, _-_, _≤_, _<_};
+ghost use Prim.Native.Nat.{_+_, _*_, _-_, _≤_, _<_};
 ghost use lib.ListN.{length, take, replicate};
 ghost use Rattle.columns.specs.Bytes.{lowFirst};
 ghost use Rattle.actl.specs.Writing.{placed, nodeBytes, cellBytes, cellKinds, preparedBytes, AnswersWith};

@@ -1,11 +1,8 @@
 -- `all_labels` has the bits 1 to n.
 use borrow.Author.Needs.{needs}
 use native.Mathlib.Omega.{arith}
-use Rattle.lts.specs.Steps.{labels}
-use Rattle.lts.specs.Prepared.{tableIn}
 use Rattle.actl.proofs.ReadingLabels.{shifted-all}
-use mathlib.Core.Path.{sym, ap, _∙_}
-use lib.ListN.{length}
+use mathlib.Core.Path.{ap}
 use Rattle.actl.specs.Actions.{Action, maskOf}
 use Rattle.actl.proofs.reading.all_labels.Statement.{statement}
 use Rattle.actl.proofs.reading.all_labels.Tie as tie

@@ -18,7 +18,6 @@ enum-known-d c = search needs
 next-head-requires : tie.Need-next-head-requires
 next-head-requires c κs =
     let a = c .before .before .before .before .before .before .before .args in
-    let N = namesIn (a .table .now) in
     let s = a .text .now in
     let at = a .c .at in
     let pre = c .before .before .before .before .before .before .before .pre in
@@ -46,7 +45,6 @@ enum-known-d-2 c = search needs
 next-head-requires-2 : tie.Need-next-head-requires-2
 next-head-requires-2 c κs =
     let a = c .before .before .before .before .before .before .before .before .before .before .before .args in
-    let N = namesIn (a .table .now) in
     let s = a .text .now in
     let at = a .c .at in
     let pre = c .before .before .before .before .before .before .before .before .before .before .before .pre in
@@ -74,7 +72,6 @@ enum-known-d-3 c = search needs
 until-head-requires : tie.Need-until-head-requires
 until-head-requires c κs =
     let a = c .before .before .before .before .before .before .before .before .before .before .before .before .before .before .before .args in
-    let N = namesIn (a .table .now) in
     let s = a .text .now in
     let at = a .c .at in
     let pre = c .before .before .before .before .before .before .before .before .before .before .before .before .before .before .before .pre in

@@ -1,5 +1,5 @@
 -- `join` moves nodes up by one, from the last one on. The loop's invariant: those from i on have moved.
-use mathlib.Core.Path.{_≡_, refl, ap, _∙_}
+use mathlib.Core.Path.{_≡_, ap, _∙_}
 use Prim.Native.Nat.{_*_, _≤_}
 use native.Mathlib.Omega.{arith}
 use lib.ListN.{length}

@@ -2,7 +2,6 @@
 use borrow.Author.Needs.{needs}
 use mathlib.Core.Path.{sym, ap, _∙_, subst}
 use native.Mathlib.Omega.{arith}
-use Prim.Native.Nat.{_^_}
 use Rattle.lts.specs.Access.{foundIn}
 use Rattle.actl.specs.Readers.{OperandRead, namesIn}
 use Rattle.actl.proofs.ReadingLabels.{found-range, shifted-one, label-known, label-unknown}

@@ -1,7 +1,7 @@
 -- `name_bytes` copies a name. The loop's invariant: the bytes passed are copied.
 use Prim.Native.Nat.{_-_}
 use native.Mathlib.Omega.{arith}
-use mathlib.Core.Path.{_≡_, refl, ap, _∙_, subst}
+use mathlib.Core.Path.{_≡_, refl, subst}
 use Rattle.actl.proofs.ReadingLabels.{Copied, copied-none, copied-more}
 use lib.ListN.{take, drop}
 use Rattle.actl.proofs.reading.name_bytes.Statement.{statement}

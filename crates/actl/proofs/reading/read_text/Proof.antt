@@ -26,7 +26,6 @@ enum-told-2 c = search needs
 formula-requires : tie.Need-formula-requires
 formula-requires c κs =
     let a = c .before .before .before .before .before .before .args in
-    let N = namesIn (a .table .now) in
     let s = a .text .now in
     let pre = c .before .before .before .before .before .before .pre in
     let t = text-token s (subst (MarkSays s 0 32) (c .before .enum-told2 .given .1) (c .before .before .before .mark .ensures)) in

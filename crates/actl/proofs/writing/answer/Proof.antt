@@ -38,7 +38,6 @@ slice-aggregate-highest-classless c =
 highest-classless-requires : tie.Need-highest-classless-requires
 highest-classless-requires c κs =
     let a = c .before .before .before .before .before .args in
-    let e = a .formula .now in
     let l = ap length (c .before .kinds-of .ensures) ∙ length-kinds (a .cells .now) (a .n) in
     omega (arith, c .before .before .if2 .left)
 

@@ -1,8 +1,6 @@
 -- `put_mask` writes eight bytes. The loop's invariant: the bytes so far, and those of what is left, are the mask's.
-use mathlib.Core.Path.{_≡_, ap}
 use Prim.Native.Nat.{_-_}
 use native.Mathlib.Omega.{arith}
-use lib.ListN.{length}
 use Rattle.actl.proofs.ReadingBytes.{Masked, masked-none, masked-length, masked-more, masked-all}
 use Rattle.actl.proofs.writing.put_mask.Statement.{statement}
 use Rattle.actl.proofs.writing.put_mask.Tie as tie

@@ -1,9 +1,9 @@
 -- `name` takes the longest name that stands at the cursor. The loop's invariant: the bytes passed are a name's first.
 use borrow.Author.Tests.{not-true, not-false}
-use mathlib.Core.Path.{refl, sym, ap, _∙_}
+use mathlib.Core.Path.{sym, ap, _∙_}
 use Prim.Native.Nat.{_-_}
 use native.Mathlib.Omega.{arith}
-use lib.ListN.{length, getD}
+use lib.ListN.{length}
 use Rattle.lts.specs.Names.{isLower}
 use Rattle.actl.proofs.ReadingPlaces.{peek-end, getD-any}
 use Rattle.actl.proofs.ReadingNames.{Spelled, spell-first, spell-more, spelled-byte, spelled-full, spelled-end}
