@@ -7,6 +7,9 @@ pub mod Meaning
 pub mod Reading
 pub mod Prepared
 pub mod Replies
+pub mod Cursor
+pub mod Readers
 pub mod Access
 pub mod Walk
 pub mod Check
+pub mod Writing

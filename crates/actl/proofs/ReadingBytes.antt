@@ -1,0 +1,138 @@
+-- Bytes written one part after the other, and the prepared bytes of the nodes in cells.
+use mathlib.Core.Path.{_≡_, refl, sym, ap, _∙_}
+use mathlib.Core.List.{List, [], _∷_, _++_, map, append-assoc, append-nil}
+use Prim.Native.Nat.{ℕ, suc, _+_, _*_, _-_, _/_, _%_, _≤_, _<_}
+use native.Mathlib.Nat.{add-zero, zero-add}
+use native.Mathlib.Numerals.{add-one}
+use native.Mathlib.Omega.{arith}
+use lib.ListN.{length, getD, take, drop, set, replicate, length-append, length-drop, length-set, length-replicate, length-map, take-append-drop, replicate-append-replicate}
+use lib.Seq.{length-take-le, take-at, drop-append-add, set-split, drop-drop, take-suc-set}
+use Rattle.columns.specs.Bytes.{lowFirst}
+use Rattle.lts.specs.Lists.{upFrom, bind}
+use Rattle.lts.proofs.Lists.{upFrom-append, upFrom-length, bind-append, map-append}
+use Rattle.actl.specs.Writing.{placed, nodeBytes, bytesAt, cellBytes, cellKinds, preparedBytes}
+use Rattle.actl.proofs.Laws.Widths.{length-parts}
+
+pub placed-none : (at : ℕ) (e : List ℕ) → e ≡ placed at [] e
+placed-none at e = sym (ap (λ i. take at e ++ drop i e) (add-zero at) ∙ take-append-drop at e)
+
+pub length-placed : (at : ℕ) (l e : List ℕ) → at + length l ≤ length e → length (placed at l e) ≡ length e
+length-placed at l e h =
+    let a = length-take-le at e (omega arith) in
+    length-append (take at e) (l ++ drop (at + length l) e) ∙ omega (arith, length-append l (drop (at + length l) e), length-drop (at + length l) e)
+
+-- A part behind another.
+pub placed-then : (at i : ℕ) (l j e x y : List ℕ) → x ≡ placed at l e → i ≡ at + length l → at + length l ≤ length e → y ≡ placed i j x → y ≡ placed at (l ++ j) e
+placed-then at i l j e x y p z h q =
+    let u = take at e ++ l in
+    let d = drop (at + length l) e in
+    let a = length-take-le at e (omega arith) in
+    let b : length u ≡ i = length-append (take at e) l ∙ omega arith in
+    let c : x ≡ u ++ d = p ∙ sym (append-assoc (take at e) l d) in
+    let f : take i x ≡ u = ap (take i) c ∙ take-at u d i b in
+    let k : length u + length j ≡ i + length j = omega arith in
+    let v : at + length l + length j ≡ at + length (l ++ j) = omega (arith, length-append l j) in
+    let g : drop (i + length j) x ≡ drop (at + length (l ++ j)) e =
+    ap (λ n. drop n x) (sym k) ∙ (ap (drop (length u + length j)) c ∙ (drop-append-add u d (length j) ∙ (drop-drop (length j) (at + length l) e ∙ ap (λ n. drop n e) v))) in
+    q ∙ ((λ n. f n ++ (j ++ g n)) ∙ (append-assoc (take at e) l (j ++ drop (at + length (l ++ j)) e)
+    ∙ ap (λ r. take at e ++ r) (sym (append-assoc l j (drop (at + length (l ++ j)) e)))))
+
+pub set-placed : (e : List ℕ) (at b : ℕ) → at < length e → set e at b ≡ placed at (b ∷ []) e
+set-placed e at b h = set-split e at b h ∙ ap (λ i. take at e ++ (b ∷ drop i e)) (sym (add-one at))
+
+-- One byte more.
+pub placed-byte : (at i b : ℕ) (l e x : List ℕ) → x ≡ placed at l e → i ≡ at + length l → i < length e → set x i b ≡ placed at (l ++ (b ∷ [])) e
+placed-byte at i b l e x p z h = placed-then at i l (b ∷ []) e x _ p z (omega arith) (set-placed x i b (omega (arith, ap length p, length-placed at l e (omega arith))))
+
+-- A mask's bytes, low byte first.
+pub record Masked (mask at : ℕ) (e : List ℕ) (i rest : ℕ) (x : List ℕ) : Type 0 where
+  pub bytes : List ℕ
+  pub few : i ≤ 8
+  pub long : length bytes ≡ i
+  pub made : x ≡ placed at bytes e
+  pub left : bytes ++ lowFirst (8 - i) rest ≡ lowFirst 8 mask
+
+pub masked-none : (mask at : ℕ) (e : List ℕ) → Masked mask at e 0 mask e
+masked-none mask at e = record { bytes = []; few = omega arith; long = refl; made = placed-none at e; left = refl }
+
+module _ {mask at : ℕ} {e : List ℕ} {i rest : ℕ} {x : List ℕ} (fits : at + 8 ≤ length e) (m : Masked mask at e i rest x) where
+  pub masked-length : length x ≡ length e
+  masked-length = ap length (m .made) ∙ length-placed at (m .bytes) e (omega (arith, m .long, m .few))
+
+  pub masked-more : i < 8 → Masked mask at e (i + 1) (rest / 256) (set x (at + i) (rest % 256))
+  masked-more h =
+      let z : 8 - i ≡ suc (8 - (i + 1)) = omega arith in
+      let b = rest % 256 in
+      record {
+        bytes = m .bytes ++ (b ∷ []);
+        few = omega arith;
+        long = length-append (m .bytes) (b ∷ []) ∙ omega (arith, m .long);
+        made = placed-byte at (at + i) b (m .bytes) e x (m .made) (ap (λ n. at + n) (sym (m .long))) (omega arith);
+        left = append-assoc (m .bytes) (b ∷ []) (lowFirst (8 - (i + 1)) (rest / 256)) ∙ (ap (λ n. m .bytes ++ lowFirst n rest) (sym z) ∙ m .left);
+      }
+
+  pub masked-all : 8 ≤ i → x ≡ placed at (lowFirst 8 mask) e
+  masked-all h =
+      let z : 8 - i ≡ 0 = omega arith in
+      m .made ∙ ap (λ l. placed at l e) (sym (append-nil (m .bytes)) ∙ (ap (λ n. m .bytes ++ lowFirst n rest) (sym z) ∙ m .left))
+
+-- Zeros.
+pub zeros-none : (from : ℕ) (e : List ℕ) → e ≡ placed from (replicate (from - from) 0) e
+zeros-none from e = placed-none from e ∙ ap (λ n. placed from (replicate n 0) e) (let z : 0 ≡ from - from = omega arith in z)
+
+pub zeros-more : (from i : ℕ) (e x : List ℕ) → from ≤ i → i < length e → x ≡ placed from (replicate (i - from) 0) e → set x i 0 ≡ placed from (replicate (i + 1 - from) 0) e
+zeros-more from i e x h w p =
+    let z : i - from + 1 ≡ i + 1 - from = omega arith in
+    placed-byte from i 0 (replicate (i - from) 0) e x p (rw length-replicate (omega arith)) w
+    ∙ ap (λ l. placed from l e) (replicate-append-replicate (i - from) 1 0 ∙ ap (λ n. replicate n 0) z)
+
+-- Nodes.
+pub node-placed : (at k f g : ℕ) (e x y z : List ℕ) → at + 17 ≤ length e → x ≡ set e at (k % 256) → y ≡ placed (at + 1) (lowFirst 8 f) x → z ≡ placed (at + 9) (lowFirst 8 g) y → z ≡ placed at (nodeBytes k f g) e
+node-placed at k f g e x y z h p q r =
+    let a : x ≡ placed at ((k % 256) ∷ []) e = p ∙ set-placed e at (k % 256) (omega arith) in
+    let b : y ≡ placed at ((k % 256) ∷ lowFirst 8 f) e = placed-then at (at + 1) ((k % 256) ∷ []) (lowFirst 8 f) e x y a refl (omega arith) q in
+    placed-then at (at + 9) ((k % 256) ∷ lowFirst 8 f) (lowFirst 8 g) e y z b refl (omega arith) r
+
+pub length-cell-bytes : (c : List ℕ) (n : ℕ) → length (cellBytes c n) ≡ n * 17
+length-cell-bytes c n = length-parts (bytesAt c) 17 (λ k. refl) (upFrom 0 n) ∙ ap (λ k. k * 17) (upFrom-length 0 n)
+
+cell-bytes-more : (c : List ℕ) (k : ℕ) → cellBytes c k ++ bytesAt c k ≡ cellBytes c (k + 1)
+cell-bytes-more c k = sym (ap (bind (bytesAt c)) (upFrom-append 0 k 1) ∙ (bind-append (bytesAt c) (upFrom 0 k) (upFrom (0 + k) 1)
+    ∙ ap (λ l. cellBytes c k ++ l) (append-nil (bytesAt c (0 + k)) ∙ ap (bytesAt c) (zero-add k))))
+
+pub nodes-none : (c e : List ℕ) → e ≡ placed 1 (cellBytes c 0) e
+nodes-none c e = placed-none 1 e
+
+pub nodes-more : (c e x y : List ℕ) (k : ℕ) → 1 + k * 17 + 17 ≤ length e → x ≡ placed 1 (cellBytes c k) e → y ≡ placed (1 + k * 17) (bytesAt c k) x → y ≡ placed 1 (cellBytes c (k + 1)) e
+nodes-more c e x y k h p q =
+    let l = length-cell-bytes c k in
+    placed-then 1 (1 + k * 17) (cellBytes c k) (bytesAt c k) e x y p (omega arith) (omega arith) q ∙ ap (λ b. placed 1 b e) (cell-bytes-more c k)
+
+pub bytes-placed : (c : List ℕ) (n : ℕ) (e x y z : List ℕ) → n ≤ 40 → 681 ≤ length e → x ≡ set e 0 n → y ≡ placed 1 (cellBytes c n) x → z ≡ placed (1 + n * 17) (replicate (681 - (1 + n * 17)) 0) y → z ≡ placed 0 (preparedBytes c n) e
+bytes-placed c n e x y z h w p q r =
+    let l = length-cell-bytes c n in
+    let a : x ≡ placed 0 (n ∷ []) e = p ∙ set-placed e 0 n (omega arith) in
+    let b : y ≡ placed 0 (n ∷ cellBytes c n) e = placed-then 0 1 (n ∷ []) (cellBytes c n) e x y a refl (omega arith) q in
+    let m : 681 - (1 + n * 17) ≡ 680 - n * 17 = omega arith in
+    placed-then 0 (1 + n * 17) (n ∷ cellBytes c n) (replicate (680 - n * 17) 0) e y z b (omega arith) (omega arith) (r ∙ ap (λ k. placed (1 + n * 17) (replicate k 0) y) m)
+
+-- Kinds.
+pub record Kinds (c : List ℕ) (n k : ℕ) (x : List ℕ) : Type 0 where
+  pub few : k ≤ n
+  pub long : length x ≡ 40
+  pub same : take k x ≡ cellKinds c k
+
+pub kinds-none : (c : List ℕ) (n : ℕ) (x : List ℕ) → length x ≡ 40 → Kinds c n 0 x
+kinds-none c n x l = record { few = omega arith; long = l; same = refl }
+
+pub kinds-more : (c : List ℕ) (n k : ℕ) (x : List ℕ) → n ≤ 40 → k < n → Kinds c n k x → Kinds c n (k + 1) (set x k (getD c (k * 3) 0 % 256))
+kinds-more c n k x h w m = record {
+  few = omega arith;
+  long = length-set x k (getD c (k * 3) 0 % 256) ∙ m .long;
+  same = rw add-one (take-suc-set x k (getD c (k * 3) 0 % 256) (omega (arith, m .long)) ∙ ap (λ l. l ++ ((getD c (k * 3) 0 % 256) ∷ [])) (m .same))
+      ∙ sym (ap (map (λ i. getD c (i * 3) 0 % 256)) (upFrom-append 0 k 1) ∙ (map-append (λ i. getD c (i * 3) 0 % 256) (upFrom 0 k) (upFrom (0 + k) 1)
+      ∙ ap (λ i. cellKinds c k ++ ((getD c (i * 3) 0 % 256) ∷ [])) (zero-add k)));
+}
+
+pub length-kinds : (c : List ℕ) (n : ℕ) → length (cellKinds c n) ≡ n
+length-kinds c n = length-map (upFrom 0 n) (λ k. getD c (k * 3) 0 % 256) ∙ upFrom-length 0 n

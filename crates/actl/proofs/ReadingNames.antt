@@ -1,0 +1,162 @@
+-- A name, a byte at a time.
+use mathlib.Core.Path.{_≡_, refl, sym, ap, _∙_}
+use mathlib.Core.Bool.{Bool, true, false, cond, Bool-set, true≢false, _&&_, _||_}
+use mathlib.Core.List.{List, [], _∷_, _++_, append-assoc}
+use Prim.Native.Nat.{ℕ, zero, suc, _+_, _-_, _≤_, _<_}
+use native.Mathlib.Numerals.{add-one}
+use native.Mathlib.Omega.{arith}
+use borrow.Author.Tests.{leb-true, ne-eqb}
+use lib.Dec.{leb, eqb}
+use lib.ListN.{length, getD, drop, length-append, drop-of-length-le}
+use lib.Seq.{drop-cons}
+use Rattle.lts.specs.Names.{isLower, isNameByte, atMost, isName}
+use Rattle.actl.specs.Grammar.{Name, Operand, name, except}
+use Rattle.actl.specs.Reader.{InOperand, oFirst, oOr, oNot, operandAt, naming, Step, step, finish, go, on, named, leaveO, plugO, proceed, run, refused}
+use Rattle.actl.specs.Cursor.{peek, Named}
+use Rattle.actl.proofs.ReadingPlaces.{byte-at, inside, getD-any}
+
+-- Tests.
+both : (a b : Bool) → a && b ≡ true → (a ≡ true) × (b ≡ true)
+both true b e = (refl, e)
+both false b e = absurd (true≢false (sym e))
+
+and-true : (a b : Bool) → a ≡ true → b ≡ true → a && b ≡ true
+and-true true b p q = q
+and-true false b p q = p
+
+and-false : (a b : Bool) → b ≡ false → a && b ≡ false
+and-false true b q = q
+and-false false b q = refl
+
+or-false : (a b : Bool) → (a || b) ≡ false → a ≡ false
+or-false true b e = e
+or-false false b e = refl
+
+pub lower-small : (b : ℕ) → isLower b ≡ true → b < 256
+lower-small b h = omega (arith, leb-true b 122 (both (leb 97 b) (leb b 122) h .1))
+
+-- One byte more, or none.
+atMost-grows : (n : ℕ) (p : List ℕ) (b : ℕ) → atMost n p ≡ true → length p < n → isNameByte b ≡ true → atMost n (p ++ (b ∷ [])) ≡ true
+atMost-grows zero p b e h i = absurd (omega arith)
+atMost-grows (suc n) [] b e h i = and-true (isNameByte b) true i refl
+atMost-grows (suc n) (c ∷ p) b e h i = let (x, y) = both (isNameByte c) (atMost n p) e in and-true (isNameByte c) _ x (atMost-grows n p b y (omega arith) i)
+
+name-grows : (p : List ℕ) (b : ℕ) → isName p ≡ true → length p < 12 → isNameByte b ≡ true → isName (p ++ (b ∷ [])) ≡ true
+name-grows [] b e h i = absurd (true≢false (sym e))
+name-grows (c ∷ p) b e h i = let (x, y) = both (isLower c) (atMost 11 p) e in and-true (isLower c) _ x (atMost-grows 11 p b y (omega arith) i)
+
+atMost-full : (n : ℕ) (p : List ℕ) (b : ℕ) → n ≤ length p → atMost n (p ++ (b ∷ [])) ≡ false
+atMost-full zero [] b h = refl
+atMost-full (suc n) [] b h = absurd (omega arith)
+atMost-full zero (c ∷ p) b h = refl
+atMost-full (suc n) (c ∷ p) b h = and-false (isNameByte c) _ (atMost-full n p b (omega arith))
+
+name-full : (p : List ℕ) (b : ℕ) → 12 ≤ length p → isName (p ++ (b ∷ [])) ≡ false
+name-full [] b h = absurd (omega arith)
+name-full (c ∷ p) b h = and-false (isLower c) _ (atMost-full 11 p b (omega arith))
+
+atMost-ends : (n : ℕ) (p : List ℕ) (b : ℕ) → isNameByte b ≡ false → atMost n (p ++ (b ∷ [])) ≡ false
+atMost-ends zero [] b h = refl
+atMost-ends (suc n) [] b h = ap (λ t. t && true) h
+atMost-ends zero (c ∷ p) b h = refl
+atMost-ends (suc n) (c ∷ p) b h = and-false (isNameByte c) _ (atMost-ends n p b h)
+
+name-ends : (p : List ℕ) (b : ℕ) → isNameByte b ≡ false → isName (p ++ (b ∷ [])) ≡ false
+name-ends [] b h = ap (λ t. t && true) (or-false (isLower b) _ h)
+name-ends (c ∷ p) b h = and-false (isLower c) _ (atMost-ends 11 p b h)
+
+-- The reader's steps in a name.
+named-yes : (l : List ℕ) (k : InOperand) (t : Bool) (e : isName l ≡ t) (y : Step) (h : isName l ≡ true) → named l k t e y ≡ go (naming (record { bytes = l; fits = h }) k)
+named-yes l k true e y h = ap (λ v. go (naming (record { bytes = l; fits = v }) k)) (Bool-set (isName l) true e h)
+named-yes l k false e y h = absurd (true≢false (sym h ∙ e))
+
+pub named-no : (l : List ℕ) (k : InOperand) (t : Bool) (e : isName l ≡ t) (y : Step) → isName l ≡ false → named l k t e y ≡ y
+named-no l k true e y h = absurd (true≢false (sym e ∙ h))
+named-no l k false e y h = refl
+
+lower-not : (b m : ℕ) → isLower b ≡ true → isLower m ≡ false → eqb b m ≡ false
+lower-not b m p q = ne-eqb b m (λ e. true≢false (sym p ∙ (ap isLower e ∙ q)))
+
+on-not : (b m : ℕ) (y z : Step) → isLower b ≡ true → isLower m ≡ false → on b m y z ≡ z
+on-not b m y z p q = ap (λ t. cond t y z) (lower-not b m p q)
+
+name-starts : (b : ℕ) (k : InOperand) (h : isName (b ∷ []) ≡ true) → step (operandAt k) b ≡ go (naming (record { bytes = b ∷ []; fits = h }) k)
+name-starts b k h =
+    let l = both (isLower b) true h .0 in
+    on-not b 32 _ _ l refl ∙ (on-not b 42 _ _ l refl ∙ (on-not b 126 _ _ l refl ∙ (on-not b 40 _ _ l refl ∙ named-yes (b ∷ []) k (isName (b ∷ [])) refl _ h)))
+
+leave-step : (o : Operand) (k : InOperand) (b : ℕ) → leaveO o k b ≡ step (plugO o k) b
+leave-step o (oFirst k) b = refl
+leave-step o (oOr x a k c) b = refl
+leave-step o (oNot k a) b = leave-step (except a o) k b
+
+leave-end : (o : Operand) (k : InOperand) → refused [] ≡ finish (plugO o k)
+leave-end o (oFirst k) = refl
+leave-end o (oOr x a k b) = refl
+leave-end o (oNot k a) = leave-end (except a o) k
+
+leave-at : (b : ℕ) (s : List ℕ) (n : Name) (k : InOperand) → isName (n .bytes ++ (b ∷ [])) ≡ false → run (b ∷ s) (naming n k) ≡ run (b ∷ s) (plugO (name n) k)
+leave-at b s n k h = ap (λ v. proceed v (run s) (refused (b ∷ s))) (named-no (n .bytes ++ (b ∷ [])) k (isName (n .bytes ++ (b ∷ []))) refl (leaveO (name n) k b) h ∙ leave-step (name n) k b)
+
+-- The bytes from `at` up to `to` are a name's first.
+pub record Spelled (s : List ℕ) (at to : ℕ) : Type 0 where
+  pub value : Name
+  pub long : length (value .bytes) ≡ to - at
+  pub short : to ≤ at + 12
+  pub text : drop at s ≡ value .bytes ++ drop to s
+  pub up : at < to
+  pub within : to ≤ length s
+  pub reads : (k : InOperand) → run (drop at s) (operandAt k) ≡ run (drop to s) (naming value k)
+
+spell-first-peek : (s : List ℕ) (at : ℕ) → isLower (peek s at) ≡ true → Spelled s at (at + 1)
+spell-first-peek s at h =
+    let b = peek s at in
+    let i : isName (b ∷ []) ≡ true = and-true (isLower b) true h refl in
+    let d = byte-at s at b refl (lower-small b h) in
+    record {
+      value = record { bytes = b ∷ []; fits = i };
+      long = omega arith;
+      short = omega arith;
+      text = d;
+      up = omega arith;
+      within = omega (arith, inside s at (lower-small b h));
+      reads = λ k. ap (λ l. run l (operandAt k)) d ∙ ap (λ v. proceed v (run (drop (at + 1) s)) (refused (b ∷ drop (at + 1) s))) (name-starts b k i);
+    }
+
+pub spell-first : (s : List ℕ) (at : ℕ) → at < length s → isLower (getD s at 0) ≡ true → Spelled s at (at + 1)
+spell-first s at w h = spell-first-peek s at (ap isLower (getD-any s at 256 0 w) ∙ h)
+
+module _ (s : List ℕ) (at to : ℕ) (h : Spelled s at to) where
+  here : to < length s → drop to s ≡ getD s to 0 ∷ drop (to + 1) s
+  here w = drop-cons s to 0 w ∙ rw add-one
+
+  pub spell-more : to < length s → to - at < 12 → isNameByte (getD s to 0) ≡ true → Spelled s at (to + 1)
+  spell-more w l i =
+      let b = getD s to 0 in
+      let n = h .value in
+      let f = name-grows (n .bytes) b (n .fits) (omega (arith, h .long)) i in
+      record {
+        value = record { bytes = n .bytes ++ (b ∷ []); fits = f };
+        long = length-append (n .bytes) (b ∷ []) ∙ omega (arith, h .long, h .up);
+        short = omega (arith, h .up);
+        text = h .text ∙ (ap (λ l. n .bytes ++ l) (here w) ∙ sym (append-assoc (n .bytes) (b ∷ []) (drop (to + 1) s)));
+        up = omega (arith, h .up);
+        within = omega arith;
+        reads = λ k. h .reads k ∙ (ap (λ l. run l (naming n k)) (here w)
+            ∙ ap (λ v. proceed v (run (drop (to + 1) s)) (refused (b ∷ drop (to + 1) s))) (named-yes (n .bytes ++ (b ∷ [])) k (isName (n .bytes ++ (b ∷ []))) refl (leaveO (name n) k b) f));
+      }
+
+  left : ((k : InOperand) → run (drop to s) (naming (h .value) k) ≡ run (drop to s) (plugO (name (h .value)) k)) → Named s at to
+  left e = record { value = h .value; up = h .up; short = h .short; moves = record { up = omega (arith, h .up); within = h .within; text = h .text; reads = λ k. h .reads k ∙ e k } }
+
+  left-byte : to < length s → isName (h .value .bytes ++ (getD s to 0 ∷ [])) ≡ false → Named s at to
+  left-byte w e = left (λ k. ap (λ l. run l (naming (h .value) k)) (here w) ∙ (leave-at (getD s to 0) (drop (to + 1) s) (h .value) k e ∙ ap (λ l. run l (plugO (name (h .value)) k)) (sym (here w))))
+
+  pub spelled-byte : to < length s → isNameByte (getD s to 0) ≡ false → Named s at to
+  spelled-byte w i = left-byte w (name-ends (h .value .bytes) (getD s to 0) i)
+
+  pub spelled-full : to < length s → 12 ≤ to - at → Named s at to
+  spelled-full w l = left-byte w (name-full (h .value .bytes) (getD s to 0) (omega (arith, h .long)))
+
+  pub spelled-end : length s ≤ to → Named s at to
+  spelled-end w = left (λ k. let d = drop-of-length-le s w in ap (λ l. run l (naming (h .value) k)) d ∙ (leave-end (name (h .value)) k ∙ ap (λ l. run l (plugO (name (h .value)) k)) (sym d)))

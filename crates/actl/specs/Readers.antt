@@ -1,0 +1,241 @@
+-- What the readers of sets, heads, terms and formulas say: N are the table's label names, s is the text.
+-- Each is read from `at` to `to`, and comes with the reader's moves, whatever stood before; or the text is refused.
+use mathlib.Core.Path.{_≡_}
+use mathlib.Core.Logic.{_⊎_}
+use mathlib.Core.List.{List, [], _∷_, _++_}
+use mathlib.Core.Option.{Option, none, some}
+use Prim.Native.Nat.{ℕ, zero, suc, _+_, _*_, _-_, _≤_, _<_}
+use lib.ListN.{length, take, drop}
+use Rattle.lts.specs.Lists.{bind}
+use Rattle.lts.specs.Names.{lookup}
+use Rattle.lts.specs.Prepared.{tableIn}
+use Rattle.lts.specs.Access.{HoldsTable}
+use Rattle.actl.specs.Actions.{Mask, maskOf}
+use Rattle.actl.specs.Formulas.{Formula, size, nodes}
+use Rattle.actl.specs.Grammar.{gap, Set, Operand, Condition, Quantifier, existential, universal, Head, next, Disjunction, Term, showS, showO, showC, showH, showF, showT}
+use Rattle.actl.specs.Reader.{oFirst, InTerm, tFirst, tModal, termAt, afterNext, afterUntil, operandAt, afterSet, afterDisjunction, plugO, plugT, read, whole, refused}
+use Rattle.actl.specs.Mentions.{Mention, namesS, namesO, namesC, namesH, namesF, namesT}
+use Rattle.actl.specs.Meaning.{actionOfOperand, maskIn, modalOf, formulaOf, formulaOfTerm}
+use Rattle.actl.specs.Reading.{missing, firstUnknown}
+use Rattle.actl.specs.Prepared.{Slot, slot, slotOf}
+use Rattle.actl.specs.Cursor.{peek, Token, Moves, Fails, Marked}
+use Rattle.actl.specs.declared.reading.Labels.{Labels}
+use Rattle.actl.specs.declared.reading.Labels.the-variants as labels
+use Rattle.actl.specs.declared.reading.Heading.{Heading}
+use Rattle.actl.specs.declared.reading.Heading.the-variants as heading
+use Rattle.actl.specs.declared.reading.Nodes.{Nodes}
+use Rattle.actl.specs.declared.reading.Nodes.the-variants as written
+use Rattle.actl.specs.declared.reading.Chain.{Chain}
+use Rattle.actl.specs.declared.reading.Chain.the-variants as chain
+use Rattle.actl.specs.declared.reading.Reading.{Reading}
+use Rattle.actl.specs.declared.reading.Reading.the-variants as reading
+
+-- The label names of the table in prepared bytes.
+abbrev pub namesIn : List ℕ → List (List ℕ)
+namesIn b = tableIn b .names
+
+-- Where a reader may begin: over a table's bytes b, at a token of a text that is not too long.
+pub record Ready (b s : List ℕ) (at : ℕ) : Type 0 where
+  pub table : HoldsTable b
+  pub short : length s ≤ 512
+  pub token : Token s at
+
+-- The first of the names that the table lacks, by its offset in a text of n bytes.
+abbrev pub unknownIn : List (List ℕ) → ℕ → List Mention → Option ℕ
+unknownIn N n [] = none
+unknownIn N n (m ∷ l) = missing (lookup N (m .name .bytes)) (n - length (m .name .bytes ++ m .behind)) (unknownIn N n l)
+
+-- 0 as long as the table has every name, and else one more than the first offset.
+abbrev pub earlier : ℕ → Option ℕ → ℕ
+earlier zero none = zero
+earlier zero (some a) = suc a
+earlier (suc l) o = suc l
+
+pub record OperandRead (N : List (List ℕ)) (s : List ℕ) (at lost to mask left : ℕ) : Type 0 where
+  pub value : Operand
+  pub up : at < to
+  pub moves : Moves s at to (showO value) operandAt (plugO value)
+  pub means : mask ≡ maskOf (length N) (actionOfOperand N value)
+  pub lacks : left ≡ earlier lost (unknownIn N (length s) (namesO value (drop to s)))
+
+abbrev pub OperandSays : List (List ℕ) → List ℕ → ℕ → ℕ → Labels → Type 0
+OperandSays N s at lost (labels.Read c m l) = OperandRead N s at lost (c .at) m l
+OperandSays N s at lost (labels.Refused c) = Fails s at (c .at) operandAt
+
+-- A set is read with the blanks behind it.
+pub record SetRead (N : List (List ℕ)) (s : List ℕ) (at lost to mask left : ℕ) : Type 0 where
+  pub value : Set
+  pub blanks : ℕ
+  pub up : at < to
+  pub token : Token s to
+  pub last : peek s to ≡ 124 → ⊥
+  pub moves : Moves s at to (λ r. showS value (gap blanks r)) (λ k. operandAt (oFirst k)) (λ k. afterSet value k blanks)
+  pub means : mask ≡ maskIn N value
+  pub lacks : left ≡ earlier lost (unknownIn N (length s) (namesS value (gap blanks (drop to s))))
+
+abbrev pub SetSays : List (List ℕ) → List ℕ → ℕ → ℕ → Labels → Type 0
+SetSays N s at lost (labels.Read c m l) = SetRead N s at lost (c .at) m l
+SetSays N s at lost (labels.Refused c) = Fails s at (c .at) (λ k. operandAt (oFirst k))
+
+-- A set and the mark that ends its bracket.
+pub record EnclosedRead (N : List (List ℕ)) (s : List ℕ) (at mark lost to mask left : ℕ) : Type 0 where
+  pub end : ℕ
+  pub contents : SetRead N s at lost end mask left
+  pub shut : Marked s end mark to
+
+-- A set, and another mark behind it.
+pub record Unclosed (N : List (List ℕ)) (s : List ℕ) (at mark lost to : ℕ) : Type 0 where
+  pub mask : ℕ
+  pub left : ℕ
+  pub contents : SetRead N s at lost to mask left
+  pub other : peek s to ≡ mark → ⊥
+
+abbrev pub EnclosedSays : List (List ℕ) → List ℕ → ℕ → ℕ → ℕ → Labels → Type 0
+EnclosedSays N s at mark lost (labels.Read c m l) = EnclosedRead N s at mark lost (c .at) m l
+EnclosedSays N s at mark lost (labels.Refused c) = Fails s at (c .at) (λ k. operandAt (oFirst k)) ⊎ Unclosed N s at mark lost (c .at)
+
+-- The kind of a node for EX and AX; with a set it is one more (docs/FORMATS.md).
+abbrev pub kindOf : Quantifier → ℕ
+kindOf existential = 4
+kindOf universal = 6
+
+-- The bracket of EX or AX.
+pub record NextRead (N : List (List ℕ)) (s : List ℕ) (at base lost to kind first second left : ℕ) : Type 0 where
+  pub before : ℕ
+  pub inside : ℕ
+  pub condition : Condition
+  pub behind : ℕ
+  pub moves : Moves s at to (λ r. gap before (91 ∷ gap inside (showC condition (gap behind (93 ∷ r)))))
+      (λ (p : Quantifier × InTerm). afterNext (p .0) (p .1) 0) (λ p. termAt (tModal (next (p .0) before inside condition behind) (p .1) 0))
+  pub means : (q : Quantifier) (f : Formula) → kindOf q ≡ base → slotOf (modalOf N (next q before inside condition behind) f) ≡ slot kind first second
+  pub lacks : left ≡ earlier lost (unknownIn N (length s) (namesC condition (gap behind (93 ∷ drop to s))))
+
+abbrev pub NextSays : List (List ℕ) → List ℕ → ℕ → ℕ → ℕ → Heading → Type 0
+NextSays N s at base lost (heading.Read c k a b l) = NextRead N s at base lost (c .at) k a b l
+NextSays N s at base lost (heading.Refused c) = Fails s at (c .at) (λ (p : Quantifier × InTerm). afterNext (p .0) (p .1) 0)
+
+-- The bracket of EU.
+pub record UntilRead (N : List (List ℕ)) (s : List ℕ) (at lost to kind first second left : ℕ) : Type 0 where
+  pub value : Head
+  pub text : List ℕ → List ℕ
+  pub shows : (r : List ℕ) → showH value r ≡ 69 ∷ 85 ∷ text r
+  pub moves : Moves s at to text (λ k. afterUntil k 0) (λ k. termAt (tModal value k 0))
+  pub means : (f : Formula) → slotOf (modalOf N value f) ≡ slot kind first second
+  pub lacks : left ≡ earlier lost (unknownIn N (length s) (namesH value (drop to s)))
+
+abbrev pub UntilSays : List (List ℕ) → List ℕ → ℕ → ℕ → Heading → Type 0
+UntilSays N s at lost (heading.Read c k a b l) = UntilRead N s at lost (c .at) k a b l
+UntilSays N s at lost (heading.Refused c) = Fails s at (c .at) (λ k. afterUntil k 0)
+
+pub record HeadRead (N : List (List ℕ)) (s : List ℕ) (at lost to kind first second left : ℕ) : Type 0 where
+  pub value : Head
+  pub up : at < to
+  pub moves : Moves s at to (showH value) termAt (λ k. termAt (tModal value k 0))
+  pub means : (f : Formula) → slotOf (modalOf N value f) ≡ slot kind first second
+  pub lacks : left ≡ earlier lost (unknownIn N (length s) (namesH value (drop to s)))
+
+abbrev pub HeadSays : List (List ℕ) → List ℕ → ℕ → ℕ → Heading → Type 0
+HeadSays N s at lost (heading.Read c k a b l) = HeadRead N s at lost (c .at) k a b l
+HeadSays N s at lost (heading.Refused c) = Fails s at (c .at) termAt
+
+-- A place at which no `T`, `~` or `(` stands: a term there begins with a keyword.
+pub record NoMark (s : List ℕ) (at : ℕ) : Type 0 where
+  pub no-true : peek s at ≡ 84 → ⊥
+  pub no-not : peek s at ≡ 126 → ⊥
+  pub no-paren : peek s at ≡ 40 → ⊥
+
+-- How far a text without keyword there can go on: past an E or an A.
+abbrev pub NoKeyword : List ℕ → ℕ → ℕ → Type 0
+NoKeyword s at to = Marked s at 69 to ⊎ (Marked s at 65 to ⊎ ((peek s at ≡ 69 → ⊥) × (peek s at ≡ 65 → ⊥) × (to ≡ at)))
+
+-- Three cells for each node: its kind and its masks.
+abbrev pub slotCells : Slot → List ℕ
+slotCells s = s .kind ∷ s .first ∷ s .second ∷ []
+
+abbrev pub nodeCells : Formula → List ℕ
+nodeCells F = bind (λ f. slotCells (slotOf f)) (nodes F)
+
+-- Cells with node n written anew.
+abbrev pub putAt : ℕ → ℕ → Mask → Mask → List ℕ → List ℕ
+putAt n kind first second e = take (n * 3) e ++ (kind ∷ first ∷ second ∷ drop (n * 3 + 3) e)
+
+-- Cells with `|` written before the nodes from `start` up to n, which move up by one.
+abbrev pub joinedAt : ℕ → ℕ → List ℕ → List ℕ
+joinedAt start n e = take (start * 3) e ++ (3 ∷ 0 ∷ 0 ∷ (drop (start * 3) (take (n * 3) e) ++ drop (n * 3 + 3) e))
+
+-- The cells x are the cells e up to node n, and then l up to node m.
+pub record Written (n m : ℕ) (e x l : List ℕ) : Type 0 where
+  pub long : length x ≡ length e
+  pub cells : take (m * 3) x ≡ take (n * 3) e ++ l
+
+-- Room for the nodes of what is left of the text: there are no more nodes than bytes.
+pub record Room (e : List ℕ) (at n : ℕ) : Type 0 where
+  pub below : n ≤ at
+  pub long : length e ≡ 1536
+
+pub record TermRead (N : List (List ℕ)) (s : List ℕ) (at n lost : ℕ) (e : List ℕ) (to m left : ℕ) (x : List ℕ) : Type 0 where
+  pub value : Term
+  pub up : at < to
+  pub few : m + at ≤ n + to
+  pub count : m ≡ n + size (formulaOfTerm N value)
+  pub moves : Moves s at to (showT value) termAt (plugT value)
+  pub written : Written n m e x (nodeCells (formulaOfTerm N value))
+  pub lacks : left ≡ earlier lost (unknownIn N (length s) (namesT value (drop to s)))
+
+abbrev pub TermSays : List (List ℕ) → List ℕ → ℕ → ℕ → ℕ → List ℕ → List ℕ → Nodes → Type 0
+TermSays N s at n lost e x (written.Read c m l) = TermRead N s at n lost e (c .at) m l x
+TermSays N s at n lost e x (written.Refused c) = Fails s at (c .at) termAt
+
+-- A formula ends at one place, and the blanks behind it at the other.
+pub record FormulaRead (N : List (List ℕ)) (s : List ℕ) (at n lost : ℕ) (e : List ℕ) (end to m left : ℕ) (x : List ℕ) : Type 0 where
+  pub value : Disjunction
+  pub up : at < end
+  pub blanks : end ≤ to
+  pub few : m + at ≤ n + end
+  pub count : m ≡ n + size (formulaOf N value)
+  pub token : Token s to
+  pub last : peek s to ≡ 124 → ⊥
+  pub moves : Moves s at to (λ r. showF value (gap (to - end) r)) (λ k. termAt (tFirst k)) (λ k. afterDisjunction value k (to - end))
+  pub written : Written n m e x (nodeCells (formulaOf N value))
+  pub lacks : left ≡ earlier lost (unknownIn N (length s) (namesF value (gap (to - end) (drop to s))))
+
+abbrev pub FormulaSays : List (List ℕ) → List ℕ → ℕ → ℕ → ℕ → List ℕ → List ℕ → Chain → Type 0
+FormulaSays N s at n lost e x (chain.Read c d m l) = FormulaRead N s at n lost e (c .at) (d .at) m l x
+FormulaSays N s at n lost e x (chain.Refused c) = Fails s at (c .at) (λ k. termAt (tFirst k))
+
+-- A formula, and the `)` behind it.
+pub record BracketRead (N : List (List ℕ)) (s : List ℕ) (at n lost : ℕ) (e : List ℕ) (to m left : ℕ) (x : List ℕ) : Type 0 where
+  pub end : ℕ
+  pub behind : ℕ
+  pub contents : FormulaRead N s at n lost e end behind m left x
+  pub shut : Marked s behind 41 to
+
+pub record Unbracketed (N : List (List ℕ)) (s : List ℕ) (at n lost : ℕ) (e : List ℕ) (to : ℕ) (x : List ℕ) : Type 0 where
+  pub end : ℕ
+  pub m : ℕ
+  pub left : ℕ
+  pub contents : FormulaRead N s at n lost e end to m left x
+  pub other : peek s to ≡ 41 → ⊥
+
+abbrev pub BracketSays : List (List ℕ) → List ℕ → ℕ → ℕ → ℕ → List ℕ → List ℕ → Nodes → Type 0
+BracketSays N s at n lost e x (written.Read c m l) = BracketRead N s at n lost e (c .at) m l x
+BracketSays N s at n lost e x (written.Refused c) = Fails s at (c .at) (λ k. termAt (tFirst k)) ⊎ Unbracketed N s at n lost e (c .at) x
+
+-- A whole text: its nodes, how many there are, and the first name that the table lacks.
+pub record WholeRead (N : List (List ℕ)) (s x : List ℕ) (n left : ℕ) : Type 0 where
+  pub value : Disjunction
+  pub reads : read s ≡ whole value
+  pub count : n ≡ size (formulaOf N value)
+  pub long : length x ≡ 1536
+  pub cells : take (n * 3) x ≡ nodeCells (formulaOf N value)
+  pub lacks : left ≡ earlier 0 (firstUnknown N value (namesF value []))
+
+-- 01: "length of the longest beginning that some grammatical text, of any length, has"
+pub record RefusedAt (s : List ℕ) (n : ℕ) : Type 0 where
+  pub rest : List ℕ
+  pub reads : read s ≡ refused rest
+  pub figure : n ≡ length s - length rest
+
+abbrev pub ReadingSays : List (List ℕ) → List ℕ → List ℕ → Reading → Type 0
+ReadingSays N s x (reading.Whole n left) = WholeRead N s x n left
+ReadingSays N s x (reading.Refused n) = RefusedAt s n

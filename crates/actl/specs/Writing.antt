@@ -1,0 +1,51 @@
+-- What is written of the cells that reading leaves: a node's bytes, the prepared bytes, and the answer.
+use mathlib.Core.Path.{_≡_}
+use mathlib.Core.List.{List, _∷_, _++_, map}
+use mathlib.Core.Option.{Option}
+use Prim.Native.Nat.{ℕ, _+_, _*_, _-_, _%_}
+use lib.ListN.{length, getD, take, drop, replicate}
+use Rattle.columns.specs.Bytes.{lowFirst}
+use Rattle.lts.specs.Lists.{upFrom, bind}
+use Rattle.lts.specs.Reply.{Reply, leftIn, answers}
+use Rattle.actl.specs.Formulas.{Formula, size}
+use Rattle.actl.specs.Prepared.{formulaBytes}
+use Rattle.actl.specs.Reading.{unlessFound, withClasses}
+use Rattle.actl.specs.Replies.{formulaReply}
+use Rattle.actl.specs.Readers.{earlier, nodeCells}
+use Rattle.actl.specs.declared.FormulaReply.{FormulaReply}
+
+-- A list with l written from a place on.
+abbrev pub placed : ℕ → List ℕ → List ℕ → List ℕ
+placed at l e = take at e ++ (l ++ drop (at + length l) e)
+
+-- A node's bytes: its kind and its masks, low byte first.
+abbrev pub nodeBytes : ℕ → ℕ → ℕ → List ℕ
+nodeBytes kind first second = (kind % 256) ∷ (lowFirst 8 first ++ lowFirst 8 second)
+
+-- The bytes of node k in the cells c, and of the first n nodes.
+abbrev pub bytesAt : List ℕ → ℕ → List ℕ
+bytesAt c k = nodeBytes (getD c (k * 3) 0) (getD c (k * 3 + 1) 0) (getD c (k * 3 + 2) 0)
+
+abbrev pub cellBytes : List ℕ → ℕ → List ℕ
+cellBytes c n = bind (bytesAt c) (upFrom 0 n)
+
+abbrev pub cellKinds : List ℕ → ℕ → List ℕ
+cellKinds c n = map (λ k. getD c (k * 3) 0 % 256) (upFrom 0 n)
+
+-- The prepared bytes of the first n nodes, with zeros behind them.
+abbrev pub preparedBytes : List ℕ → ℕ → List ℕ
+preparedBytes c n = n ∷ (cellBytes c n ++ replicate (680 - n * 17) 0)
+
+-- A call that answers r and leaves x in the buffer e did what a reading says.
+pub record Answers (a : Reply Formula) (e : List ℕ) (r : FormulaReply) (x : List ℕ) : Type 0 where
+  pub replies : formulaReply r ≡ answers (λ F. tt) a
+  pub leaves : x ≡ leftIn formulaBytes a e
+
+-- The cells c hold the n nodes of F, and `lost` the offset o of a name that the table lacks.
+pub record Holds (c : List ℕ) (n lost : ℕ) (F : Formula) (o : Option ℕ) : Type 0 where
+  pub count : n ≡ size F
+  pub cells : take (n * 3) c ≡ nodeCells F
+  pub lacks : lost ≡ earlier 0 o
+
+abbrev pub AnswersWith : List ℕ → ℕ → ℕ → List ℕ → FormulaReply → List ℕ → Type 0
+AnswersWith c n lost e r x = (F : Formula) (o : Option ℕ) → Holds c n lost F o → Answers (unlessFound o 7 (withClasses F)) e r x
