@@ -21,6 +21,13 @@ extern "C" {
 /* Reads a table's text into a prepared table. Accepted: *figure is 0. */
 uint32_t explainer_read_table(const uint8_t *text, size_t text_len, uint8_t *table, size_t table_len, uint64_t *figure);
 
+/* Reads a formula's text, over a prepared table, into a prepared formula. Accepted: *figure is 0. */
+uint32_t explainer_read_formula(const uint8_t *table, size_t table_len, const uint8_t *text, size_t text_len,
+                                uint8_t *formula, size_t formula_len, uint64_t *figure);
+
+/* Whether a prepared formula holds at the start of a prepared table. Accepted: *figure is 1 if it holds, else 0. */
+uint32_t explainer_verdict(const uint8_t *table, size_t table_len, const uint8_t *formula, size_t formula_len, uint64_t *figure);
+
 #ifdef __cplusplus
 }
 #endif

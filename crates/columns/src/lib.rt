@@ -1,5 +1,6 @@
 // Numbers in six columns: the form of every number in the texts of tables and listings.
 pub mod write;
+
 ghost use mathlib.Core.Path.{_≡_};
 ghost use Prim.Native.Nat.{_+_, _-_, _<_, _≤_};
 ghost use lib.ListN.{length, take, drop};

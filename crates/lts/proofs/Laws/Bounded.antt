@@ -46,7 +46,7 @@ cut (suc m) (b ∷ s) = case (eqb b 10) refl (cut m s)
         let w : firstLine (b ∷ s) ≡ line (b ∷ h .bytes) (h .rest) = ap (λ x. cond x (line [] s) (longer b (firstLine s))) e ∙ ap (longer b) (h .whole) in
         let z : m - suc (length (h .bytes)) ≡ suc m - suc (suc (length (h .bytes))) = omega arith in
         let v : firstLine (b ∷ take m s) ≡ line (b ∷ h .bytes) (take (suc m - suc (suc (length (h .bytes)))) (h .rest)) =
-            ap (λ x. cond x (line [] (take m s)) (longer b (firstLine (take m s)))) e ∙ ap (longer b) (h .begun) ∙ ap (λ k. line (b ∷ h .bytes) (take k (h .rest))) z in
+        ap (λ x. cond x (line [] (take m s)) (longer b (firstLine (take m s)))) e ∙ ap (longer b) (h .begun) ∙ ap (λ k. line (b ∷ h .bytes) (take k (h .rest))) z in
         inl (record { bytes = b ∷ h .bytes; rest = h .rest; whole = w; begun = v })
     further e (inr h) = inr (record {
       begun = ap (λ x. cond x (line [] (take m s)) (longer b (firstLine (take m s)))) e ∙ ap (longer b) (h .begun);
@@ -143,11 +143,11 @@ unfolding readTransitions
 transitions-bounded h names zero steps m text g = end-bounded _ m text _ (omega arith)
 transitions-bounded h names (suc left) steps m text g =
     line-bounded (2 + length names + length steps) 18 m stepLaidOut
-        (λ l rest. unless (stepInRange h (stepOf l)) 2 (2 + length names + length steps) (unless (above steps (stepOf l)) 4 (2 + length names + length steps) (readTransitions h names left (steps ++ (stepOf l ∷ [])) rest)))
-        step-narrow (omega arith)
-        (λ l rest e. ap (λ r. unless (stepInRange h (stepOf l)) 2 (2 + length names + length steps) (unless (above steps (stepOf l)) 4 (2 + length names + length steps) r))
-            (transitions-bounded h names left (steps ++ (stepOf l ∷ [])) (m - suc (length l)) rest (omega (arith, step-narrow l e))))
-        text
+    (λ l rest. unless (stepInRange h (stepOf l)) 2 (2 + length names + length steps) (unless (above steps (stepOf l)) 4 (2 + length names + length steps) (readTransitions h names left (steps ++ (stepOf l ∷ [])) rest)))
+    step-narrow (omega arith)
+    (λ l rest e. ap (λ r. unless (stepInRange h (stepOf l)) 2 (2 + length names + length steps) (unless (above steps (stepOf l)) 4 (2 + length names + length steps) r))
+    (transitions-bounded h names left (steps ++ (stepOf l ∷ [])) (m - suc (length l)) rest (omega (arith, step-narrow l e))))
+    text
 
 labels-bounded : (h : Header) → h .transitions ≤ 1024 → (left : ℕ) (names : List (List ℕ)) (m : ℕ) (text : List ℕ) → 20 * left + 19457 ≤ m
     → readLabels h left names (take m text) ≡ readLabels h left names text
@@ -155,17 +155,17 @@ unfolding readLabels
 labels-bounded h few zero names m text g = transitions-bounded h names (h .transitions) [] m text (omega arith)
 labels-bounded h few (suc left) names m text g =
     line-bounded (2 + length names) 19 m labelLaidOut
-        (λ l rest. unless (eqb (valueAt 0 l) (suc (length names))) 2 (2 + length names) (unless (not (used names (drop 7 l))) 3 (2 + length names) (readLabels h left (names ++ (drop 7 l ∷ [])) rest)))
-        label-narrow (omega arith)
-        (λ l rest e. ap (λ r. unless (eqb (valueAt 0 l) (suc (length names))) 2 (2 + length names) (unless (not (used names (drop 7 l))) 3 (2 + length names) r))
-            (labels-bounded h few left (names ++ (drop 7 l ∷ [])) (m - suc (length l)) rest (omega (arith, label-narrow l e))))
-        text
+    (λ l rest. unless (eqb (valueAt 0 l) (suc (length names))) 2 (2 + length names) (unless (not (used names (drop 7 l))) 3 (2 + length names) (readLabels h left (names ++ (drop 7 l ∷ [])) rest)))
+    label-narrow (omega arith)
+    (λ l rest e. ap (λ r. unless (eqb (valueAt 0 l) (suc (length names))) 2 (2 + length names) (unless (not (used names (drop 7 l))) 3 (2 + length names) r))
+    (labels-bounded h few left (names ++ (drop 7 l ∷ [])) (m - suc (length l)) rest (omega (arith, label-narrow l e))))
+    text
 
 pub reading-bounded : (m : ℕ) (text : List ℕ) → 20282 ≤ m → readTable (take m text) ≡ readTable text
 unfolding readTable
 reading-bounded m text g =
     line-bounded 1 24 m (λ l. headerLaidOut (headerOf l) l) (λ l rest. unless (headerInRange (headerOf l)) 2 1 (readLabels (headerOf l) (headerOf l .labels) [] rest))
-        header-narrow (omega arith) (λ l rest e. ranged l rest e (headerInRange (headerOf l)) refl) text
+    header-narrow (omega arith) (λ l rest e. ranged l rest e (headerInRange (headerOf l)) refl) text
   where
     ranged : (l rest : List ℕ) → headerLaidOut (headerOf l) l ≡ true → (b : Bool) → headerInRange (headerOf l) ≡ b
         → unless b 2 1 (readLabels (headerOf l) (headerOf l .labels) [] (take (m - suc (length l)) rest)) ≡ unless b 2 1 (readLabels (headerOf l) (headerOf l .labels) [] rest)

@@ -9,7 +9,6 @@ use Rattle.lts.proofs.reading.read_table.Reads as read-table-reads
 use mathlib.Core.Path.{ap, _∙_}
 use Rattle.explainer.specs.Interface.{numberIn, figureIn}
 
-
 read-table-requires : tie.Need-read-table-requires
 read-table-requires c κs = search needs
 
