@@ -4,6 +4,7 @@ pub mod Explains
 pub mod Places
 pub mod Positions
 pub mod Listing
+pub mod Targets
 pub mod Listed
 pub mod Words
 pub mod Bytes

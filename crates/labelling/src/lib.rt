@@ -1,5 +1,5 @@
 // Where the nodes of a formula hold, and the verdict.
-mod conditions;
+pub mod conditions;
 mod links;
 pub mod nodes;
 mod steps;
