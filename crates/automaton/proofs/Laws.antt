@@ -1,3 +1,4 @@
 -- Laws that several proofs cite, by topic.
 pub mod Masks
 pub mod Targets
+pub mod Left

@@ -1,7 +1,7 @@
 pub mod Examples
 pub mod Frames
 pub mod Acceptance
-pub mod Words
+pub mod PathWords
 pub mod Tests
 pub mod Numbers
 pub mod Explains
