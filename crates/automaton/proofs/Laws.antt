@@ -2,3 +2,5 @@
 pub mod Masks
 pub mod Targets
 pub mod Left
+pub mod Reaching
+pub mod Accepting
