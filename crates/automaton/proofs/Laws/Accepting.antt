@@ -79,7 +79,7 @@ module _ (t : Table) (w : InRange t) (F : Formula) (few : size F ≤ 40) (masks 
   word-of [] h reached q z = (q, z, refl)
   word-of (l ∷ v) h reached q z =
       let (r, a, b) = word-of v (letters-tail l v h) (letterRead t masks l reached) q z in
-      let (x, i, j, o, m) = letter-of t w F masks d l (letters-head l v h) (r .state) (r .place) reached a in
+      let (x, i, (j, o, m)) = letter-of t w F masks d l (letters-head l v h) (r .state) (r .place) reached a in
       (at j x, o, (r, m, b))
 
   word-to : (v : List ℕ) → Letters v → (reached : List ℕ) (p q : Position) → Inside t F p → Holds reached p → Leading v p q → Holds (wordRead t masks v reached) q

@@ -1,42 +1,49 @@
+-- `is_accepted` meets its contract: what the word reaches has a final place exactly if the word is accepted.
+use mathlib.Core.Path.{_≡_, refl, sym, ap, _∙_, subst}
+use Rattle.lts.specs.Prepared.{tableIn}
+use Rattle.actl.proofs.Laws.Prepared.{prepared-few}
+use Rattle.labelling.proofs.Laws.Prepared.{formula-long}
+use Rattle.automaton.specs.Reached.{someFinal}
+use Rattle.automaton.proofs.Laws.Accepting.{found-as-accepted}
 use borrow.Author.Needs.{needs}
 use Rattle.automaton.proofs.words.is_accepted.Statement.{statement}
 use Rattle.automaton.proofs.words.is_accepted.Tie as tie
-use Rattle.automaton.proofs.words.is_accepted.Reads as reads
-use Rattle.automaton.proofs.words.is_accepted.Lts as lts
-use Rattle.actl.proofs.walk.shape_of.Reads as shape-of-reads
-use Rattle.automaton.proofs.targets.final_marks.Reads as final-marks-reads
-use Rattle.automaton.proofs.targets.target_masks.Reads as target-masks-reads
-use Rattle.automaton.proofs.words.read_word.Reads as read-word-reads
-use Rattle.automaton.proofs.words.some_final.Reads as some-final-reads
-use Rattle.lts.proofs.prepared.first_exits.Reads as first-exits-reads
 
--- src/words.rt:224:18
 first-exits-requires : tie.Need-first-exits-requires
 first-exits-requires c κs = search needs
 
--- src/words.rt:225:9
 shape-of-requires : tie.Need-shape-of-requires
-shape-of-requires c κs = ?
+shape-of-requires c κs = formula-long _ _ (c .before .before .before .before .pre .1 .0)
 
--- src/words.rt:227:17
 target-masks-requires : tie.Need-target-masks-requires
-target-masks-requires c κs = ?
+target-masks-requires c κs =
+    let start = c .before .before .before .before .before .before .before in
+    (record { labels = _; holds = start .pre .1 .0 }, record { arms = λ n. record { arms-end = λ F e. c .before .before .shape-of .ensures n F e .ends } })
 
--- src/words.rt:228:17
 final-marks-requires : tie.Need-final-marks-requires
-final-marks-requires c κs = ?
+final-marks-requires c κs =
+    let start = c .before .before .before .before .before .before .before .before .before in
+    (record { labels = _; holds = start .pre .1 .0 }, record { arms = λ n. record { arms-end = λ F e. c .before .before .before .before .shape-of .ensures n F e .ends } })
 
--- src/words.rt:229:19
 read-word-requires : tie.Need-read-word-requires
 read-word-requires c κs = search needs
 
--- src/words.rt:230:5
 some-final-requires : tie.Need-some-final-requires
 some-final-requires c κs = search needs
 
--- src/words.rt:218:1
 returns : tie.Need-returns
-returns c = ?
+returns c =
+    let start = c .before .before .before .before .before .before .before .before .before .before .before .before .before .before .before .before in
+    let t = tableIn (start .args .table .now) in
+    let masks = c .before .before .before .before .before .before .before .before .target-masks in
+    let marks = c .before .before .before .before .before .before .final-marks in
+    let reached = c .before .before .before .read-word in
+    record {
+      answer = λ F e.
+          c .some-final .ensures
+          ∙ (ap (someFinal t (marks .result)) (reached .ensures)
+          ∙ found-as-accepted t (start .pre .0 .in-range) F (prepared-few _ _ e) (masks .result) (masks .ensures .targets _ F e) (marks .result) (marks .ensures .finals _ F e) (start .args .word .now) (start .pre .1 .1));
+    }
 
 pub is-accepted-spec : {M : Type 1} → statement M
 is-accepted-spec =
