@@ -9,3 +9,4 @@ pub mod Prepared
 pub mod Replies
 pub mod Access
 pub mod Walk
+pub mod Check

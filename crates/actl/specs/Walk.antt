@@ -82,6 +82,14 @@ abbrev pub classlessNode : Classless → Option ℕ
 classlessNode Nowhere = none
 classlessNode (At k) = some k
 
+-- The last of the classes that is none, where k is the number of the list's first node.
+abbrev pub lastNone : ℕ → List ℕ → Option ℕ → Option ℕ
+lastNone k [] found = found
+lastNone k (class ∷ l) found = lastNone (suc k) l (cond (eqb class 0) (some k) found)
+
+abbrev pub IsHighest : Classless → List ℕ → Type 0
+IsHighest r kinds = (F : Formula) → kindsOf F ≡ kinds → classlessNode r ≡ highestWithoutClass F
+
 -- The ends and classes of a formula's nodes.
 pub record ShapeOf (s : Shape) (F : Formula) : Type 0 where
   pub counted : s .count ≡ size F

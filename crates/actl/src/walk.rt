@@ -1,11 +1,12 @@
 // Walking a formula's nodes for numbering and classes: over their kinds in node order, from a node into its arms.
 use crate::node::node_count;
 ghost use mathlib.Core.Path.{_≡_};
-ghost use mathlib.Core.List.{map};
+ghost use mathlib.Core.Option.{none};
 ghost use Prim.Native.Nat.{ℕ, _+_, _*_, _<_, _≤_};
 ghost use lib.ListN.{length, getD, set, take};
-ghost use Rattle.actl.specs.Formulas.{Formula, classOfOr, highestWithoutClass};
-ghost use Rattle.actl.specs.Walk.{classFrom, classOfArm, kindAt, kindsIn, Walks, kindsOf, classlessNode, IsShape};
+ghost use Rattle.actl.specs.Formulas.{classOfOr};
+ghost use Rattle.actl.specs.Walk.{classFrom, classOfArm, kindAt, kindsIn, Walks, classlessNode, lastNone, IsHighest, IsShape};
+ghost use Rattle.actl.specs.Check.{Decides, SpelledClassed};
 
 // 01: "The class of a node follows from this table": four for each kind, by the arm's class, the last for the node T. Zero is no class.
 const CLASSES: [u8; 40] = [
@@ -139,6 +140,36 @@ fn walk(kinds: &[u8], k: usize, ends: &mut [u8], classes: &mut [u8]) -> Walked
     Walked::Node(end, class)
 }
 
+// The last of the classes that is none.
+fn last_none(classes: &[u8]) -> Classless
+    ensures { λ r. ⌜ classlessNode r ≡ lastNone 0 (now (classes .entry)) none ⌝ }
+{
+    let mut found = classes.len();
+    let mut k = 0;
+    while k < classes.len() {
+        if classes[k] == 0 {
+            found = k;
+        }
+        k += 1;
+    }
+    if found == classes.len() {
+        return Classless::Nowhere;
+    }
+    Classless::At(found)
+}
+
+// 01: "a node without class": "the highest-numbered one". Of a formula, by the kinds of its nodes.
+pub fn highest_classless(kinds: &[u8]) -> Classless
+    requires { ⌜ length (now kinds) ≤ 40 ⌝ }
+    ensures { λ r. ⌜ IsHighest r (now (kinds .entry)) ⌝ }
+{
+    let mut ends = [0u8; 40];
+    let mut classes = [0u8; 40];
+    walk(kinds, 0, &mut ends, &mut classes);
+    let count = kinds.len();
+    last_none(&classes[..count])
+}
+
 // The kinds of a prepared formula's first nodes.
 fn kinds_in(formula: &[u8], count: usize) -> [u8; 40]
     requires { ⌜ (681 ≤ length (now formula)) × (count ≤ 40) ⌝ }
@@ -151,6 +182,23 @@ fn kinds_in(formula: &[u8], count: usize) -> [u8; 40]
         k += 1;
     }
     kinds
+}
+
+// Whether the first nodes of prepared bytes, in order, are those of one formula with a class.
+pub fn spelled(formula: &[u8], count: usize) -> bool
+    requires { ⌜ (681 ≤ length (now formula)) × (count ≤ 40) ⌝ }
+    ensures { λ r. ⌜ Decides r (SpelledClassed (now (formula .entry)) count) ⌝ }
+{
+    let mut ends = [0u8; 40];
+    let mut classes = [0u8; 40];
+    let kinds = kinds_in(formula, count);
+    let Walked::Node(end, arm) = walk(&kinds[..count], 0, &mut ends, &mut classes) else {
+        return false;
+    };
+    if end != count {
+        return false;
+    }
+    arm != 0
 }
 
 // Where the arms of each node of a prepared formula end, and each node's class.

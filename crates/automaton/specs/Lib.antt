@@ -7,6 +7,6 @@ pub mod Listing
 pub mod Targets
 pub mod Listed
 pub mod Words
-pub mod Reached
 pub mod Bytes
 pub mod Replies
+pub mod Reached

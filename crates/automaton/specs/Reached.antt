@@ -7,15 +7,20 @@ use Prim.Native.Nat.{ℕ, zero, suc, _≤_, _<_}
 use lib.Bits.{bitOr}
 use lib.Dec.{eqb}
 use lib.ListN.{length, getD, set, replicate}
+use Rattle.lts.specs.Reply.{Reply, accepted}
 use Rattle.lts.specs.Lists.{upFrom, some as any}
 use Rattle.lts.specs.Steps.{Step, Table, labels, stepsFrom}
 use Rattle.lts.specs.Prepared.{tableIn}
 use Rattle.actl.specs.Formulas.{Formula}
 use Rattle.actl.specs.Prepared.{preparedFormula}
+use Rattle.actl.specs.Reading.{unlessFound}
 use Rattle.labelling.specs.Flags.{flagAt}
 use Rattle.automaton.specs.Listing.{onLabel}
 use Rattle.automaton.specs.Targets.{placeIn, maskAt}
 use Rattle.automaton.specs.Words.{accepts}
+use Rattle.automaton.specs.Bytes.{bitOf}
+use Rattle.automaton.specs.Replies.{wordReply, badLetter}
+use Rattle.automaton.specs.declared.WordReply.{WordReply}
 
 -- The places of a state.
 abbrev pub placesAt : List ℕ → ℕ → ℕ
@@ -76,3 +81,10 @@ pub record Letters (w : List ℕ) : Type 0 where
 -- The answer for the table and the formula in bytes.
 pub record Answers (table formula w : List ℕ) (r : Bool) : Type 0 where
   pub answer : (F : Formula) → preparedFormula (labels (tableIn table)) formula ≡ some F → r ≡ accepts (tableIn table) F w
+
+-- 01: "Word checks give 13"; else the answer.
+abbrev pub wordAnswer : Table → Formula → List ℕ → Reply ℕ
+wordAnswer t F w = unlessFound (badLetter (labels t) w) 13 (accepted (bitOf (accepts t F w)))
+
+pub record Answered (table formula w : List ℕ) (r : WordReply) : Type 0 where
+  pub reply : (F : Formula) → preparedFormula (labels (tableIn table)) formula ≡ some F → wordReply r ≡ wordAnswer (tableIn table) F w

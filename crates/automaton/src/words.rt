@@ -1,22 +1,28 @@
 // Whether the automaton accepts a word: the positions that its letters reach, as a mask of places for each state. No rows are built.
+use crate::WordReply;
 use crate::targets::final_marks;
 use crate::targets::target_masks;
 use actl::walk::shape_of;
+use labelling::formula_prepared;
+use lts::check::is_prepared;
 use lts::names::Found;
 use lts::prepared::first_exits;
+use lts::prepared::label_count;
 use lts::prepared::start_state;
 use lts::prepared::state_count;
 use lts::prepared::transition_at;
 ghost use mathlib.Core.Path.{_≡_};
 ghost use Prim.Native.Nat.{_<_, _≤_};
 ghost use lib.ListN.{length, replicate};
+ghost use Rattle.lts.specs.Reply.{accepted};
 ghost use Rattle.lts.specs.Steps.{labels, stepsFrom};
 ghost use Rattle.lts.specs.Prepared.{tableLength, tableIn, transitionAt};
 ghost use Rattle.lts.specs.Access.{HoldsTable, ExitsFound, foundIn};
 ghost use Rattle.labelling.specs.Nodes.{HoldsFormula};
-ghost use Rattle.automaton.specs.Replies.{badLetter};
+ghost use Rattle.automaton.specs.Bytes.{bitOf};
+ghost use Rattle.automaton.specs.Replies.{badLetter, wordReply, wordReplied};
 ghost use Rattle.automaton.specs.Targets.{placeIn};
-ghost use Rattle.automaton.specs.Reached.{targetsAdded, targetsOf, stepTaken, stepsTaken, stateRead, letterRead, wordRead, rootReached, marked, someMarked, someFinal, Letters, Answers};
+ghost use Rattle.automaton.specs.Reached.{targetsAdded, targetsOf, stepTaken, stepsTaken, stateRead, letterRead, wordRead, rootReached, marked, someMarked, someFinal, Letters, Answers, Answered};
 
 fn wide(letter: u8) -> usize
     ensures { λ r. ⌜ r ≡ letter ⌝ }
@@ -228,4 +234,46 @@ fn is_accepted(table: &[u8], formula: &[u8], word: &[u8]) -> bool
     let marks = final_marks(formula, &ends);
     let reached = read_word(table, &begins, &masks, word);
     some_final(table, &marks, &reached)
+}
+
+fn answer_of(found: bool) -> WordReply
+    ensures { λ r. ⌜ wordReply r ≡ accepted (bitOf found) ⌝ }
+{
+    if found {
+        WordReply::Accepted
+    } else {
+        WordReply::NotAccepted
+    }
+}
+
+// Every letter is checked before the word is read.
+fn answer(table: &[u8], formula: &[u8], word: &[u8]) -> WordReply
+    requires { ⌜ HoldsTable (now table) ⌝ }
+    requires { ⌜ HoldsFormula (labels (tableIn (now table))) (now formula) ⌝ }
+    ensures { λ r. ⌜ Answered (now (table .entry)) (now (formula .entry)) (now (word .entry)) r ⌝ }
+{
+    let bad = bad_letter(label_count(table), word);
+    match bad {
+        Found::At(i) => WordReply::WordBad(i),
+        Found::Nothing => answer_of(is_accepted(table, formula, word)),
+    }
+}
+
+// 01: "A word (at most 1,024 label numbers), given with a prepared table and formula, is answered 1 if their automaton accepts it, else 0."
+pub fn accepts(table: &[u8], formula: &[u8], word: &[u8]) -> WordReply
+    ensures { λ r. ⌜ wordReply r ≡ wordReplied (now (table .entry)) (now (formula .entry)) (now (word .entry)) ⌝ }
+{
+    if table.len() < 3718 {
+        return WordReply::BufferShort(3718);
+    }
+    if formula.len() < 681 {
+        return WordReply::BufferShort(681);
+    }
+    if !is_prepared(table) {
+        return WordReply::TableForeign;
+    }
+    if !formula_prepared(table, formula) {
+        return WordReply::FormulaForeign;
+    }
+    answer(table, formula, word)
 }

@@ -4,3 +4,4 @@ pub mod Columns
 pub mod Figures
 pub mod Copying
 pub mod Pasting
+pub mod Decimal

@@ -8,3 +8,4 @@ pub mod Rows
 pub mod Agree
 pub mod Nodes
 pub mod Prepared
+pub mod Entries
