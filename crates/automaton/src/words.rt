@@ -162,12 +162,7 @@ fn read_letter(
     next
 }
 
-fn read_word(
-    table: &[u8],
-    begins: &[u16; 257],
-    masks: &[u64; 1681],
-    word: &[u8],
-) -> [u64; 256]
+fn read_word(table: &[u8], begins: &[u16; 257], masks: &[u64; 1681], word: &[u8]) -> [u64; 256]
     requires { ⌜ HoldsTable (now table) ⌝ }
     requires { ⌜ ExitsFound (now table) (now begins) ⌝ }
     requires { ⌜ Letters (now word) ⌝ }

@@ -127,7 +127,7 @@ module _ (l places : ℕ) where
             let here : Has (bitOr (placesAt next (st .to)) places) q =
             subst (λ m. Has m q) (ap (λ x. placesAt (set next (st .to) (bitOr (placesAt next (st .to)) places)) x) c ∙ getD-set-same next (st .to) (bitOr (placesAt next (st .to)) places) 0 h) z in
             elim (has-or (placesAt next (st .to)) places q here) [
-              inl x ↦ inl (subst (λ y. ReachedAt next y q) (sym c) x)
+              | inl x ↦ inl (subst (λ y. ReachedAt next y q) (sym c) x)
               | inr x ↦ inr (record { labelled = eqb-true (st .label) l e; enters = sym c; brought = x })
             ]
 
@@ -158,7 +158,7 @@ module _ (l places : ℕ) where
     unfolding stepsTaken
     steps-of [] next h z = inl z
     steps-of (st ∷ steps) next h z = elim (steps-of steps (stepTaken l places st next) (enter-more st steps next h) z) [
-      inl x ↦ elim (step-of st next (h st (List·Memᴰ·head refl)) x) [ inl y ↦ inl y | inr y ↦ inr (st, List·Memᴰ·head refl, y) ]
+      | inl x ↦ elim (step-of st next (h st (List·Memᴰ·head refl)) x) [ inl y ↦ inl y | inr y ↦ inr (st, List·Memᴰ·head refl, y) ]
       | inr x ↦ inr (x .0, List·Memᴰ·tail (x .1), x .2)
     ]
 
@@ -204,7 +204,7 @@ module _ (t : Table) (w : InRange t) (F : Formula) (masks : List ℕ) (d : Targe
         let step : IsStep t (record { from = s; label = l; to = v }) =
         subst (λ (x : ℕ). IsStep t (record { from = s; label = l; to = x })) (r .enters) (subst (λ (y : ℕ). IsStep t (record { from = s; label = y; to = st .to })) (r .labelled) (leaving t a b)) in
         elim (targets-of F masks d places l few q 41 0 0 (omega arith) (r .brought)) [
-          inl x ↦ absurd (false≢true (sym (place-none q) ∙ x))
+          | inl x ↦ absurd (false≢true (sym (place-none q) ∙ x))
           | inr x ↦ (x .0, x .1, (step, leads-of F (x .0) l q (x .2)))
         ]
 
@@ -246,7 +246,7 @@ module _ (t : Table) (w : InRange t) (F : Formula) (masks : List ℕ) (d : Targe
       states-of zero s next h e z = inl z
       states-of (suc n) s next h e z =
           elim (states-of n (suc s) (stateRead t masks (placesAt reached s) l s next) (omega arith) (length-state (placesAt reached s) s next ∙ e) z) [
-            inl x ↦ elim (state-of (placesAt reached s) s next (omega arith) e x) [ inl y ↦ inl y | inr y ↦ inr (s, omega arith, y) ]
+            | inl x ↦ elim (state-of (placesAt reached s) s next (omega arith) e x) [ inl y ↦ inl y | inr y ↦ inr (s, omega arith, y) ]
             | inr x ↦ inr x
           ]
 
@@ -273,7 +273,7 @@ module _ (t : Table) (w : InRange t) (F : Formula) (masks : List ℕ) (d : Targe
 
       pub letter-of : ReachedAt (letterRead t masks l reached) v q → (x : ℕ) × (x < t .states) × ((j : ℕ) × ReachedAt reached x j × Joins t F (at j x) l (at q v))
       letter-of z = elim (states-of (t .states) 0 nowhere (omega arith) (length-replicate {A = ℕ} 256 0) z) [
-        inl x ↦ absurd (not-nowhere v q x)
+        | inl x ↦ absurd (not-nowhere v q x)
         | inr x ↦ x
       ]
 

@@ -52,9 +52,11 @@ loop-again c =
     let start = c .before .before .before .before .before .before .before in
     let loop = c .before .before .before .before .loop in
     let t = tableIn (start .args .table .now) in
-    let inside : loop .s < t .states = omega (arith, c .before .before .before .before .before .state-count .ensures .count, c .before .before .before .loop-test .taken) in
-    (omega (arith, c .before .before .before .loop-test .taken), loop .inv .1 ∙ (states-next t (start .args .masks .now) (start .args .reached .now) (start .args .label) (loop .s) (loop .next) inside
-    ∙ ap (statesLeft t (start .args .masks .now) (start .args .reached .now) (start .args .label) (loop .s + 1)) (sym (c .read-state .ensures))))
+    let inside : loop .s < t .states = omega (arith, c .before .before .before .before .before .state-count .ensures .count, c .before .before .before .loop-test .taken) in (
+      omega (arith, c .before .before .before .loop-test .taken),
+      loop .inv .1 ∙ (states-next t (start .args .masks .now) (start .args .reached .now) (start .args .label) (loop .s) (loop .next) inside
+          ∙ ap (statesLeft t (start .args .masks .now) (start .args .reached .now) (start .args .label) (loop .s + 1)) (sym (c .read-state .ensures))),
+    )
 
 returns : tie.Need-returns Inv-loop μ-loop
 returns c =

@@ -53,9 +53,11 @@ loop-again c =
     let start = c .before .before .before .before .before .before .before .before .before in
     let loop = c .before .before .before .before .before .loop in
     let taken = c .before .before .before .before .loop-test .taken in
-    let t = tableIn (start .args .table .now) in
-    (omega (arith, taken), loop .inv .1 ∙ (word-next t (start .args .masks .now) (start .args .word .now) (loop .i) (loop .reached) taken
-    ∙ ap (wordRead t (start .args .masks .now) (drop (loop .i + 1) (start .args .word .now))) (ap (λ l. letterRead t (start .args .masks .now) l (loop .reached)) (sym (c .before .wide .ensures)) ∙ sym (c .read-letter .ensures))))
+    let t = tableIn (start .args .table .now) in (
+      omega (arith, taken),
+      loop .inv .1 ∙ (word-next t (start .args .masks .now) (start .args .word .now) (loop .i) (loop .reached) taken
+          ∙ ap (wordRead t (start .args .masks .now) (drop (loop .i + 1) (start .args .word .now))) (ap (λ l. letterRead t (start .args .masks .now) l (loop .reached)) (sym (c .before .wide .ensures)) ∙ sym (c .read-letter .ensures))),
+    )
 
 returns : tie.Need-returns Inv-loop μ-loop
 returns c =

@@ -95,9 +95,12 @@ loop-again c =
     let taken = c .before .before .loop-test .taken in
     let t = tableIn (start .args .table .now) in
     let inside : loop .k < length (t .transitions) = omega (arith, taken, loop .inv .1) in
-    let read = ap (λ st. stepTaken (start .args .label) (start .args .places) st (loop .next)) (transition-in (start .args .table .now) (loop .k) (idleAt 0) inside) in
-    (omega (arith, taken), loop .inv .1, loop .inv .2 ∙ (steps-next _ _ (t .transitions) (idleAt 0) _ (loop .inv .1) (loop .k) (loop .next) taken
-    ∙ ap (stepsTaken (start .args .label) (start .args .places) (slice (loop .k + 1) (getD (start .args .begins .now) (start .args .s + 1) 0) (t .transitions))) (read ∙ sym (c .take-step .ensures))))
+    let read = ap (λ st. stepTaken (start .args .label) (start .args .places) st (loop .next)) (transition-in (start .args .table .now) (loop .k) (idleAt 0) inside) in (
+      omega (arith, taken),
+      loop .inv .1,
+      loop .inv .2 ∙ (steps-next _ _ (t .transitions) (idleAt 0) _ (loop .inv .1) (loop .k) (loop .next) taken
+          ∙ ap (stepsTaken (start .args .label) (start .args .places) (slice (loop .k + 1) (getD (start .args .begins .now) (start .args .s + 1) 0) (t .transitions))) (read ∙ sym (c .take-step .ensures))),
+    )
 
 returns-3 : tie.Need-returns-3 Inv-loop μ-loop
 returns-3 c =

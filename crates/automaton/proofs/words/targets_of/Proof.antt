@@ -28,9 +28,11 @@ loop-less c = omega (arith, c .before .loop-test .taken)
 loop-again : tie.Need-loop-again Inv-loop μ-loop
 loop-again c =
     let start = c .before .before .before in
-    let loop = c .before .before .loop in
-    (omega (arith, c .before .loop-test .taken), loop .inv .1 ∙ (targets-next _ _ _ (loop .k) _ (c .before .loop-test .taken)
-    ∙ ap (targetsOf (start .args .masks .now) (start .args .places) (start .args .label) (41 - (loop .k + 1)) (loop .k + 1)) (sym (c .add-targets .ensures))))
+    let loop = c .before .before .loop in (
+      omega (arith, c .before .loop-test .taken),
+      loop .inv .1 ∙ (targets-next _ _ _ (loop .k) _ (c .before .loop-test .taken)
+          ∙ ap (targetsOf (start .args .masks .now) (start .args .places) (start .args .label) (41 - (loop .k + 1)) (loop .k + 1)) (sym (c .add-targets .ensures))),
+    )
 
 returns : tie.Need-returns Inv-loop μ-loop
 returns c = sym (c .before .loop .inv .1 ∙ targets-over _ _ _ (c .before .loop .k) _ (c .loop-test .left))
