@@ -9,7 +9,7 @@ use Rattle.actl.specs.Formulas.{Formula, classOf}
 use Rattle.automaton.specs.Witnesses.{Witness, Counterexample}
 use Rattle.automaton.specs.Explains.{IsExplanation, Explains}
 use Rattle.automaton.specs.Positions.{rootAt, Walk}
-use Rattle.automaton.proofs.Words.{words-of-witnesses, words-of-counterexamples}
+use Rattle.automaton.proofs.PathWords.{words-of-witnesses, words-of-counterexamples}
 
 one-class : {A : Type 0} (c : ℕ) → c ≡ 1 → c ≡ 2 → A
 one-class c e d = absurd (omega arith)

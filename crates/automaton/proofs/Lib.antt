@@ -1,7 +1,7 @@
 pub mod Examples
 pub mod Frames
 pub mod Acceptance
-pub mod Words
+pub mod PathWords
 pub mod Tests
 pub mod Numbers
 pub mod Explains
@@ -18,3 +18,4 @@ pub mod Unique
 pub mod Counts
 pub mod Bytes
 pub mod Accepted
+pub mod Laws

@@ -4,7 +4,9 @@ pub mod Explains
 pub mod Places
 pub mod Positions
 pub mod Listing
+pub mod Targets
 pub mod Listed
 pub mod Words
 pub mod Bytes
 pub mod Replies
+pub mod Reached

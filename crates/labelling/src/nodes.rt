@@ -76,7 +76,7 @@ fn wide(byte: u8) -> usize
 }
 
 // The right arm of node k, if it has one: it stands behind the whole left arm.
-fn right_arm(ends: &[u8; 40], k: usize) -> usize
+pub fn right_arm(ends: &[u8; 40], k: usize) -> usize
     requires { ⌜ k < 40 ⌝ }
     ensures { λ r. ⌜ (k + 1 < 40 → r ≡ getD (now (ends .entry)) (k + 1) 0) ⌝ }
 {

@@ -26,7 +26,7 @@ use Rattle.labelling.specs.Nodes.{RowRead, RowPut, LabelledFrom}
 use Rattle.labelling.proofs.Laws.Agree.{Agree, some-agree, every-agree, within-agree}
 
 -- The node in a slot, by its kind (docs/FORMATS.md).
-nodeIn : Slot → Node
+unfoldable pub nodeIn : Slot → Node
 nodeIn s =
     cond (eqb (s .kind) 1) True (
     cond (eqb (s .kind) 2) Not (
@@ -37,7 +37,7 @@ nodeIn s =
     cond (eqb (s .kind) 7) (Ax (Labels (s .first))) (
     cond (eqb (s .kind) 8) (Until (s .first)) (UntilThen (s .first) (s .second)))))))))
 
-node-in-slot : (n : Node) → nodeIn (slotOfNode n) ≡ n
+pub node-in-slot : (n : Node) → nodeIn (slotOfNode n) ≡ n
 unfolding nodeIn
 node-in-slot True = refl
 node-in-slot Not = refl
