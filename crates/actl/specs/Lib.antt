@@ -11,4 +11,5 @@ pub mod Cursor
 pub mod Readers
 pub mod Access
 pub mod Walk
+pub mod Check
 pub mod Writing

@@ -7,6 +7,7 @@ use crate::writing::answer;
 
 pub mod cursor;
 pub mod node;
+pub mod prepared;
 pub mod reading;
 pub mod walk;
 pub mod writing;

@@ -6,49 +6,20 @@ ghost use Prim.Native.Nat.{ℕ, _+_, _*_, _<_, _≤_};
 ghost use lib.ListN.{length, getD, set, take};
 ghost use Rattle.actl.specs.Formulas.{classOfOr};
 ghost use Rattle.actl.specs.Walk.{classFrom, classOfArm, kindAt, kindsIn, Walks, classlessNode, lastNone, IsHighest, IsShape};
+ghost use Rattle.actl.specs.Check.{Decides, SpelledClassed};
 
 // 01: "The class of a node follows from this table": four for each kind, by the arm's class, the last for the node T. Zero is no class.
-const CLASSES: [u8; 40] = [
-    0,
-    0,
-    0,
-    0, // no kind
-    1,
-    1,
-    1,
-    1, // T
-    0,
-    2,
-    1,
-    2, // ~
-    0,
-    1,
-    0,
-    1, // |, by each arm
-    0,
-    1,
-    0,
-    1, // EX[.]
-    0,
-    1,
-    0,
-    1, // EX[A]
-    0,
-    0,
-    2,
-    2, // AX[.]
-    0,
-    0,
-    2,
-    2, // AX[A]
-    0,
-    1,
-    0,
-    1, // EU[A]
-    0,
-    1,
-    0,
-    1, // EU[A;B]
+const CLASSES: [[u8; 4]; 10] = [
+    [0, 0, 0, 0], // no kind
+    [1, 1, 1, 1], // T
+    [0, 2, 1, 2], // ~
+    [0, 1, 0, 1], // |, by each arm
+    [0, 1, 0, 1], // EX[.]
+    [0, 1, 0, 1], // EX[A]
+    [0, 0, 2, 2], // AX[.]
+    [0, 0, 2, 2], // AX[A]
+    [0, 1, 0, 1], // EU[A]
+    [0, 1, 0, 1], // EU[A;B]
 ];
 
 // What stands at a node: nothing that is a formula, or one that ends before a node and is such an arm.
@@ -73,7 +44,7 @@ fn class_from(kind: u8, arm: u8) -> u8
     requires { ⌜ arm < 4 ⌝ }
     ensures { λ r. ⌜ r ≡ classFrom kind arm ⌝ }
 {
-    CLASSES[kind as usize * 4 + arm as usize]
+    CLASSES[kind as usize][arm as usize]
 }
 
 fn class_of_or(left: u8, right: u8) -> u8
@@ -181,6 +152,23 @@ fn kinds_in(formula: &[u8], count: usize) -> [u8; 40]
         k += 1;
     }
     kinds
+}
+
+// Whether the first nodes of prepared bytes, in order, are those of one formula with a class.
+pub fn spelled(formula: &[u8], count: usize) -> bool
+    requires { ⌜ (681 ≤ length (now formula)) × (count ≤ 40) ⌝ }
+    ensures { λ r. ⌜ Decides r (SpelledClassed (now (formula .entry)) count) ⌝ }
+{
+    let mut ends = [0u8; 40];
+    let mut classes = [0u8; 40];
+    let kinds = kinds_in(formula, count);
+    let Walked::Node(end, arm) = walk(&kinds[..count], 0, &mut ends, &mut classes) else {
+        return false;
+    };
+    if end != count {
+        return false;
+    }
+    arm != 0
 }
 
 // Where the arms of each node of a prepared formula end, and each node's class.

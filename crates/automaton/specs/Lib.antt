@@ -1,5 +1,6 @@
 pub mod Paths
 pub mod Witnesses
+pub mod Explains
 pub mod Places
 pub mod Positions
 pub mod Listing

@@ -29,3 +29,8 @@ valueFrom n (b ∷ l) = valueFrom (n * 10 + (b - 48)) l
 -- The number that the six columns from place i of a line would hold.
 abbrev pub valueAt : ℕ → List ℕ → ℕ
 valueAt i l = valueFrom 0 (take 6 (drop i l))
+
+-- A line of numbers, with its LF.
+abbrev pub numbersLine : List ℕ → List ℕ
+numbersLine [] = 10 ∷ []
+numbersLine (n ∷ l) = column n ++ numbersLine l

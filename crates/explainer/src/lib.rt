@@ -1,4 +1,7 @@
 // What integrators call: the entries together.
+pub mod exports;
+mod interface;
+pub mod print;
 
 // What `explain` answers: verdict, class, rows and edges, or the number and the figure of a refusal.
 pub enum ExplainReply {

@@ -1,4 +1,23 @@
 // Where the nodes of a formula hold, and the verdict.
+use actl::walk::shape_of;
+use lts::check::is_prepared;
+use lts::prepared::first_exits;
+use lts::prepared::label_count;
+use lts::prepared::start_state;
+
+mod conditions;
+mod links;
+pub mod nodes;
+mod steps;
+mod until;
+
+ghost use mathlib.Core.Path.{_≡_};
+ghost use Rattle.lts.specs.Steps.{labels};
+ghost use Rattle.lts.specs.Prepared.{tableIn};
+ghost use Rattle.lts.specs.Access.{HoldsTable, isSome};
+ghost use Rattle.actl.specs.Prepared.{preparedFormula};
+ghost use Rattle.labelling.specs.Nodes.{HoldsFormula, AtStart};
+ghost use Rattle.labelling.specs.Replies.{verdictReply, verdictReplied};
 
 // What `verdict` answers. specs/Replies.antt lists the number and the figure of each case.
 pub enum VerdictReply {
@@ -7,4 +26,48 @@ pub enum VerdictReply {
     TableForeign,
     FormulaForeign,
     BufferShort(usize),
+}
+
+// Whether a prepared formula holds at the start of a prepared table.
+fn holds_at_start(table: &[u8], formula: &[u8]) -> bool
+    requires { ⌜ HoldsTable (now table) ⌝ }
+    requires { ⌜ HoldsFormula (labels (tableIn (now table))) (now formula) ⌝ }
+    ensures { λ r. ⌜ AtStart (now (table .entry)) (now (formula .entry)) r ⌝ }
+{
+    let begins = first_exits(table);
+    let shape = shape_of(formula);
+    let ends = shape.ends;
+    let flags = nodes::label_nodes(table, &begins, formula, &ends);
+    let start = start_state(table);
+    flags[start]
+}
+
+// Whether a formula's bytes are prepared, over the labels of a prepared table.
+fn formula_prepared(table: &[u8], formula: &[u8]) -> bool
+    requires { ⌜ HoldsTable (now table) ⌝ }
+    ensures { λ r. ⌜ r ≡ isSome (preparedFormula (labels (tableIn (now (table .entry)))) (now (formula .entry))) ⌝ }
+{
+    actl::prepared::is_prepared(label_count(table), formula)
+}
+
+pub fn verdict(table: &[u8], formula: &[u8]) -> VerdictReply
+    ensures { λ r. ⌜ verdictReply r ≡ verdictReplied (now (table .entry)) (now (formula .entry)) ⌝ }
+{
+    if table.len() < 3718 {
+        return VerdictReply::BufferShort(3718);
+    }
+    if formula.len() < 681 {
+        return VerdictReply::BufferShort(681);
+    }
+    if !is_prepared(table) {
+        return VerdictReply::TableForeign;
+    }
+    if !formula_prepared(table, formula) {
+        return VerdictReply::FormulaForeign;
+    }
+    if holds_at_start(table, formula) {
+        VerdictReply::Holds
+    } else {
+        VerdictReply::Fails
+    }
 }

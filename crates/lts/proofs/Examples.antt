@@ -1,15 +1,19 @@
--- Worked examples: the definitions of reading a table, run.
+-- Worked examples: the definitions of tables, run. 01's table M is read and written back, and damaged in every way that is refused.
 use mathlib.Core.Path.{_≡_, refl}
 use mathlib.Core.List.{List, [], _∷_, _++_}
+use mathlib.Core.Option.{some}
 use Prim.Native.Nat.{ℕ}
+use Prim.Native.String.{String}
+use lib.ListN.{length, take}
 use Rattle.columns.specs.Ascii.{ascii}
 use Rattle.columns.specs.Columns.{column, digitsWithin}
-use Rattle.lts.specs.Steps.{Step, Table}
-use Rattle.lts.specs.Text.{tableText, ended}
 use Rattle.lts.specs.Reply.{accepted, refusal}
+use Rattle.lts.specs.Steps.{Step, Table, silent, stepsFrom, idleAt}
+use Rattle.lts.specs.Text.{tableText, ended}
 use Rattle.lts.specs.Reading.{readTable, readLabels, readTransitions}
+use Rattle.lts.specs.Prepared.{tableBytes, tableLength, tableIn, preparedTable}
 
-abbrev step : ℕ → ℕ → ℕ → Step
+abbrev pub step : ℕ → ℕ → ℕ → Step
 step s a t = record { from = s; label = a; to = t }
 
 -- 01's table M.
@@ -21,14 +25,73 @@ M = record {
   start = 0;
 }
 
-abbrev text : List ℕ
-text = ended (ascii "     3     2     3     0") ++ (ended (ascii "     1 req") ++ (ended (ascii "     2 ack")
-    ++ (ended (ascii "     0     1     1") ++ (ended (ascii "     1     0     2") ++ ended (ascii "     1     2     0")))))
+abbrev pub lines : List String → List ℕ
+lines [] = []
+lines (l ∷ rest) = ended (ascii l) ++ lines rest
 
-M-text : tableText M ≡ text
+abbrev pub M-lines : List ℕ
+M-lines = lines ("     3     2     3     0" ∷ "     1 req" ∷ "     2 ack" ∷ "     0     1     1" ∷ "     1     0     2" ∷ "     1     2     0" ∷ [])
+
+text-of-M : tableText M ≡ M-lines
 unfolding tableText column digitsWithin
-M-text = refl
+text-of-M = refl
 
-M-read : readTable text ≡ accepted M
+M-is-read : readTable M-lines ≡ accepted M
 unfolding readTable readLabels readTransitions column digitsWithin
-M-read = refl
+M-is-read = refl
+
+-- State 2 of M has no exit: its idle step.
+idle-of-M : stepsFrom M 2 ≡ idleAt 2 ∷ []
+unfolding stepsFrom
+idle-of-M = refl
+
+prepared-M : preparedTable (tableBytes M) ≡ some M
+unfolding preparedTable tableBytes tableIn readTable readLabels readTransitions tableText column digitsWithin
+prepared-M = refl
+
+prepared-length : length (tableBytes M) ≡ tableLength
+unfolding tableBytes
+prepared-length = refl
+
+-- A line missing; not as laid out (a leading zero, a name of thirteen bytes, no LF at the end); bytes after the last.
+missing-line : readTable (lines ("     1     1     0     0" ∷ [])) ≡ refusal 1 2
+unfolding readTable readLabels readTransitions column digitsWithin
+missing-line = refl
+
+leading-zero : readTable (lines ("     3     2     3    00" ∷ [])) ≡ refusal 1 1
+unfolding readTable readLabels readTransitions column digitsWithin
+leading-zero = refl
+
+long-name : readTable (lines ("     1     1     0     0" ∷ "     1 abcdefghijklm" ∷ [])) ≡ refusal 1 2
+unfolding readTable readLabels readTransitions column digitsWithin
+long-name = refl
+
+no-end : readTable (lines ("     3     2     3     0" ∷ "     1 req" ∷ "     2 ack" ∷ "     0     1     1" ∷ "     1     0     2" ∷ []) ++ ascii "     1     2     0") ≡ refusal 1 6
+unfolding readTable readLabels readTransitions column digitsWithin
+no-end = refl
+
+bytes-after : readTable (M-lines ++ ascii " ") ≡ refusal 1 7
+unfolding readTable readLabels readTransitions column digitsWithin
+bytes-after = refl
+
+-- A number outside its range, or its turn.
+no-state : readTable (lines ("     0     0     0     0" ∷ [])) ≡ refusal 2 1
+unfolding readTable readLabels readTransitions column digitsWithin
+no-state = refl
+
+out-of-turn : readTable (lines ("     3     2     3     0" ∷ "     2 req" ∷ [])) ≡ refusal 2 2
+unfolding readTable readLabels readTransitions column digitsWithin
+out-of-turn = refl
+
+no-such-state : readTable (lines ("     3     2     3     0" ∷ "     1 req" ∷ "     2 ack" ∷ "     0     1     3" ∷ [])) ≡ refusal 2 4
+unfolding readTable readLabels readTransitions column digitsWithin
+no-such-state = refl
+
+-- A name used before; a transition not above the one before.
+name-used : readTable (lines ("     3     2     3     0" ∷ "     1 req" ∷ "     2 req" ∷ [])) ≡ refusal 3 3
+unfolding readTable readLabels readTransitions column digitsWithin
+name-used = refl
+
+not-above : readTable (lines ("     3     2     3     0" ∷ "     1 req" ∷ "     2 ack" ∷ "     0     1     1" ∷ "     0     1     1" ∷ [])) ≡ refusal 4 5
+unfolding readTable readLabels readTransitions column digitsWithin
+not-above = refl

@@ -16,3 +16,15 @@ pub mod Spelling
 pub mod Filled
 pub mod WellFormed
 pub mod Held
+-- Laws that several proofs cite.
+pub mod Compare
+pub mod NameRuns
+pub mod LinesRead
+pub mod Layout
+pub mod LabelLayout
+pub mod SlotsWritten
+pub mod SlotBytes
+pub mod Turns
+pub mod Readings
+pub mod Tables
+pub mod Bounded

@@ -1,3 +1,4 @@
 pub mod Lists
+pub mod Steps
 pub mod Laws
 pub mod Examples

@@ -6,7 +6,7 @@ use mathlib.Core.Option.{Option, none, some}
 use Prim.Native.Nat.{ℕ, suc, _≤_, _<_}
 use lib.Dec.{ltb}
 use lib.ListN.{length, getD}
-use Rattle.lts.specs.Steps.{Step, Table}
+use Rattle.lts.specs.Steps.{Step}
 use Rattle.lts.specs.Range.{InRange}
 use Rattle.lts.specs.Prepared.{tableLength, tableIn, transitionAt}
 use Rattle.lts.specs.declared.prepared.Transition.{Transition}

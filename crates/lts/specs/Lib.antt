@@ -9,3 +9,6 @@ pub mod Prepared
 pub mod Replies
 pub mod Access
 pub mod Check
+pub mod Lines
+pub mod Slots
+pub mod Turns

@@ -2,7 +2,7 @@
 use mathlib.Core.Path.{_≡_, refl, sym, ap, _∙_}
 use mathlib.Core.Bool.{Bool, true, false, cond, false≢true}
 use mathlib.Core.List.{List, [], _∷_}
-use Prim.Native.Nat.{ℕ, zero, suc, _+_, _*_, _/_, _%_, _<_}
+use Prim.Native.Nat.{ℕ, zero, suc, _<_}
 use native.Mathlib.Omega.{arith}
 use lib.Dec.{eqb}
 use lib.ListN.{getD}
@@ -14,27 +14,36 @@ use Rattle.actl.specs.Formulas.{Formula, tru, not, or, ex, ax, eu, euThe
 use Rattle.actl.specs.Prepared.{nextSlot}
 use Rattle.actl.specs.Walk.{armOf, classOfArm, classFrom}
 
--- Four entries for each kind, by the arm.
-abbrev pub classes : List ℕ
+-- A row for each kind, by the arm.
+abbrev pub classes : List (List ℕ)
 classes =
-    0 ∷ 0 ∷ 0 ∷ 0 ∷ 1 ∷ 1 ∷ 1 ∷ 1 ∷ 0 ∷ 2 ∷ 1 ∷ 2 ∷ 0 ∷ 1 ∷ 0 ∷ 1 ∷ 0 ∷ 1 ∷ 0 ∷ 1
-    ∷ 0 ∷ 1 ∷ 0 ∷ 1 ∷ 0 ∷ 0 ∷ 2 ∷ 2 ∷ 0 ∷ 0 ∷ 2 ∷ 2 ∷ 0 ∷ 1 ∷ 0 ∷ 1 ∷ 0 ∷ 1 ∷ 0 ∷ 1 ∷ []
+    (0 ∷ 0 ∷ 0 ∷ 0 ∷ [])
+    ∷ (1 ∷ 1 ∷ 1 ∷ 1 ∷ [])
+    ∷ (0 ∷ 2 ∷ 1 ∷ 2 ∷ [])
+    ∷ (0 ∷ 1 ∷ 0 ∷ 1 ∷ [])
+    ∷ (0 ∷ 1 ∷ 0 ∷ 1 ∷ [])
+    ∷ (0 ∷ 1 ∷ 0 ∷ 1 ∷ [])
+    ∷ (0 ∷ 0 ∷ 2 ∷ 2 ∷ [])
+    ∷ (0 ∷ 0 ∷ 2 ∷ 2 ∷ [])
+    ∷ (0 ∷ 1 ∷ 0 ∷ 1 ∷ [])
+    ∷ (0 ∷ 1 ∷ 0 ∷ 1 ∷ [])
+    ∷ []
 
-right : ℕ → Bool
-right i = eqb (getD classes i 0) (classFrom (i / 4) (i % 4))
+entry : ℕ → ℕ → Bool
+entry kind arm = eqb (getD (getD classes kind []) arm 0) (classFrom kind arm)
 
-table : every right (upFrom 0 40) ≡ true
-unfolding right classFrom
+row : ℕ → Bool
+row kind = every (entry kind) (upFrom 0 4)
+
+table : every row (upFrom 0 10) ≡ true
+unfolding row entry classFrom
 table = refl
 
-pub table-right : (kind arm : ℕ) → kind < 10 → arm < 4 → getD classes (kind * 4 + arm) 0 ≡ classFrom kind arm
-unfolding right
+pub table-right : (kind arm : ℕ) → kind < 10 → arm < 4 → getD (getD classes kind []) arm 0 ≡ classFrom kind arm
+unfolding row entry
 table-right kind arm h l =
-    let i = kind * 4 + arm in
-    let e = eqb-true (getD classes i 0) (classFrom (i / 4) (i % 4)) (every-of right (upFrom 0 40) table i (upFrom-to 0 40 i (omega arith) (omega arith))) in
-    let k : i / 4 ≡ kind = omega arith in
-    let a : i % 4 ≡ arm = omega arith in
-    e ∙ (λ j. classFrom (k j) (a j))
+    let r : every (entry kind) (upFrom 0 4) ≡ true = every-of row (upFrom 0 10) table kind (upFrom-to 0 10 kind (omega arith) (omega arith)) in
+    eqb-true (getD (getD classes kind []) arm 0) (classFrom kind arm) (every-of (entry kind) (upFrom 0 4) r arm (upFrom-to 0 4 arm (omega arith) (omega arith)))
 
 -- The arms' classes.
 not-low : (n : ℕ) → classOfNot n < 3

@@ -1,6 +1,6 @@
 -- A walk from node 0 over a formula's kinds: the ends and the classes that it leaves are those of the formula's nodes.
 use mathlib.Core.Path.{_≡_, refl, sym, ap, _∙_, subst}
-use mathlib.Core.Bool.{Bool, true, false, cond}
+use mathlib.Core.Bool.{Bool, true, false, cond, not as negate}
 use mathlib.Core.List.{List, [], _∷_, _++_, map, append-nil}
 use mathlib.Core.Option.{Option, none, some}
 use Prim.Native.Nat.{ℕ, zero, suc, _+_, _*_, _-_, _≤_, _<_}
@@ -8,12 +8,14 @@ use native.Mathlib.Nat.{zero-add}
 use native.Mathlib.Decide.{decLt}
 use native.Mathlib.Omega.{arith}
 use lib.Dec.{eqb}
-use lib.ListN.{length, getD, take, drop, length-map, List·getD-append, List·getD-map}
+use lib.ListN.{length, getD, take, drop, length-append, length-map, List·getD-append, List·getD-map}
 use lib.Seq.{sets, sets-eq, take-at, getD-append-add, ext-getD}
+use borrow.Author.Tests.{eqb-true, eqb-false}
 use Rattle.lts.specs.Lists.{upFrom}
 use Rattle.actl.specs.Formulas.{Formula, tru, not, or, ex, ax, eu, euThen, size, nodes, classOf, hasNoClass, highestFrom, highestWithoutClass}
 use Rattle.actl.specs.Prepared.{slotAt, preparedFormula}
-use Rattle.actl.specs.Walk.{kindOf, kindsOf, kindsIn, endsFrom, classesOf, Spelled, Found, Walks}
+use Rattle.actl.specs.Check.{Decides, SpelledClassed}
+use Rattle.actl.specs.Walk.{kindOf, kindsOf, kindsIn, armOf, classOfArm, endsFrom, classesOf, Spelled, Found, Walks}
 use Rattle.actl.specs.declared.walk.Walked.{Walked}
 use Rattle.actl.specs.declared.walk.Walked.the-variants.{Broken, Node}
 use Rattle.actl.proofs.Nodes.{length-nodes, size-pos}
@@ -21,6 +23,7 @@ use Rattle.actl.proofs.Laws.Bare.{size-by-kinds, class-by-kinds, ends-b
 use Rattle.actl.proofs.Laws.Lists.{length-upFrom, getD-upFrom}
 use Rattle.actl.proofs.Laws.Prepared.{prepared-count, prepared-slot}
 use Rattle.actl.proofs.Laws.Sets.{getD-sets}
+use Rattle.actl.proofs.Laws.Table.{class-of-arm}
 use Rattle.actl.proofs.Laws.Unique.{same-behind}
 use Rattle.actl.proofs.Laws.Walks.{length-kinds, length-ends, length-classes}
 
@@ -120,3 +123,47 @@ pub noted-classes : {E E' C C' : List ℕ} (F : Formula) → Noted E E' C C' F �
 noted-classes {C} F h m =
     let z : 0 + length (classesOf F) ≤ length C = omega (arith, length-classes F) in
     ap (take (size F)) (h .classes ∙ sets-eq (classesOf F) C 0 z) ∙ take-at (classesOf F) (drop (0 + length (classesOf F)) C) (size F) (length-classes F)
+
+-- Whether kinds are those of a formula with a class, by a walk from node 0.
+class-none : (f : Formula) → armOf f ≡ 0 → classOf f ≡ 0
+class-none f e = sym (class-of-arm f) ∙ ap classOfArm e
+
+arm-none : (f : Formula) → classOf f ≡ 0 → armOf f ≡ 0
+unfolding classOf
+arm-none tru e = absurd (omega arith)
+arm-none (not f) e = e
+arm-none (or f g) e = e
+arm-none (ex c f) e = e
+arm-none (ax c f) e = e
+arm-none (eu a f) e = e
+arm-none (euThen a b f) e = e
+
+empty-list : (l : List ℕ) → length l ≡ 0 → l ≡ []
+empty-list [] e = refl
+empty-list (x ∷ l) e = absurd (omega arith)
+
+module _ (b : List ℕ) (count : ℕ) {K : List ℕ} (d : K ≡ kindsIn b count) where
+  pub not-spelled : ((f : Formula) → Spelled K 0 f → ⊥) → SpelledClassed b count → ⊥
+  not-spelled h (f, e, n) = h f ([], d ∙ (sym e ∙ sym (append-nil (kindsOf f))))
+
+  module _ {E E' C C' : List ℕ} {end arm : ℕ} (h : Found K E E' C C' 0 end arm) where
+    pub not-ending : (end ≡ count → ⊥) → SpelledClassed b count → ⊥
+    not-ending n (f, e, c) =
+        let s = same-kinds (h .formula) f (h .spelled .0) (e ∙ (sym d ∙ h .spelled .1)) in
+        let a = size-by-kinds (h .formula) f s in
+        let l : size f ≡ count = sym (length-kinds f) ∙ (ap length e ∙ length-kinds-in b count) in
+        n (omega (arith, h .behind))
+
+    whole : end ≡ count → kindsOf (h .formula) ≡ kindsIn b count
+    whole e =
+        let (rest, s) = h .spelled in
+        let long : length K ≡ count = ap length d ∙ length-kinds-in b count in
+        let z : rest ≡ [] = empty-list rest (omega (arith, simp length-append at (ap length s), length-kinds (h .formula), h .behind)) in
+        sym (sym d ∙ (s ∙ (ap (λ l. kindsOf (h .formula) ++ l) z ∙ append-nil (kindsOf (h .formula)))))
+
+    pub spelled-decided : end ≡ count → Decides (negate (eqb arm 0)) (SpelledClassed b count)
+    spelled-decided e = case (eqb arm 0) refl
+      where
+        case : (t : Bool) → eqb arm 0 ≡ t → Decides (negate t) (SpelledClassed b count)
+        case true z = λ (f, k, n). n (sym (class-by-kinds (h .formula) f (whole e ∙ sym k)) ∙ class-none (h .formula) (sym (h .as-arm) ∙ eqb-true arm 0 z))
+        case false z = (h .formula, whole e, λ y. eqb-false arm 0 z (h .as-arm ∙ arm-none (h .formula) y))

@@ -1,10 +1,10 @@
 -- Bytes that are slots followed by zeros: read off byte by byte, and put together again.
-use mathlib.Core.Path.{_≡_, refl, sym, ap, ap₂, _∙_, subst}
-use mathlib.Core.List.{List, [], _∷_, _++_, map, append-assoc, append-nil, List·Memᴰ}
+use mathlib.Core.Path.{_≡_, refl, sym, ap, ap₂, _∙_}
+use mathlib.Core.List.{List, [], _∷_, _++_, map, append-assoc, append-nil}
 use Prim.Native.Nat.{ℕ, zero, suc, _+_, _-_, _*_, _≤_, _<_}
-use native.Mathlib.Nat.{zero-mul, suc-mul, add-zero}
+use native.Mathlib.Nat.{zero-mul, suc-mul}
 use native.Mathlib.Omega.{arith}
-use lib.ListN.{length, getD, take, drop, replicate, length-drop, length-take, length-replicate, getD-replicate, List·getD-append}
+use lib.ListN.{length, take, drop, replicate, length-drop, length-replicate, getD-replicate, List·getD-append}
 use lib.Seq.{length-take-le, take-add, getD-take, getD-drop, getD-append-add, ext-getD}
 use Rattle.columns.specs.Bytes.{padded}
 use Rattle.lts.specs.Lists.{upFrom, bind}

@@ -1,20 +1,19 @@
 -- Prepared bytes are well-formed: names and transitions in their slots, and zeros behind them.
-use mathlib.Core.Path.{_≡_, refl, sym, ap, ap₂, _∙_, subst, subst₂}
-use mathlib.Core.Bool.{Bool, true, false}
-use mathlib.Core.List.{List, [], _∷_, _++_, List·Memᴰ}
-use mathlib.Core.Option.{Option, none, some}
-use Prim.Native.Nat.{ℕ, zero, suc, _+_, _-_, _*_, _≤_, _<_}
+use mathlib.Core.Path.{_≡_, refl, sym, ap, _∙_, subst, subst₂}
+use mathlib.Core.Bool.{true}
+use mathlib.Core.List.{List, [], _∷_, _++_}
+use Prim.Native.Nat.{ℕ, _+_, _-_, _*_, _≤_, _<_}
 use native.Mathlib.Omega.{arith}
 use lib.ListN.{length, getD, take, drop, take-append-drop}
 use lib.Seq.{getD-drop}
 use Rattle.columns.specs.Bytes.{padded}
 use Rattle.lts.specs.Lists.{bind}
 use Rattle.lts.specs.Names.{isName}
-use Rattle.lts.specs.Steps.{Step, Table, labels, idleAt}
+use Rattle.lts.specs.Steps.{Table, labels, idleAt}
 use Rattle.lts.specs.Range.{Below, Differ, StepInRange, InRange}
-use Rattle.lts.specs.Prepared.{tableLength, nameSlot, transitionSlot, tableBytes, byteAt, nameAt, transitionAt, tableIn, preparedTable}
+use Rattle.lts.specs.Prepared.{tableLength, nameSlot, transitionSlot, tableBytes, byteAt, transitionAt, tableIn, preparedTable}
 use Rattle.lts.specs.Access.{isSome}
-use Rattle.lts.specs.Check.{ZerosFrom, CountsHeld, NameHeld, NewName, TransitionHeld, WellFormed}
+use Rattle.lts.specs.Check.{ZerosFrom, NameHeld, NewName, TransitionHeld, WellFormed}
 use Rattle.lts.proofs.Lists.{getD-mem, rising-index}
 use Rattle.lts.proofs.Laws.Contents.{name-in, transition-in}
 use Rattle.lts.proofs.Laws.Slots.{slots-length}

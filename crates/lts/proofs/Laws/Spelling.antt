@@ -1,17 +1,17 @@
 -- A name byte by byte: which bytes make `isName` true, of a list and of a slot.
-use mathlib.Core.Path.{_≡_, refl, sym, ap, _∙_, subst}
-use mathlib.Core.Bool.{Bool, true, false, false≢true, _&&_}
+use mathlib.Core.Path.{_≡_, refl, sym, ap, _∙_}
+use mathlib.Core.Bool.{true, false≢true}
 use mathlib.Core.List.{List, [], _∷_}
 use Prim.Native.Nat.{ℕ, zero, suc, _+_, _-_, _*_, _≤_, _<_}
 use native.Mathlib.Nat.{add-zero}
 use native.Mathlib.Omega.{arith}
-use lib.ListN.{length, getD, take, drop}
+use lib.ListN.{length, getD, drop}
 use lib.Seq.{getD-take, getD-drop}
 use Rattle.lts.specs.Names.{isLower, isNameByte, atMost, isName}
 use Rattle.lts.specs.Prepared.{tableLength, byteAt, nameAt}
 use Rattle.lts.specs.Check.{NameBytesFrom}
 use Rattle.lts.proofs.Lists.{and-true-of, and-true-to}
-use Rattle.lts.proofs.Laws.Tests.{NameShape, name-shape}
+use Rattle.lts.proofs.Laws.Tests.{name-shape}
 use Rattle.lts.proofs.Laws.Names.{name-length}
 
 at-most-to : (n : ℕ) (l : List ℕ) → length l ≤ n → ((i : ℕ) → i < length l → isNameByte (getD l i 0) ≡ true) → atMost n l ≡ true

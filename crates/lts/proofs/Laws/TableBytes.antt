@@ -1,21 +1,19 @@
 -- The bytes of a table: how many they are, that they are bytes, and that the table stands in them.
-use mathlib.Core.Path.{_≡_, refl, sym, ap, ap₂, _∙_, subst}
-use mathlib.Core.Bool.{true}
+use mathlib.Core.Path.{_≡_, refl, sym, ap, ap₂, _∙_}
 use mathlib.Core.List.{List, [], _∷_, _++_, map, append-assoc, List·Memᴰ}
-use mathlib.Core.Logic.{_⊎_, inl, inr}
-use Prim.Native.Nat.{ℕ, zero, suc, _+_, _-_, _*_, _/_, _%_, _≤_, _<_}
+use Prim.Native.Nat.{ℕ, suc, _+_, _-_, _*_, _/_, _%_, _≤_, _<_}
 use native.Mathlib.Nat.{add-zero}
 use native.Mathlib.Omega.{arith}
 use lib.ListN.{length, getD, take, drop, replicate, length-append}
-use lib.Seq.{take-append-seam, take-at, drop-at, drop-drop, getD-drop, ext-getD}
-use Rattle.columns.specs.Bytes.{padded, lowFirst}
+use lib.Seq.{take-append-seam, drop-at, drop-drop, getD-drop, ext-getD}
+use Rattle.columns.specs.Bytes.{lowFirst}
 use Rattle.columns.proofs.Laws.Bytes.{Bytes, bytes-none, bytes-cons, bytes-append, padded-length, padded-bytes, lowFirst-bytes, pair-value}
 use Rattle.lts.specs.Lists.{upFrom, bind}
 use Rattle.lts.specs.Steps.{Step, Table, labels, idleAt}
 use Rattle.lts.specs.Range.{InRange}
 use Rattle.lts.specs.Prepared.{tableLength, nameSlot, transitionSlot, nameSlots, transitionSlots, tableBytes, byteAt, nameAt, transitionAt, tableIn}
-use Rattle.lts.proofs.Lists.{getD-mem, bind-of}
-use Rattle.lts.proofs.Laws.Tests.{NameShape, name-shape}
+use Rattle.lts.proofs.Lists.{bind-of}
+use Rattle.lts.proofs.Laws.Tests.{name-shape}
 use Rattle.lts.proofs.Laws.Contents.{map-upFrom-length, map-upFrom-at}
 use Rattle.lts.proofs.Laws.Slots.{slots-length, slot-at}
 

@@ -1,23 +1,23 @@
 -- Well-formed bytes are prepared: the table in them is in range, and they are that table's bytes.
 use mathlib.Core.Path.{_≡_, refl, sym, ap, ap₂, _∙_, subst, subst₂}
 use mathlib.Core.Bool.{true}
-use mathlib.Core.List.{List, [], _∷_, _++_, map, List·Memᴰ}
+use mathlib.Core.List.{List, [], _∷_, _++_, List·Memᴰ}
 use mathlib.Core.Option.{some}
-use Prim.Native.Nat.{ℕ, zero, suc, _+_, _-_, _*_, _≤_, _<_}
+use Prim.Native.Nat.{ℕ, suc, _+_, _-_, _*_, _≤_, _<_}
 use native.Mathlib.Nat.{add-zero}
 use native.Mathlib.Omega.{arith}
-use lib.ListN.{length, getD, take, drop, replicate, length-drop, length-take}
-use lib.Seq.{take-add, drop-drop, drop-cons, getD-drop, length-take-le}
+use lib.ListN.{length, getD, take, drop, replicate, length-drop}
+use lib.Seq.{take-add, drop-drop, drop-cons, getD-drop}
 use Rattle.columns.specs.Bytes.{lowFirst}
 use Rattle.columns.proofs.Laws.Bytes.{pair-bytes}
-use Rattle.lts.specs.Lists.{upFrom, bind, Rising}
+use Rattle.lts.specs.Lists.{upFrom}
 use Rattle.lts.specs.Names.{isName}
-use Rattle.lts.specs.Steps.{Step, Table, labels, idleAt}
+use Rattle.lts.specs.Steps.{Step, labels, idleAt}
 use Rattle.lts.specs.Range.{Below, Differ, StepInRange, InRange}
 use Rattle.lts.specs.Prepared.{tableLength, nameSlot, transitionSlot, nameSlots, transitionSlots, tableBytes, byteAt, nameAt, transitionAt, tableIn, preparedTable}
-use Rattle.lts.specs.Check.{WellFormed, NameHeld}
+use Rattle.lts.specs.Check.{WellFormed}
 use Rattle.lts.proofs.Lists.{mem-index, rising-pairs, rising-adjacent}
-use Rattle.lts.proofs.Laws.Tests.{below-trans, NameShape, name-shape}
+use Rattle.lts.proofs.Laws.Tests.{below-trans, name-shape}
 use Rattle.lts.proofs.Laws.Contents.{labels-in, transitions-in, name-in, transition-in}
 use Rattle.lts.proofs.Laws.Names.{name-length}
 use Rattle.lts.proofs.Laws.Filled.{bind-map, take-bytes, take-zeros, filled}

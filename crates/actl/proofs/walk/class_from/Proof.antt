@@ -7,14 +7,14 @@ use Rattle.actl.proofs.walk.class_from.Tie as tie
 mul-result : tie.Need-mul-result
 mul-result c = search needs
 
-add-result : tie.Need-add-result
-add-result c = search needs
+index-1-result : tie.Need-index-1-result
+index-1-result c = search needs
 
-array-read-result : tie.Need-array-read-result
-array-read-result c = search needs
+index-2-result : tie.Need-index-2-result
+index-2-result c = search needs
 
 returns : tie.Need-returns
-returns c = table-right (c .args .kind) (c .args .arm) (search needs) (search needs)
+returns c = table-right (c .before .args .kind) (c .before .args .arm) (search needs) (search needs)
 
 pub class-from-spec : {M : Type 1} → statement M
-class-from-spec = tie.close (tie.spec mul-result add-result array-read-result returns)
+class-from-spec = tie.close (tie.spec mul-result index-1-result index-2-result returns)

@@ -1,16 +1,15 @@
 -- `name_held` meets its contract: each test is a part of what makes a name.
-use mathlib.Core.Path.{_≡_, sym, ap, _∙_, subst}
-use mathlib.Core.Bool.{true, true≢false}
+use mathlib.Core.Path.{sym, ap, _∙_, subst}
+use mathlib.Core.Bool.{true≢false}
 use Prim.Native.Nat.{ℕ, _+_, _*_, _<_}
 use native.Mathlib.Omega.{arith}
 use borrow.Author.Needs.{needs}
 use borrow.Author.Tests.{not-true, not-false}
 use Rattle.lts.specs.Names.{isLower}
-use Rattle.lts.specs.Prepared.{byteAt}
 use Rattle.lts.specs.Access.{Counted}
-use Rattle.lts.specs.Check.{ZerosFrom, NameBytesFrom, NameHeld}
+use Rattle.lts.specs.Check.{ZerosFrom, NameBytesFrom}
 use Rattle.lts.proofs.Laws.Decides.{decided-no, decided-by}
-use Rattle.lts.proofs.Laws.Spelling.{Spelled, spelled-to, spelled-of}
+use Rattle.lts.proofs.Laws.Spelling.{spelled-to, spelled-of}
 use Rattle.lts.proofs.check.name_held.Statement.{statement}
 use Rattle.lts.proofs.check.name_held.Tie as tie
 

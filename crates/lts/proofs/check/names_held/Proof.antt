@@ -1,5 +1,5 @@
 -- `names_held` meets its contract: the slots below k hold names, each a new one.
-use mathlib.Core.Path.{_≡_, sym, _∙_}
+use mathlib.Core.Path.{_≡_}
 use Prim.Native.Nat.{ℕ, _+_, _-_, _*_, _≤_, _<_}
 use native.Mathlib.Omega.{arith}
 use borrow.Author.Count.{below-more}
@@ -8,7 +8,7 @@ use Rattle.lts.specs.Steps.{labels}
 use Rattle.lts.specs.Prepared.{tableIn, byteAt}
 use Rattle.lts.specs.Check.{NameHeld, NewName}
 use Rattle.lts.proofs.Laws.Decides.{decided-yes, decided-no}
-use Rattle.lts.proofs.Laws.Spelling.{Spelled, spelled-of}
+use Rattle.lts.proofs.Laws.Spelling.{spelled-of}
 use Rattle.lts.proofs.check.names_held.Statement.{statement}
 use Rattle.lts.proofs.check.names_held.Tie as tie
 

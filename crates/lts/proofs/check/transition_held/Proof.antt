@@ -1,14 +1,11 @@
 -- `transition_held` meets its contract: each test is one of the ranges, and the last compares with the slot before.
-use mathlib.Core.Path.{_≡_, refl, sym, ap, _∙_, subst, subst₂}
-use Prim.Native.Nat.{ℕ, suc, _-_}
+use mathlib.Core.Path.{_≡_, sym, ap, _∙_, subst₂}
+use Prim.Native.Nat.{_-_}
 use native.Mathlib.Omega.{arith}
 use borrow.Author.Needs.{needs}
 use Rattle.lts.specs.Steps.{Step}
 use Rattle.lts.specs.Range.{Below}
-use Rattle.lts.specs.Reading.{stepBelow}
 use Rattle.lts.specs.Prepared.{transitionAt}
-use Rattle.lts.specs.Access.{stepIn}
-use Rattle.lts.specs.Check.{TransitionHeld}
 use Rattle.lts.proofs.Laws.Tests.{below-of, below-to}
 use Rattle.lts.proofs.Laws.Decides.{decided-yes, decided-no, decided-test}
 use Rattle.lts.proofs.check.transition_held.Statement.{statement}

@@ -1,6 +1,6 @@
 -- `zeros` meets its contract: the bytes before i are zero.
 use mathlib.Core.Path.{_≡_}
-use Prim.Native.Nat.{ℕ, _-_, _≤_, _<_}
+use Prim.Native.Nat.{_-_, _≤_}
 use native.Mathlib.Omega.{arith}
 use Rattle.lts.specs.Prepared.{byteAt}
 use Rattle.lts.specs.Check.{ZerosFrom}

@@ -1,11 +1,11 @@
 -- `find_label` meets its contract: none of the names below k is the one looked for.
-use mathlib.Core.Path.{_≡_, refl, sym, ap, _∙_}
+use mathlib.Core.Path.{_≡_, sym, ap, _∙_}
 use mathlib.Core.List.{[]}
 use mathlib.Core.Option.{some}
-use Prim.Native.Nat.{ℕ, _+_, _-_, _≤_, _<_}
+use Prim.Native.Nat.{ℕ, _-_, _≤_, _<_}
 use native.Mathlib.Numerals.{add-one}
 use native.Mathlib.Omega.{arith}
-use lib.ListN.{length, getD, take}
+use lib.ListN.{take}
 use borrow.Author.Count.{below-more}
 use Rattle.lts.specs.Steps.{labels}
 use Rattle.lts.specs.Prepared.{tableIn, nameAt}

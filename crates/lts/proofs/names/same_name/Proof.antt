@@ -1,11 +1,10 @@
 -- `same_name` meets its contract: the lengths are equal, and the bytes below i are.
-use mathlib.Core.Path.{_≡_, refl, sym, ap, _∙_}
+use mathlib.Core.Path.{_≡_, refl, sym, _∙_}
 use mathlib.Core.Bool.{true≢false, false≢true}
 use Prim.Native.Nat.{ℕ, _+_, _-_, _*_, _≤_, _<_}
 use native.Mathlib.Omega.{arith}
-use lib.ListN.{length, getD}
-use borrow.Author.Needs.{needs}
-use borrow.Author.Count.{below-none, below-more}
+use lib.ListN.{getD}
+use borrow.Author.Count.{below-more}
 use Rattle.lts.specs.Prepared.{byteAt}
 use Rattle.lts.proofs.Laws.Names.{name-is, name-is-length, name-is-bytes}
 use Rattle.lts.proofs.names.same_name.Statement.{statement}

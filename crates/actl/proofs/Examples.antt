@@ -1,0 +1,81 @@
+-- Worked examples: the definitions of formulas, run over the label names of 01's table M.
+use mathlib.Core.Path.{_≡_, refl}
+use mathlib.Core.List.{List, [], _∷_, _++_}
+use mathlib.Core.Option.{some}
+use Prim.Native.Nat.{ℕ}
+use Prim.Native.String.{String}
+use lib.ListN.{length}
+use Rattle.columns.specs.Ascii.{ascii}
+use Rattle.lts.specs.Names.{findFrom}
+use Rattle.lts.specs.Reply.{Reply, accepted, refusal}
+use Rattle.actl.specs.Actions.{maskOf, labels}
+use Rattle.actl.specs.Formulas.{Formula, tru, not, or, ax, euThen, classOf, highestWithoutClass}
+use Rattle.actl.specs.Reading.{readFormula}
+use Rattle.actl.specs.Prepared.{formulaLength, formulaBytes, graft, preparedFormula}
+
+abbrev overM : String → Reply Formula
+overM s = readFormula (ascii "req" ∷ ascii "ack" ∷ []) (ascii s)
+
+-- Labels 1 and 2 are bits 1 and 2 of a mask.
+read-whole : overM "EU[*;ack] T" ≡ accepted (euThen 6 4 tru)
+unfolding readFormula findFrom maskOf classOf highestWithoutClass
+read-whole = refl
+
+except-never-silent : overM "AX[~req] T" ≡ accepted (ax (labels 4) tru)
+unfolding readFormula findFrom maskOf classOf highestWithoutClass
+except-never-silent = refl
+
+from-the-left : overM "T | T | T" ≡ accepted (or (or tru tru) tru)
+unfolding readFormula findFrom maskOf classOf highestWithoutClass
+from-the-left = refl
+
+prepared-formula : preparedFormula 2 (formulaBytes (euThen 6 4 tru)) ≡ some (euThen 6 4 tru)
+unfolding preparedFormula formulaBytes graft classOf
+prepared-formula = refl
+
+prepared-length : length (formulaBytes (euThen 6 4 tru)) ≡ formulaLength
+unfolding formulaBytes
+prepared-length = refl
+
+-- The bench sheet's refusals.
+empty-text : overM "" ≡ refusal 6 0
+unfolding readFormula
+empty-text = refl
+
+no-bracket : overM "EX[a T" ≡ refusal 6 5
+unfolding readFormula
+no-bracket = refl
+
+no-such-name : overM "EX[a] T" ≡ refusal 7 3
+unfolding readFormula findFrom
+no-such-name = refl
+
+no-class : overM "T | ~T" ≡ refusal 9 0
+unfolding readFormula findFrom classOf highestWithoutClass
+no-class = refl
+
+no-class-within : overM "~EX[req] ~T" ≡ refusal 9 1
+unfolding readFormula findFrom maskOf classOf highestWithoutClass
+no-class-within = refl
+
+-- A blank first, a blank last, a name of thirteen letters, a blank inside a keyword.
+blank-first : overM " T" ≡ refusal 6 0
+unfolding readFormula
+blank-first = refl
+
+blank-last : overM "T " ≡ refusal 6 2
+unfolding readFormula
+blank-last = refl
+
+long-name : overM "EX[abcdefghijklm] T" ≡ refusal 6 15
+unfolding readFormula
+long-name = refl
+
+blank-inside : overM "E X[req] T" ≡ refusal 6 1
+unfolding readFormula
+blank-inside = refl
+
+-- The grammar is judged before names.
+grammar-before-names : overM "EX[a] T)" ≡ refusal 6 7
+unfolding readFormula findFrom
+grammar-before-names = refl

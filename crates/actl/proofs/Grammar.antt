@@ -1,0 +1,139 @@
+-- The reader answers with a text's only tree, or with the length of the longest beginning that some grammatical text has.
+use mathlib.Core.Path.{_≡_, refl, sym, ap, _∙_, subst}
+use mathlib.Core.Logic.{_⊎_, inl, inr, _↔_}
+use mathlib.Core.Bool.{Bool, true, false}
+use mathlib.Core.List.{List, [], _∷_, _++_, append-assoc, append-nil}
+use Prim.Native.Nat.{ℕ, zero, suc, _+_, _-_, _≤_, _<_}
+use native.Mathlib.Decide.{decLe}
+use native.Mathlib.Omega.{arith}
+use lib.ListN.{length, take, drop, length-append, take-append-drop}
+use lib.Seq.{take-append-seam, take-append-add, take-append-le}
+use Rattle.actl.specs.Grammar.{Disjunction, showF, gap, Text, Viable, Longest}
+use Rattle.actl.specs.Reader.{InDisjunction, fTop, fParen, State, termAt, afterE, afterA, afterNext, afterUntil, bracketAt, operandAt, afterDot, naming, afterSet, afterDisjunction, Step, go, stop, step, finish, ended, proceed, run, start, read, Result, whole, refused}
+use Rattle.actl.proofs.Sound.{shown, Reads, goes, stops, step-reads, completes}
+use Rattle.actl.proofs.Complete.{formula-read}
+
+pub not-both : {A : Type 0} {r : List ℕ} {f : Disjunction} → refused r ≡ whole f → A
+not-both e = absurd (let z : _≡_ {A = ℕ} 0 1 = cc in omega arith)
+
+same-rest : {r s : List ℕ} → refused r ≡ refused s → r ≡ s
+same-rest e = cc
+
+same-tree : {f g : Disjunction} → whole f ≡ whole g → f ≡ g
+same-tree e = cc
+
+-- The end of the text.
+ended-whole : (g : Disjunction) (k : InDisjunction) (n : ℕ) (f : Disjunction) → ended g k n ≡ whole f → shown (afterDisjunction g k n) [] ≡ showF f []
+ended-whole g fTop zero f e = ap (λ h. showF h []) (same-tree e)
+ended-whole g fTop (suc n) f e = not-both e
+ended-whole g (fParen k a) n f e = not-both e
+
+finish-whole : (x : State) (f : Disjunction) → finish x ≡ whole f → shown x [] ≡ showF f []
+finish-whole (termAt k) f e = not-both e
+finish-whole (afterE k) f e = not-both e
+finish-whole (afterA k) f e = not-both e
+finish-whole (afterNext q k g) f e = not-both e
+finish-whole (afterUntil k g) f e = not-both e
+finish-whole (bracketAt q a k g) f e = not-both e
+finish-whole (operandAt k) f e = not-both e
+finish-whole (afterDot q a c k g) f e = not-both e
+finish-whole (naming n k) f e = not-both e
+finish-whole (afterSet x k g) f e = not-both e
+finish-whole (afterDisjunction g k n) f e = ended-whole g k n f e
+
+ended-refused : (g : Disjunction) (k : InDisjunction) (n : ℕ) (r : List ℕ) → ended g k n ≡ refused r → [] ≡ r
+ended-refused g fTop zero r e = not-both (sym e)
+ended-refused g fTop (suc n) r e = same-rest e
+ended-refused g (fParen k a) n r e = same-rest e
+
+finish-refused : (x : State) (r : List ℕ) → finish x ≡ refused r → [] ≡ r
+finish-refused (termAt k) r e = same-rest e
+finish-refused (afterE k) r e = same-rest e
+finish-refused (afterA k) r e = same-rest e
+finish-refused (afterNext q k g) r e = same-rest e
+finish-refused (afterUntil k g) r e = same-rest e
+finish-refused (bracketAt q a k g) r e = same-rest e
+finish-refused (operandAt k) r e = same-rest e
+finish-refused (afterDot q a c k g) r e = same-rest e
+finish-refused (naming n k) r e = same-rest e
+finish-refused (afterSet x k g) r e = same-rest e
+finish-refused (afterDisjunction g k n) r e = ended-refused g k n r e
+
+-- A text that is read whole is the tree's.
+run-whole : (s : List ℕ) (x : State) (f : Disjunction) → run s x ≡ whole f → shown x s ≡ showF f []
+run-whole [] x f e = finish-whole x f e
+run-whole (b ∷ s) x f e = next (step x b) (step-reads x b) (λ y. run-whole s y f) e
+  where
+    next : (v : Step) → Reads (shown x) b v → ((y : State) → run s y ≡ whole f → shown y s ≡ showF f []) → proceed v (run s) (refused (b ∷ s)) ≡ whole f → shown x (b ∷ s) ≡ showF f []
+    next (go y) (goes p) ih e = p s ∙ ih y e
+    next stop stops ih e = not-both e
+
+-- Where a text is refused: a state was reached, and the next byte leads nowhere, whatever follows.
+pub record Refusal (x : State) (s r : List ℕ) : Type 0 where
+  pub front : List ℕ
+  pub at : State
+  pub parts : s ≡ front ++ r
+  pub reached : (t : List ℕ) → shown x (front ++ t) ≡ shown at t
+  pub dead : (b : ℕ) (l : List ℕ) → r ≡ b ∷ l → (t : List ℕ) → run (front ++ b ∷ t) x ≡ refused (b ∷ t)
+
+nil-cons : {A : Type 0} {b : ℕ} {l : List ℕ} → [] ≡ b ∷ l → A
+nil-cons e = absurd (let z : _≡_ {A = ℕ} 0 1 = cc in omega arith)
+
+same-head : {b c : ℕ} {l m : List ℕ} → b ∷ l ≡ c ∷ m → b ≡ c
+same-head e = cc
+
+run-refused : (s : List ℕ) (x : State) (r : List ℕ) → run s x ≡ refused r → Refusal x s r
+run-refused [] x r e = record { front = []; at = x; parts = finish-refused x r e; reached = λ t. refl; dead = λ b l d t. nil-cons (finish-refused x r e ∙ d) }
+run-refused (b ∷ s) x r e = next (step x b) refl (step-reads x b) (λ y. run-refused s y r) e
+  where
+    next : (v : Step) → step x b ≡ v → Reads (shown x) b v → ((y : State) → run s y ≡ refused r → Refusal y s r) → proceed v (run s) (refused (b ∷ s)) ≡ refused r → Refusal x (b ∷ s) r
+    next (go y) w (goes p) ih e = let h = ih y e in record {
+      front = b ∷ h .front;
+      at = h .at;
+      parts = ap (λ l. b ∷ l) (h .parts);
+      reached = λ t. p (h .front ++ t) ∙ h .reached t;
+      dead = λ c l d t. ap (λ v. proceed v (run (h .front ++ c ∷ t)) (refused (b ∷ (h .front ++ c ∷ t)))) w ∙ h .dead c l d t;
+    }
+    next stop w stops ih e = record {
+      front = [];
+      at = x;
+      parts = same-rest e;
+      reached = λ t. refl;
+      dead = λ c l d t. ap (λ v. proceed v (run t) (refused (c ∷ t))) (ap (step x) (same-head (sym d ∙ sym (same-rest e))) ∙ w);
+    }
+
+-- The theorems.
+pub read-text : (s : List ℕ) (f : Disjunction) → (read s ≡ whole f) ↔ Text s f
+read-text s f = (λ e. sym (run-whole s start f e), λ e. ap read (sym e) ∙ formula-read f fTop [])
+
+pub one-tree : (s : List ℕ) (f g : Disjunction) → Text s f → Text s g → f ≡ g
+one-tree s f g p q = same-tree (sym (read-text s f .1 p) ∙ read-text s g .1 q)
+
+pub refused-text : (s r : List ℕ) (f : Disjunction) → read s ≡ refused r → Text s f → ⊥
+refused-text s r f e p = not-both (sym e ∙ read-text s f .1 p)
+
+module _ (p : List ℕ) (x : State) (reached : (t : List ℕ) → p ++ t ≡ shown x t) where
+  beyond : (r : List ℕ) (j : ℕ) → ((b : ℕ) (l : List ℕ) → r ≡ b ∷ l → (t : List ℕ) → read (p ++ b ∷ t) ≡ refused (b ∷ t))
+      → suc j ≤ length r → Viable (p ++ take (suc j) r) → ⊥
+  beyond [] j dead h v = omega arith
+  beyond (b ∷ r) j dead h (t, (f, e)) = refused-text (p ++ b ∷ (take j r ++ t)) _ f (dead b r refl (take j r ++ t)) (e ∙ append-assoc p (b ∷ take j r) t)
+
+  longest : (r : List ℕ) → ((b : ℕ) (l : List ℕ) → r ≡ b ∷ l → (t : List ℕ) → read (p ++ b ∷ t) ≡ refused (b ∷ t)) → Longest (p ++ r) (length p)
+  longest r dead = record {
+    within = simp length-append (omega arith);
+    begins = rw take-append-seam (let (f, t, e) = completes x in (t, (f, sym (reached t ∙ e))));
+    most = λ m h v. case m h v (decLe m (length p));
+  }
+    where
+      case : (m : ℕ) → m ≤ length (p ++ r) → Viable (take m (p ++ r)) → Dec (m ≤ length p) → m ≤ length p
+      case m h v (yes q) = q
+      case m h v (no q) =
+          let j = m - length p - 1 in
+          let e : m ≡ length p + suc j = omega arith in
+          absurd (beyond r j dead (omega (arith, length-append p r)) (subst Viable (ap (λ i. take i (p ++ r)) e ∙ take-append-add p r (suc j)) v))
+
+pub read-refused : (s r : List ℕ) → read s ≡ refused r → Longest s (length s - length r)
+read-refused s r e =
+    let h = run-refused s start r e in
+    let d : length s - length r ≡ length (h .front) = omega (arith, simp length-append at (ap length (h .parts))) in
+    rw d (subst (λ l. Longest l (length (h .front))) (sym (h .parts)) (longest (h .front) (h .at) (h .reached) r (h .dead)))

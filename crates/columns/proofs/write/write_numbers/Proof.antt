@@ -1,0 +1,95 @@
+use Rattle.columns.proofs.write.write_numbers.Statement.{statement}
+use Rattle.columns.proofs.write.write_numbers.Tie as tie
+use Rattle.columns.proofs.write.write_numbers.Reads as reads
+use Rattle.columns.proofs.write.write_numbers.Lts as lts
+use Rattle.columns.proofs.write.write_column.Reads as write-column-reads
+use mathlib.Core.Path.{_≡_, refl, sym, ap, _∙_, subst}
+use mathlib.Core.List.{_∷_, []}
+use Prim.Native.Nat.{_+_, _*_, _-_, _≤_, _<_}
+use borrow.Author.Needs.{needs}
+use native.Mathlib.Omega.{arith}
+use lib.ListN.{length, getD, take, set, length-set}
+use Rattle.columns.specs.Columns.{column, numbersLine}
+use Rattle.columns.specs.Write.{pasted}
+use Rattle.columns.proofs.Laws.Pasting.{Pasting, pasting-none, pasting-more, pasting-length, set-pasted, columns, columns-more, columns-line}
+
+abbrev Inv-loop : tie.InvT-loop
+Inv-loop count out₀ at values end₀ i₀ out end i = Pasting out₀ at (columns (take i values)) out end × (i ≤ count) × (end ≤ at + 20 * i)
+
+abbrev μ-loop : tie.MeasureT-loop
+μ-loop count out₀ at values end₀ i₀ out end i = count - i
+
+-- src/write.rt:61:5
+loop-holds : tie.Need-loop-holds Inv-loop μ-loop
+loop-holds c = (pasting-none _ _ (omega arith), omega arith, omega arith)
+
+-- src/write.rt:62:28
+mul-write-column : tie.Need-mul-write-column Inv-loop μ-loop
+mul-write-column c = omega arith
+
+-- src/write.rt:62:28
+array-read-write-column : tie.Need-array-read-write-column Inv-loop μ-loop
+array-read-write-column c = omega arith
+
+-- src/write.rt:62:9
+write-column-requires : tie.Need-write-column-requires Inv-loop μ-loop
+write-column-requires c κs = omega (arith, pasting-length (c .before .before .loop .inv .0), c .before .before .loop .inv .2)
+
+-- src/write.rt:63:9
+add-i : tie.Need-add-i Inv-loop μ-loop
+add-i c = omega arith
+
+-- src/write.rt:61:5
+loop-less : tie.Need-loop-less Inv-loop μ-loop
+loop-less c = omega arith
+
+-- src/write.rt:61:5
+loop-again : tie.Need-loop-again Inv-loop μ-loop
+loop-again c =
+    let l = c .before .before .before .before .before .loop in
+    let w = c .before .before .write-column in
+    let a = c .before .before .before .before .before .before .before .args in
+    let there : l .i < length (a .t1) = omega arith in
+    let p = pasting-more (l .inv .0) (column (getD (a .t1) (l .i) 0)) (w .last .1 .0) (w .result) (w .ensures .1 .0) (w .ensures .0) (omega (arith, l .inv .2)) in
+    (subst (λ t. Pasting (a .out .now) (a .at) t (w .last .1 .0) (w .result)) (columns-more (a .t1) (l .i) there) p, omega arith, omega (arith, l .inv .2))
+
+-- src/write.rt:65:5
+slice-write-out : tie.Need-slice-write-out Inv-loop μ-loop
+slice-write-out c = omega (arith, pasting-length (c .before .loop .inv .0), c .before .loop .inv .2)
+
+-- src/write.rt:66:5
+add-result : tie.Need-add-result Inv-loop μ-loop
+add-result c = omega arith
+
+-- src/write.rt:54:1
+same-length : tie.Need-same-length Inv-loop μ-loop
+same-length c = length-set (c .before .loop .out) (c .before .loop .end) 10 ∙ pasting-length (c .before .loop .inv .0)
+
+-- src/write.rt:54:1
+returns : tie.Need-returns Inv-loop μ-loop
+returns c =
+    let l = c .before .loop in
+    let a = c .before .before .before .args in
+    let done : l .i ≡ a .count = omega arith in
+    let inside : l .end < length (l .out) = omega (arith, pasting-length (l .inv .0), l .inv .2) in
+    let p = pasting-more (l .inv .0) (10 ∷ []) (set (l .out) (l .end) 10) (l .end + 1) (set-pasted (l .out) (l .end) 10 inside) refl (omega (arith, l .inv .2)) in
+    let text = columns-line (take (l .i) (a .t1)) ∙ ap (λ k. numbersLine (take k (a .t1))) done in
+    (p .ends ∙ ap (λ t. a .at + length t) text, (p .is ∙ ap (pasted (a .out .now) (a .at)) text, omega (arith, l .inv .2)))
+
+pub write-numbers-spec : {M : Type 1} → statement M
+write-numbers-spec =
+    tie.close
+    (tie.spec
+    Inv-loop
+    μ-loop
+    loop-holds
+    mul-write-column
+    array-read-write-column
+    write-column-requires
+    add-i
+    loop-less
+    loop-again
+    slice-write-out
+    add-result
+    same-length
+    returns)

@@ -1,0 +1,69 @@
+// Writing numbers in six columns.
+ghost use mathlib.Core.Path.{_≡_};
+ghost use mathlib.Core.List.{_++_};
+ghost use Prim.Native.Nat.{ℕ, _+_, _≤_};
+ghost use lib.ListN.{length, take, drop};
+ghost use Rattle.columns.specs.Columns.{column, numbersLine};
+ghost use Rattle.columns.specs.Write.{Spread, pasted};
+
+// A number's column: the bytes from `from` on.
+pub struct Figures {
+    pub bytes: [u8; 20],
+    pub from: usize,
+}
+
+fn spread(n: u64) -> Figures
+    ensures { λ r. ⌜ Spread n r ⌝ }
+{
+    let mut bytes = [32u8; 20];
+    bytes[19] = (48 + n % 10) as u8;
+    let mut from: usize = 19;
+    let mut rest = n / 10;
+    while 0 < rest {
+        from -= 1;
+        bytes[from] = (48 + rest % 10) as u8;
+        rest = rest / 10;
+    }
+    if 14 < from {
+        from = 14;
+    }
+    Figures {
+        bytes: bytes,
+        from: from,
+    }
+}
+
+// Writes n in six columns, or in as many as it has digits, at `at`, and answers where they end.
+pub fn write_column(n: u64, out: &mut [u8], at: usize) -> usize
+    requires { ⌜ at + 20 ≤ length (now out) ⌝ }
+    ensures { λ r. ⌜ r ≡ at + length (column n) ⌝ }
+    ensures { λ _. ⌜ now (out .exit) ≡ pasted (now (out .entry)) at (column n) ⌝ }
+    ensures { λ r. ⌜ r ≤ at + 20 ⌝ }
+{
+    let figures = spread(n);
+    let from = figures.from;
+    let bytes = figures.bytes;
+    let mut i: usize = 0;
+    while i < 20 - from {
+        out[at + i] = bytes[from + i];
+        i += 1;
+    }
+    at + (20 - from)
+}
+
+// Writes the first `count` of the values as a line of numbers at `at`, and answers where the line ends.
+pub fn write_numbers(values: [u64; 4], count: usize, out: &mut [u8], at: usize) -> usize
+    requires { ⌜ (count ≤ 4) × (at + 81 ≤ length (now out)) ⌝ }
+    ensures { λ r. ⌜ r ≡ at + length (numbersLine (take count values)) ⌝ }
+    ensures { λ _. ⌜ now (out .exit) ≡ pasted (now (out .entry)) at (numbersLine (take count values)) ⌝ }
+    ensures { λ r. ⌜ r ≤ at + 81 ⌝ }
+{
+    let mut end = at;
+    let mut i: usize = 0;
+    while i < count {
+        end = write_column(values[i], out, end);
+        i += 1;
+    }
+    out[end] = 10;
+    end + 1
+}

@@ -1,0 +1,52 @@
+// The C interface. explainer.h declares these functions.
+ghost use mathlib.Core.Path.{_≡_};
+ghost use Rattle.lts.specs.Replies.{tableReplied, tableLeft};
+ghost use Rattle.actl.specs.Replies.{formulaReplied, formulaLeft};
+ghost use Rattle.labelling.specs.Replies.{verdictReplied};
+ghost use Rattle.explainer.specs.Interface.{numberIn, figureIn};
+use crate::interface::formula_figure;
+use crate::interface::formula_number;
+use crate::interface::table_figure;
+use crate::interface::table_number;
+use crate::interface::verdict_figure;
+use crate::interface::verdict_number;
+use actl::read_formula;
+use labelling::verdict;
+use lts::reading::read_table;
+
+#[no_mangle]
+pub extern "C" fn explainer_read_table(text: &[u8], table: &mut [u8], figure: &mut u64) -> u32
+    ensures { λ r. ⌜ r ≡ numberIn (tableReplied (now (text .entry)) (now (table .entry))) ⌝ }
+    ensures { λ _. ⌜ now (table .exit) ≡ tableLeft (now (text .entry)) (now (table .entry)) ⌝ }
+    ensures { λ _. ⌜ now (figure .exit) ≡ figureIn (λ _. 0) (tableReplied (now (text .entry)) (now (table .entry))) ⌝ }
+{
+    let reply = read_table(text, table);
+    *figure = table_figure(reply);
+    table_number(reply)
+}
+
+#[no_mangle]
+pub extern "C" fn explainer_read_formula(
+    table: &[u8],
+    text: &[u8],
+    formula: &mut [u8],
+    figure: &mut u64,
+) -> u32
+    ensures { λ r. ⌜ r ≡ numberIn (formulaReplied (now (table .entry)) (now (text .entry)) (now (formula .entry))) ⌝ }
+    ensures { λ _. ⌜ now (formula .exit) ≡ formulaLeft (now (table .entry)) (now (text .entry)) (now (formula .entry)) ⌝ }
+    ensures { λ _. ⌜ now (figure .exit) ≡ figureIn (λ _. 0) (formulaReplied (now (table .entry)) (now (text .entry)) (now (formula .entry))) ⌝ }
+{
+    let reply = read_formula(table, text, formula);
+    *figure = formula_figure(reply);
+    formula_number(reply)
+}
+
+#[no_mangle]
+pub extern "C" fn explainer_verdict(table: &[u8], formula: &[u8], figure: &mut u64) -> u32
+    ensures { λ r. ⌜ r ≡ numberIn (verdictReplied (now (table .entry)) (now (formula .entry))) ⌝ }
+    ensures { λ _. ⌜ now (figure .exit) ≡ figureIn (λ holds. holds) (verdictReplied (now (table .entry)) (now (formula .entry))) ⌝ }
+{
+    let reply = verdict(table, formula);
+    *figure = verdict_figure(reply);
+    verdict_number(reply)
+}

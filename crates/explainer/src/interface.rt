@@ -1,0 +1,144 @@
+// The C interface: the number and the figure of each reply. explainer.h declares the functions.
+ghost use mathlib.Core.Path.{_≡_};
+ghost use Rattle.lts.specs.Replies.{tableReply};
+ghost use Rattle.actl.specs.Replies.{formulaReply};
+ghost use Rattle.labelling.specs.Replies.{verdictReply};
+ghost use Rattle.automaton.specs.Replies.{buildReply, wordReply};
+ghost use Rattle.explainer.specs.Interface.{numberIn, figureIn};
+use actl::FormulaReply;
+use automaton::BuildReply;
+use automaton::WordReply;
+use labelling::VerdictReply;
+use lts::TableReply;
+
+pub fn table_number(reply: TableReply) -> u32
+    ensures { λ r. ⌜ r ≡ numberIn (tableReply reply) ⌝ }
+{
+    match reply {
+        TableReply::Accepted => 0,
+        TableReply::NotLaidOut(_) => 1,
+        TableReply::OutOfRange(_) => 2,
+        TableReply::NameRepeated(_) => 3,
+        TableReply::NotRising(_) => 4,
+        TableReply::BufferShort(_) => 14,
+    }
+}
+
+pub fn table_figure(reply: TableReply) -> u64
+    ensures { λ r. ⌜ r ≡ figureIn (λ _. 0) (tableReply reply) ⌝ }
+{
+    match reply {
+        TableReply::Accepted => 0,
+        TableReply::NotLaidOut(line) => line as u64,
+        TableReply::OutOfRange(line) => line as u64,
+        TableReply::NameRepeated(line) => line as u64,
+        TableReply::NotRising(line) => line as u64,
+        TableReply::BufferShort(needed) => needed as u64,
+    }
+}
+
+pub fn formula_number(reply: FormulaReply) -> u32
+    ensures { λ r. ⌜ r ≡ numberIn (formulaReply reply) ⌝ }
+{
+    match reply {
+        FormulaReply::Accepted => 0,
+        FormulaReply::TooLong(_) => 5,
+        FormulaReply::NotGrammatical(_) => 6,
+        FormulaReply::NameUnknown(_) => 7,
+        FormulaReply::TooManyNodes(_) => 8,
+        FormulaReply::NoClass(_) => 9,
+        FormulaReply::TableForeign => 10,
+        FormulaReply::BufferShort(_) => 14,
+    }
+}
+
+pub fn formula_figure(reply: FormulaReply) -> u64
+    ensures { λ r. ⌜ r ≡ figureIn (λ _. 0) (formulaReply reply) ⌝ }
+{
+    match reply {
+        FormulaReply::Accepted => 0,
+        FormulaReply::TooLong(length) => length as u64,
+        FormulaReply::NotGrammatical(longest) => longest as u64,
+        FormulaReply::NameUnknown(offset) => offset as u64,
+        FormulaReply::TooManyNodes(nodes) => nodes as u64,
+        FormulaReply::NoClass(node) => node as u64,
+        FormulaReply::TableForeign => 0,
+        FormulaReply::BufferShort(needed) => needed as u64,
+    }
+}
+
+pub fn verdict_number(reply: VerdictReply) -> u32
+    ensures { λ r. ⌜ r ≡ numberIn (verdictReply reply) ⌝ }
+{
+    match reply {
+        VerdictReply::Holds => 0,
+        VerdictReply::Fails => 0,
+        VerdictReply::TableForeign => 10,
+        VerdictReply::FormulaForeign => 10,
+        VerdictReply::BufferShort(_) => 14,
+    }
+}
+
+pub fn verdict_figure(reply: VerdictReply) -> u64
+    ensures { λ r. ⌜ r ≡ figureIn (λ holds. holds) (verdictReply reply) ⌝ }
+{
+    match reply {
+        VerdictReply::Holds => 1,
+        VerdictReply::Fails => 0,
+        VerdictReply::TableForeign => 0,
+        VerdictReply::FormulaForeign => 1,
+        VerdictReply::BufferShort(needed) => needed as u64,
+    }
+}
+
+pub fn build_number(reply: BuildReply) -> u32
+    ensures { λ r. ⌜ r ≡ numberIn (buildReply reply) ⌝ }
+{
+    match reply {
+        BuildReply::Built(_, _) => 0,
+        BuildReply::RowsShort(_) => 11,
+        BuildReply::EdgesShort(_) => 12,
+        BuildReply::TableForeign => 10,
+        BuildReply::FormulaForeign => 10,
+        BuildReply::BufferShort(_) => 14,
+    }
+}
+
+pub fn build_figure(reply: BuildReply) -> u64
+    ensures { λ r. ⌜ r ≡ figureIn (λ counts. counts .rows) (buildReply reply) ⌝ }
+{
+    match reply {
+        BuildReply::Built(rows, _) => rows as u64,
+        BuildReply::RowsShort(needed) => needed as u64,
+        BuildReply::EdgesShort(needed) => needed as u64,
+        BuildReply::TableForeign => 0,
+        BuildReply::FormulaForeign => 1,
+        BuildReply::BufferShort(needed) => needed as u64,
+    }
+}
+
+pub fn word_number(reply: WordReply) -> u32
+    ensures { λ r. ⌜ r ≡ numberIn (wordReply reply) ⌝ }
+{
+    match reply {
+        WordReply::Accepted => 0,
+        WordReply::NotAccepted => 0,
+        WordReply::WordBad(_) => 13,
+        WordReply::TableForeign => 10,
+        WordReply::FormulaForeign => 10,
+        WordReply::BufferShort(_) => 14,
+    }
+}
+
+pub fn word_figure(reply: WordReply) -> u64
+    ensures { λ r. ⌜ r ≡ figureIn (λ accepted. accepted) (wordReply reply) ⌝ }
+{
+    match reply {
+        WordReply::Accepted => 1,
+        WordReply::NotAccepted => 0,
+        WordReply::WordBad(index) => index as u64,
+        WordReply::TableForeign => 0,
+        WordReply::FormulaForeign => 1,
+        WordReply::BufferShort(needed) => needed as u64,
+    }
+}

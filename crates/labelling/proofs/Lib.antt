@@ -1,0 +1,6 @@
+pub mod Runs
+pub mod Count
+pub mod Leads
+pub mod Satisfaction
+pub mod Verdicts
+pub mod Laws

@@ -1,0 +1,54 @@
+-- The steps that leave a state: those of `stepsFrom` are the table's, idle steps included, and every state has one.
+use mathlib.Core.Path.{_≡_, refl, sym, ap, _∙_, subst}
+use mathlib.Core.Logic.{_⊎_, inl, inr, _↔_}
+use mathlib.Core.List.{List, [], _∷_, List·Memᴰ, List·Memᴰ·head, List·Memᴰ·tail, List·Memᴰ·not-nil, List·Memᴰ·eq-of-singleton}
+use Prim.Native.Nat.{ℕ}
+use borrow.Author.Tests.{eqb-true, eq-eqb}
+use Rattle.lts.specs.Lists.{keep, orElse}
+use Rattle.lts.specs.Steps.{Step, Table, IsStep, Exitless, idleAt, leaves, stepsFrom}
+use Rattle.lts.proofs.Lists.{keep-of, keep-to}
+
+-- A step that leaves s.
+abbrev pub From : Table → ℕ → Type 0
+From t s = (st : Step) × (st .from ≡ s) × IsStep t st
+
+module _ (t : Table) (s : ℕ) where
+  abbrev Leaving : List Step → Type 0
+  Leaving l = keep (leaves s) (t .transitions) ≡ l
+
+  leaving-of : {l : List Step} {st : Step} → Leaving l → List·Memᴰ st l → (st .from ≡ s) × List·Memᴰ st (t .transitions)
+  leaving-of {l} {st} e m =
+      let d = keep-of (leaves s) (t .transitions) (subst (λ (z : List Step). List·Memᴰ st z) (sym e) m) in
+      (eqb-true (st .from) s (d .1), d .0)
+
+  leaving-to : {l : List Step} {st : Step} → Leaving l → st .from ≡ s → List·Memᴰ st (t .transitions) → List·Memᴰ st l
+  leaving-to {l} {st} e d m = subst (λ (z : List Step). List·Memᴰ st z) e (keep-to (leaves s) (t .transitions) m (eq-eqb (st .from) s d))
+
+  exitless : Leaving [] → (v : ℕ) → v ≡ s → Exitless t v
+  exitless e v d x m h = List·Memᴰ·not-nil (leaving-to e (h ∙ d) m)
+
+  step-of : {st : Step} (l : List Step) → Leaving l → List·Memᴰ st (orElse l (idleAt s ∷ [])) → (st .from ≡ s) × IsStep t st
+  step-of {st} [] e m =
+      let q = List·Memᴰ·eq-of-singleton m in
+      let d : st .from ≡ s = ap (λ (x : Step). x .from) q in
+      (d, inr (q ∙ ap idleAt (sym d), exitless e (st .from) d))
+  step-of (x ∷ l) e m = let (d, n) = leaving-of e m in (d, inl n)
+
+  step-to : {st : Step} (l : List Step) → Leaving l → st .from ≡ s → IsStep t st → List·Memᴰ st (orElse l (idleAt s ∷ []))
+  step-to [] e d (inl m) = absurd (List·Memᴰ·not-nil (leaving-to e d m))
+  step-to [] e d (inr (q, n)) = List·Memᴰ·head (q ∙ ap idleAt d)
+  step-to (x ∷ l) e d (inl m) = leaving-to e d m
+  step-to (x ∷ l) e d (inr (q, n)) = let (b, m) = leaving-of {l = x ∷ l} e (List·Memᴰ·head refl) in absurd (n x m (b ∙ sym d))
+
+  pub steps-are : (st : Step) → List·Memᴰ st (stepsFrom t s) ↔ ((st .from ≡ s) × IsStep t st)
+  unfolding stepsFrom
+  steps-are st = (step-of (keep (leaves s) (t .transitions)) refl, λ (d, i). step-to (keep (leaves s) (t .transitions)) refl d i)
+
+  some-of-these : (l : List Step) → (st : Step) × List·Memᴰ st (orElse l (idleAt s ∷ []))
+  some-of-these [] = (idleAt s, List·Memᴰ·head refl)
+  some-of-these (x ∷ l) = (x, List·Memᴰ·head refl)
+
+  -- Every state has a step.
+  pub total : From t s
+  unfolding stepsFrom
+  total = let (st, m) = some-of-these (keep (leaves s) (t .transitions)) in let (d, i) = steps-are st .0 m in (st, d, i)

@@ -1,0 +1,82 @@
+-- `name_length` answers `nameLength`: the invariant is `NameSoFar`, what is left of the run.
+use borrow.Author.Tests.{not-true, not-false}
+use mathlib.Core.Path.{sym, _∙_}
+use Prim.Native.Nat.{_-_}
+use borrow.Author.Needs.{needs}
+use native.Mathlib.Omega.{arith}
+use Rattle.lts.proofs.Laws.NameRuns.{NameSoFar, no-text, no-letter, run-starts, run-at-end, run-stops, run-goes-on, run-full}
+use Rattle.lts.proofs.reading.name_length.Statement.{statement}
+use Rattle.lts.proofs.reading.name_length.Tie as tie
+
+abbrev Inv-loop : tie.InvT-loop
+Inv-loop text at n₀ n = NameSoFar text at n
+
+abbrev μ-loop : tie.MeasureT-loop
+μ-loop text at n₀ n = 12 - n
+
+returns : tie.Need-returns Inv-loop μ-loop
+returns c = no-text (c .before .before .args .text .now) (c .before .before .args .at) (c .if1 .taken)
+
+shared-slice-read-is-lower : tie.Need-shared-slice-read-is-lower Inv-loop μ-loop
+shared-slice-read-is-lower c = omega arith
+
+is-lower-requires : tie.Need-is-lower-requires Inv-loop μ-loop
+is-lower-requires c κs = search needs
+
+returns-2 : tie.Need-returns-2 Inv-loop μ-loop
+returns-2 c = no-letter (c .before .before .before .before .before .args .text .now) (c .before .before .before .before .before .args .at) (c .before .before .before .if1 .left) (sym (c .before .is-lower .ensures) ∙ not-true _ (c .if2 .taken))
+
+loop-holds : tie.Need-loop-holds Inv-loop μ-loop
+loop-holds c = run-starts (c .before .before .before .before .before .args .text .now) (c .before .before .before .before .before .args .at) (c .before .before .before .if1 .left) (sym (c .before .is-lower .ensures) ∙ not-false _ (c .if2 .left))
+
+add-if3 : tie.Need-add-if3 Inv-loop μ-loop
+add-if3 c = omega arith
+
+returns-3 : tie.Need-returns-3 Inv-loop μ-loop
+returns-3 c = let l = c .before .before .loop in run-at-end (c .before .before .before .before .before .before .before .before .args .text .now) (c .before .before .before .before .before .before .before .before .args .at) (l .n) (l .inv) (c .if3 .taken)
+
+add-is-name-byte : tie.Need-add-is-name-byte Inv-loop μ-loop
+add-is-name-byte c = omega arith
+
+shared-slice-read-is-name-byte : tie.Need-shared-slice-read-is-name-byte Inv-loop μ-loop
+shared-slice-read-is-name-byte c = omega arith
+
+is-name-byte-requires : tie.Need-is-name-byte-requires Inv-loop μ-loop
+is-name-byte-requires c κs = search needs
+
+returns-4 : tie.Need-returns-4 Inv-loop μ-loop
+returns-4 c = let l = c .before .before .before .before .before .loop in run-stops (c .before .before .before .before .before .before .before .before .before .before .before .args .text .now) (c .before .before .before .before .before .before .before .before .before .before .before .args .at) (l .n) (l .inv) (c .before .before .before .before .loop-test .taken) (c .before .before .before .if3 .left) (sym (c .before .is-name-byte .ensures) ∙ not-true _ (c .if4 .taken))
+
+add-n : tie.Need-add-n Inv-loop μ-loop
+add-n c = omega arith
+
+loop-less : tie.Need-loop-less Inv-loop μ-loop
+loop-less c = omega arith
+
+loop-again : tie.Need-loop-again Inv-loop μ-loop
+loop-again c = let l = c .before .before .before .before .before .loop in run-goes-on (c .before .before .before .before .before .before .before .before .before .before .before .args .text .now) (c .before .before .before .before .before .before .before .before .before .before .before .args .at) (l .n) (l .inv) (c .before .before .before .before .loop-test .taken) (c .before .before .before .if3 .left) (sym (c .before .is-name-byte .ensures) ∙ not-false _ (c .if4 .left))
+
+returns-5 : tie.Need-returns-5 Inv-loop μ-loop
+returns-5 c = let l = c .before .loop in run-full (c .before .before .before .before .before .before .before .args .text .now) (c .before .before .before .before .before .before .before .args .at) (l .n) (l .inv) (c .loop-test .left)
+
+pub name-length-spec : {M : Type 1} → statement M
+name-length-spec =
+    tie.close
+    (tie.spec
+    Inv-loop
+    μ-loop
+    returns
+    shared-slice-read-is-lower
+    is-lower-requires
+    returns-2
+    loop-holds
+    add-if3
+    returns-3
+    add-is-name-byte
+    shared-slice-read-is-name-byte
+    is-name-byte-requires
+    returns-4
+    add-n
+    loop-less
+    loop-again
+    returns-5)

@@ -1,0 +1,454 @@
+// Reading a table's text, line by line. Names and transitions are gathered in local bytes, laid out as in the prepared table, so that
+// the lent bytes are written only when the whole text is accepted.
+ghost use mathlib.Core.Path.{_≡_};
+ghost use Prim.Native.Nat.{_+_, _*_, _<_, _≤_};
+ghost use lib.Dec.{eqb};
+ghost use lib.ListN.{length, getD, drop, replicate};
+ghost use Rattle.columns.specs.Bytes.{sameBytes};
+ghost use Rattle.lts.specs.Names.{isLower, isNameByte};
+ghost use Rattle.lts.specs.Reading.{headerInRange, stepInRange, stepBelow, used};
+ghost use Rattle.lts.specs.Prepared.{transitionSlot};
+ghost use Rattle.lts.specs.Replies.{tableReply, tableReplied, tableLeft};
+ghost use Rattle.lts.specs.Slots.{written, storedNames, risesAfter, headBytes, storedName, counted};
+ghost use Rattle.lts.specs.Lines.{nameLength, header, step, HeaderSays, LabelSays, TransitionSays};
+ghost use Rattle.lts.specs.Turns.{LabelTurn, LabelsRead, TransitionTurn, TransitionsRead};
+ghost use Rattle.lts.specs.Reply.{overwritten};
+ghost use mathlib.Core.List.{_++_};
+use crate::TableReply;
+use columns::Column;
+
+// What line 1 says.
+pub struct Counts {
+    pub states: usize,
+    pub labels: usize,
+    pub transitions: usize,
+    pub start: usize,
+}
+
+pub enum HeaderLine {
+    Header(Counts),
+    NoHeader,
+}
+
+// A label's number, and where its name ends.
+pub enum LabelLine {
+    Label(usize, usize),
+    NoLabel,
+}
+
+pub struct Transition {
+    pub from: usize,
+    pub label: usize,
+    pub to: usize,
+}
+
+pub enum TransitionLine {
+    Row(Transition),
+    NoRow,
+}
+
+// Where the next line starts; or what the entry answers.
+pub enum Turn {
+    Next(usize),
+    Refused(TableReply),
+}
+
+// Whether a byte stands at a place.
+fn stands(text: &[u8], at: usize, byte: u8) -> bool
+    ensures { λ r. ⌜ r ≡ eqb (getD (now (text .entry)) at 256) byte ⌝ }
+{
+    if text.len() <= at {
+        return false;
+    }
+    text[at] == byte
+}
+
+fn is_lower(b: u8) -> bool
+    ensures { λ r. ⌜ r ≡ isLower b ⌝ }
+{
+    if b < 97 {
+        return false;
+    }
+    b <= 122
+}
+
+fn is_name_byte(b: u8) -> bool
+    ensures { λ r. ⌜ r ≡ isNameByte b ⌝ }
+{
+    if is_lower(b) {
+        return true;
+    }
+    if b == 95 {
+        return true;
+    }
+    if b < 48 {
+        return false;
+    }
+    b <= 57
+}
+
+// How many bytes of a name stand at `at`, the longest way, up to 12.
+fn name_length(text: &[u8], at: usize) -> usize
+    requires { ⌜ at ≤ length (now text) ⌝ }
+    ensures { λ r. ⌜ r ≡ nameLength (drop at (now (text .entry))) ⌝ }
+{
+    if text.len() <= at {
+        return 0;
+    }
+    if !is_lower(text[at]) {
+        return 0;
+    }
+    let mut n: usize = 1;
+    while n < 12 {
+        if text.len() <= at + n {
+            return n;
+        }
+        if !is_name_byte(text[at + n]) {
+            return n;
+        }
+        n += 1;
+    }
+    n
+}
+
+fn same_bytes(a: &[u8], b: &[u8]) -> bool
+    ensures { λ r. ⌜ r ≡ sameBytes (now (a .entry)) (now (b .entry)) ⌝ }
+{
+    if a.len() != b.len() {
+        return false;
+    }
+    let mut i = 0;
+    while i < a.len() {
+        if a[i] != b[i] {
+            return false;
+        }
+        i += 1;
+    }
+    true
+}
+
+// Whether a name is one of the first `count` in the name slots.
+fn name_used(names: &[u8], count: usize, name: &[u8]) -> bool
+    requires { ⌜ (length (now names) ≡ 640) × ((count ≤ 40) × (length (now name) ≤ 12)) ⌝ }
+    ensures { λ r. ⌜ r ≡ used (storedNames (now (names .entry)) count) (now (name .entry)) ⌝ }
+{
+    let mut k = 0;
+    while k < count {
+        if holds_name(names, k, name) {
+            return true;
+        }
+        k += 1;
+    }
+    false
+}
+
+fn holds_name(names: &[u8], k: usize, name: &[u8]) -> bool
+    requires { ⌜ (length (now names) ≡ 640) × ((k < 40) × (length (now name) ≤ 12)) ⌝ }
+    ensures { λ r. ⌜ r ≡ sameBytes (storedName (now (names .entry)) k) (now (name .entry)) ⌝ }
+{
+    let n = names[k * 16] as usize;
+    if n != name.len() {
+        return false;
+    }
+    let from = k * 16 + 1;
+    let to = from + n;
+    same_bytes(&names[from..to], name)
+}
+
+fn write_at(bytes: &mut [u8], at: usize, part: &[u8])
+    requires { ⌜ at + length (now part) ≤ length (now bytes) ⌝ }
+    ensures { λ _. ⌜ now (bytes .exit) ≡ written (now (bytes .entry)) at (now (part .entry)) ⌝ }
+{
+    let mut i = 0;
+    while i < part.len() {
+        bytes[at + i] = part[i];
+        i += 1;
+    }
+}
+
+fn header_line(text: &[u8]) -> HeaderLine
+    ensures { λ r. ⌜ HeaderSays (now (text .entry)) r ⌝ }
+{
+    let Column::Number(states) = columns::read_column(text, 0) else {
+        return HeaderLine::NoHeader;
+    };
+    let Column::Number(labels) = columns::read_column(text, 6) else {
+        return HeaderLine::NoHeader;
+    };
+    let Column::Number(transitions) = columns::read_column(text, 12) else {
+        return HeaderLine::NoHeader;
+    };
+    let Column::Number(start) = columns::read_column(text, 18) else {
+        return HeaderLine::NoHeader;
+    };
+    if stands(text, 24, 10) {
+        HeaderLine::Header(Counts {
+            states: states,
+            labels: labels,
+            transitions: transitions,
+            start: start,
+        })
+    } else {
+        HeaderLine::NoHeader
+    }
+}
+
+fn label_line(text: &[u8], at: usize) -> LabelLine
+    requires { ⌜ at ≤ length (now text) ⌝ }
+    ensures { λ r. ⌜ LabelSays (now (text .entry)) at r ⌝ }
+{
+    let Column::Number(number) = columns::read_column(text, at) else {
+        return LabelLine::NoLabel;
+    };
+    if !stands(text, at + 6, 32) {
+        return LabelLine::NoLabel;
+    }
+    let from = at + 7;
+    let n = name_length(text, from);
+    if n == 0 {
+        return LabelLine::NoLabel;
+    }
+    let end = from + n;
+    if stands(text, end, 10) {
+        LabelLine::Label(number, end)
+    } else {
+        LabelLine::NoLabel
+    }
+}
+
+fn transition_line(text: &[u8], at: usize) -> TransitionLine
+    requires { ⌜ at ≤ length (now text) ⌝ }
+    ensures { λ r. ⌜ TransitionSays (now (text .entry)) at r ⌝ }
+{
+    let Column::Number(from) = columns::read_column(text, at) else {
+        return TransitionLine::NoRow;
+    };
+    let Column::Number(label) = columns::read_column(text, at + 6) else {
+        return TransitionLine::NoRow;
+    };
+    let Column::Number(to) = columns::read_column(text, at + 12) else {
+        return TransitionLine::NoRow;
+    };
+    if stands(text, at + 18, 10) {
+        TransitionLine::Row(Transition {
+            from: from,
+            label: label,
+            to: to,
+        })
+    } else {
+        TransitionLine::NoRow
+    }
+}
+
+fn header_in_range(c: Counts) -> bool
+    ensures { λ r. ⌜ r ≡ headerInRange (header c) ⌝ }
+{
+    if c.states < 1 {
+        return false;
+    }
+    if 256 < c.states {
+        return false;
+    }
+    if 40 < c.labels {
+        return false;
+    }
+    if 1024 < c.transitions {
+        return false;
+    }
+    c.start < c.states
+}
+
+fn transition_in_range(c: Counts, t: Transition) -> bool
+    ensures { λ r. ⌜ r ≡ stepInRange (header c) (step t) ⌝ }
+{
+    if c.states <= t.from {
+        return false;
+    }
+    if c.labels < t.label {
+        return false;
+    }
+    t.to < c.states
+}
+
+fn below(a: Transition, b: Transition) -> bool
+    ensures { λ r. ⌜ r ≡ stepBelow (step a) (step b) ⌝ }
+{
+    if a.from < b.from {
+        return true;
+    }
+    if b.from < a.from {
+        return false;
+    }
+    if a.label < b.label {
+        return true;
+    }
+    if b.label < a.label {
+        return false;
+    }
+    a.to < b.to
+}
+
+// Whether a transition is above the last of the first `count` in the transition slots.
+fn rises(slots: &[u8], count: usize, t: Transition) -> bool
+    requires { ⌜ (length (now slots) ≡ 3072) × (count ≤ 1024) ⌝ }
+    ensures { λ r. ⌜ r ≡ risesAfter (now (slots .entry)) count (step t) ⌝ }
+{
+    if count == 0 {
+        return true;
+    }
+    let i = (count - 1) * 3;
+    let last = Transition {
+        from: slots[i] as usize,
+        label: slots[i + 1] as usize,
+        to: slots[i + 2] as usize,
+    };
+    below(last, t)
+}
+
+fn write_transition(slots: &mut [u8], count: usize, t: Transition)
+    requires { ⌜ (count * 3 + 3 ≤ length (now slots)) × ((t .from < 256) × ((t .label < 256) × (t .to < 256))) ⌝ }
+    ensures { λ _. ⌜ now (slots .exit) ≡ written (now (slots .entry)) (count * 3) (transitionSlot (step t)) ⌝ }
+{
+    let i = count * 3;
+    slots[i] = t.from as u8;
+    slots[i + 1] = t.label as u8;
+    slots[i + 2] = t.to as u8;
+}
+
+fn write_name(names: &mut [u8], count: usize, name: &[u8])
+    requires { ⌜ (count * 16 + 16 ≤ length (now names)) × (length (now name) ≤ 12) ⌝ }
+    ensures { λ _. ⌜ now (names .exit) ≡ written (now (names .entry)) (count * 16) (counted (now (name .entry))) ⌝ }
+{
+    let i = count * 16;
+    names[i] = name.len() as u8;
+    write_at(names, i + 1, name);
+}
+
+// The line of the label after `count` names.
+fn read_label(text: &[u8], at: usize, names: &mut [u8], count: usize) -> Turn
+    requires { ⌜ (at ≤ length (now text)) × ((length (now names) ≡ 640) × (count < 40)) ⌝ }
+    ensures { λ r. ⌜ LabelTurn (now (text .entry)) at count (now (names .entry)) (now (names .exit)) r ⌝ }
+{
+    let line = count + 2;
+    let LabelLine::Label(number, end) = label_line(text, at) else {
+        return Turn::Refused(TableReply::NotLaidOut(line));
+    };
+    if number != count + 1 {
+        return Turn::Refused(TableReply::OutOfRange(line));
+    }
+    let from = at + 7;
+    if name_used(names, count, &text[from..end]) {
+        return Turn::Refused(TableReply::NameRepeated(line));
+    }
+    write_name(names, count, &text[from..end]);
+    Turn::Next(end + 1)
+}
+
+// The lines of all labels, from `from`.
+fn read_labels(text: &[u8], from: usize, counts: Counts, names: &mut [u8]) -> Turn
+    requires { ⌜ (from ≤ length (now text)) × ((now names ≡ replicate 640 0) × (counts .labels ≤ 40)) ⌝ }
+    ensures { λ r. ⌜ LabelsRead (header counts) (now (text .entry)) from (now (names .exit)) r ⌝ }
+{
+    let mut at = from;
+    let mut count: usize = 0;
+    while count < counts.labels {
+        let turn = read_label(text, at, names, count);
+        let Turn::Next(to) = turn else {
+            return turn;
+        };
+        at = to;
+        count += 1;
+    }
+    Turn::Next(at)
+}
+
+// The line of the transition after `count` others.
+fn read_transition(text: &[u8], at: usize, counts: Counts, slots: &mut [u8], count: usize) -> Turn
+    requires { ⌜ (at ≤ length (now text)) × ((length (now slots) ≡ 3072) × (count < 1024)) ⌝ }
+    requires { ⌜ (counts .states ≤ 256) × (counts .labels ≤ 40) ⌝ }
+    ensures { λ r. ⌜ TransitionTurn (header counts) (now (text .entry)) at count (now (slots .entry)) (now (slots .exit)) r ⌝ }
+{
+    let line = counts.labels + count + 2;
+    let TransitionLine::Row(t) = transition_line(text, at) else {
+        return Turn::Refused(TableReply::NotLaidOut(line));
+    };
+    if !transition_in_range(counts, t) {
+        return Turn::Refused(TableReply::OutOfRange(line));
+    }
+    if !rises(slots, count, t) {
+        return Turn::Refused(TableReply::NotRising(line));
+    }
+    write_transition(slots, count, t);
+    Turn::Next(at + 19)
+}
+
+// The lines of all transitions, from `from`, and the end of the text.
+fn read_transitions(text: &[u8], from: usize, counts: Counts, slots: &mut [u8]) -> Turn
+    requires { ⌜ (from ≤ length (now text)) × (now slots ≡ replicate 3072 0) ⌝ }
+    requires { ⌜ (counts .states ≤ 256) × ((counts .labels ≤ 40) × (counts .transitions ≤ 1024)) ⌝ }
+    ensures { λ r. ⌜ TransitionsRead (header counts) (now (text .entry)) from (now (slots .exit)) r ⌝ }
+{
+    let mut at = from;
+    let mut count: usize = 0;
+    while count < counts.transitions {
+        let turn = read_transition(text, at, counts, slots, count);
+        let Turn::Next(to) = turn else {
+            return turn;
+        };
+        at = to;
+        count += 1;
+    }
+    if at < text.len() {
+        return Turn::Refused(TableReply::NotLaidOut(counts.labels + count + 2));
+    }
+    Turn::Next(at)
+}
+
+fn write_table(table: &mut [u8], counts: Counts, names: &[u8], slots: &[u8])
+    requires { ⌜ (3718 ≤ length (now table)) × ((length (now names) ≡ 640) × (length (now slots) ≡ 3072)) ⌝ }
+    requires { ⌜ (counts .states ≤ 256) × ((counts .labels ≤ 40) × ((counts .transitions ≤ 1024) × (counts .start < 256))) ⌝ }
+    ensures { λ _. ⌜ now (table .exit) ≡ overwritten (headBytes (header counts) ++ (now (names .entry) ++ now (slots .entry))) (now (table .entry)) ⌝ }
+{
+    let mut head = [0u8; 6];
+    head[0] = (counts.states % 256) as u8;
+    head[1] = (counts.states / 256 % 256) as u8;
+    head[2] = counts.labels as u8;
+    head[3] = (counts.transitions % 256) as u8;
+    head[4] = (counts.transitions / 256 % 256) as u8;
+    head[5] = counts.start as u8;
+    write_at(table, 0, &head);
+    write_at(table, 6, names);
+    write_at(table, 646, slots);
+}
+
+// Reads a table's text into the prepared bytes.
+pub fn read_table(text: &[u8], table: &mut [u8]) -> TableReply
+    ensures { λ r. ⌜ tableReply r ≡ tableReplied (now (text .entry)) (now (table .entry)) ⌝ }
+    ensures { λ _. ⌜ now (table .exit) ≡ tableLeft (now (text .entry)) (now (table .entry)) ⌝ }
+{
+    if table.len() < 3718 {
+        return TableReply::BufferShort(3718);
+    }
+    let HeaderLine::Header(counts) = header_line(text) else {
+        return TableReply::NotLaidOut(1);
+    };
+    if !header_in_range(counts) {
+        return TableReply::OutOfRange(1);
+    }
+    let mut names = [0u8; 640];
+    let labels_read = read_labels(text, 25, counts, &mut names);
+    match labels_read {
+        Turn::Refused(reply) => reply,
+        Turn::Next(at) => {
+            let mut slots = [0u8; 3072];
+            let transitions_read = read_transitions(text, at, counts, &mut slots);
+            match transitions_read {
+                Turn::Refused(reply) => reply,
+                Turn::Next(_) => {
+                    write_table(table, counts, &names, &slots);
+                    TableReply::Accepted
+                }
+            }
+        }
+    }
+}
