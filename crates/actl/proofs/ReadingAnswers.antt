@@ -46,9 +46,6 @@ bind-numbered d g h [] j e = refl
 bind-numbered d g h (x ∷ l) j e = λ n. (ap g (sym (add-zero j)) ∙ e 0 (omega arith)) n ++ bind-numbered d g h l (suc j) (λ i w. ap g (let z : suc j + i ≡ j + suc i = omega arith in z) ∙ e (suc i) (omega arith)) n
 
 module _ (c : List ℕ) (n : ℕ) (F : Formula) (count : n ≡ size F) (cells : take (n * 3) c ≡ nodeCells F) where
-  at-node : (k : ℕ) → k < n → Formula
-  at-node k h = getD (nodes F) k tru
-
   cell-of : (k j : ℕ) → k < n → j < 3 → getD c (k * 3 + j) 0 ≡ getD (slotCells (slotOf (getD (nodes F) k tru))) j 0
   cell-of k j h w =
       let l = length-nodes F in

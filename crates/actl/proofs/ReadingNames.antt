@@ -10,20 +10,13 @@ use lib.Dec.{leb, eqb}
 use lib.ListN.{length, getD, drop, length-append, drop-of-length-le}
 use lib.Seq.{drop-cons}
 use Rattle.lts.specs.Names.{isLower, isNameByte, atMost, isName}
+use Rattle.lts.proofs.Lists.{and-true-of, and-true-to}
 use Rattle.actl.specs.Grammar.{Name, Operand, name, except}
 use Rattle.actl.specs.Reader.{InOperand, oFirst, oOr, oNot, operandAt, naming, Step, step, finish, go, on, named, leaveO, plugO, proceed, run, refused}
 use Rattle.actl.specs.Cursor.{peek, Named}
 use Rattle.actl.proofs.ReadingPlaces.{byte-at, inside, getD-any}
 
 -- Tests.
-both : (a b : Bool) → a && b ≡ true → (a ≡ true) × (b ≡ true)
-both true b e = (refl, e)
-both false b e = absurd (true≢false (sym e))
-
-and-true : (a b : Bool) → a ≡ true → b ≡ true → a && b ≡ true
-and-true true b p q = q
-and-true false b p q = p
-
 and-false : (a b : Bool) → b ≡ false → a && b ≡ false
 and-false true b q = q
 and-false false b q = refl
@@ -33,17 +26,17 @@ or-false true b e = e
 or-false false b e = refl
 
 pub lower-small : (b : ℕ) → isLower b ≡ true → b < 256
-lower-small b h = omega (arith, leb-true b 122 (both (leb 97 b) (leb b 122) h .1))
+lower-small b h = omega (arith, leb-true b 122 (and-true-of (leb 97 b) (leb b 122) h .1))
 
 -- One byte more, or none.
 atMost-grows : (n : ℕ) (p : List ℕ) (b : ℕ) → atMost n p ≡ true → length p < n → isNameByte b ≡ true → atMost n (p ++ (b ∷ [])) ≡ true
 atMost-grows zero p b e h i = absurd (omega arith)
-atMost-grows (suc n) [] b e h i = and-true (isNameByte b) true i refl
-atMost-grows (suc n) (c ∷ p) b e h i = let (x, y) = both (isNameByte c) (atMost n p) e in and-true (isNameByte c) _ x (atMost-grows n p b y (omega arith) i)
+atMost-grows (suc n) [] b e h i = and-true-to (isNameByte b) true i refl
+atMost-grows (suc n) (c ∷ p) b e h i = let (x, y) = and-true-of (isNameByte c) (atMost n p) e in and-true-to (isNameByte c) _ x (atMost-grows n p b y (omega arith) i)
 
 name-grows : (p : List ℕ) (b : ℕ) → isName p ≡ true → length p < 12 → isNameByte b ≡ true → isName (p ++ (b ∷ [])) ≡ true
 name-grows [] b e h i = absurd (true≢false (sym e))
-name-grows (c ∷ p) b e h i = let (x, y) = both (isLower c) (atMost 11 p) e in and-true (isLower c) _ x (atMost-grows 11 p b y (omega arith) i)
+name-grows (c ∷ p) b e h i = let (x, y) = and-true-of (isLower c) (atMost 11 p) e in and-true-to (isLower c) _ x (atMost-grows 11 p b y (omega arith) i)
 
 atMost-full : (n : ℕ) (p : List ℕ) (b : ℕ) → n ≤ length p → atMost n (p ++ (b ∷ [])) ≡ false
 atMost-full zero [] b h = refl
@@ -82,7 +75,7 @@ on-not b m y z p q = ap (λ t. cond t y z) (lower-not b m p q)
 
 name-starts : (b : ℕ) (k : InOperand) (h : isName (b ∷ []) ≡ true) → step (operandAt k) b ≡ go (naming (record { bytes = b ∷ []; fits = h }) k)
 name-starts b k h =
-    let l = both (isLower b) true h .0 in
+    let l = and-true-of (isLower b) true h .0 in
     on-not b 32 _ _ l refl ∙ (on-not b 42 _ _ l refl ∙ (on-not b 126 _ _ l refl ∙ (on-not b 40 _ _ l refl ∙ named-yes (b ∷ []) k (isName (b ∷ [])) refl _ h)))
 
 leave-step : (o : Operand) (k : InOperand) (b : ℕ) → leaveO o k b ≡ step (plugO o k) b
@@ -111,7 +104,7 @@ pub record Spelled (s : List ℕ) (at to : ℕ) : Type 0 where
 spell-first-peek : (s : List ℕ) (at : ℕ) → isLower (peek s at) ≡ true → Spelled s at (at + 1)
 spell-first-peek s at h =
     let b = peek s at in
-    let i : isName (b ∷ []) ≡ true = and-true (isLower b) true h refl in
+    let i : isName (b ∷ []) ≡ true = and-true-to (isLower b) true h refl in
     let d = byte-at s at b refl (lower-small b h) in
     record {
       value = record { bytes = b ∷ []; fits = i };
