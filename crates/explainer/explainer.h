@@ -28,6 +28,10 @@ uint32_t explainer_read_formula(const uint8_t *table, size_t table_len, const ui
 /* Whether a prepared formula holds at the start of a prepared table. Accepted: *figure is 1 if it holds, else 0. */
 uint32_t explainer_verdict(const uint8_t *table, size_t table_len, const uint8_t *formula, size_t formula_len, uint64_t *figure);
 
+/* Whether the automaton of a prepared table and a prepared formula accepts a word. Accepted: *figure is 1 if it does, else 0. */
+uint32_t explainer_accepts(const uint8_t *table, size_t table_len, const uint8_t *formula, size_t formula_len,
+                           const uint8_t *word, size_t word_len, uint64_t *figure);
+
 #ifdef __cplusplus
 }
 #endif

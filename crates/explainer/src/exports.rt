@@ -3,6 +3,7 @@ ghost use mathlib.Core.Path.{_≡_};
 ghost use Rattle.lts.specs.Replies.{tableReplied, tableLeft};
 ghost use Rattle.actl.specs.Replies.{formulaReplied, formulaLeft};
 ghost use Rattle.labelling.specs.Replies.{verdictReplied};
+ghost use Rattle.automaton.specs.Replies.{wordReplied};
 ghost use Rattle.explainer.specs.Interface.{numberIn, figureIn};
 use crate::interface::formula_figure;
 use crate::interface::formula_number;
@@ -10,7 +11,10 @@ use crate::interface::table_figure;
 use crate::interface::table_number;
 use crate::interface::verdict_figure;
 use crate::interface::verdict_number;
+use crate::interface::word_figure;
+use crate::interface::word_number;
 use actl::read_formula;
+use automaton::words::accepts;
 use labelling::verdict;
 use lts::reading::read_table;
 
@@ -49,4 +53,19 @@ pub extern "C" fn explainer_verdict(table: &[u8], formula: &[u8], figure: &mut u
     let reply = verdict(table, formula);
     *figure = verdict_figure(reply);
     verdict_number(reply)
+}
+
+#[no_mangle]
+pub extern "C" fn explainer_accepts(
+    table: &[u8],
+    formula: &[u8],
+    word: &[u8],
+    figure: &mut u64,
+) -> u32
+    ensures { λ r. ⌜ r ≡ numberIn (wordReplied (now (table .entry)) (now (formula .entry)) (now (word .entry))) ⌝ }
+    ensures { λ _. ⌜ now (figure .exit) ≡ figureIn (λ accepted. accepted) (wordReplied (now (table .entry)) (now (formula .entry)) (now (word .entry))) ⌝ }
+{
+    let reply = accepts(table, formula, word);
+    *figure = word_figure(reply);
+    word_number(reply)
 }
