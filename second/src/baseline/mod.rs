@@ -1,0 +1,24 @@
+//! The same entries written for speed, as a measure for the benchmarks: one pass over each text,
+//! labelling by worklist over predecessors, target places as masks.
+
+mod automaton;
+mod graph;
+mod labelling;
+mod prepared;
+mod read_formula;
+mod read_table;
+
+pub use automaton::{accepts, build};
+pub use labelling::verdict;
+pub use read_formula::read_formula;
+pub use read_table::read_table;
+
+use crate::entries::Entries;
+
+pub const BASELINE: Entries = Entries {
+    read_table: Some(read_table),
+    read_formula: Some(read_formula),
+    verdict: Some(verdict),
+    build: Some(build),
+    accepts: Some(accepts),
+};

@@ -1,0 +1,234 @@
+//! A formula in one pass over its text, by recursive descent.
+
+use super::prepared::{
+    ALL_NEXT, ALL_NEXT_SILENT, NEXT, NEXT_SILENT, NOT, Node, OR, TRUE, Table, UNTIL, UNTIL_THEN,
+    checked_table, complete,
+};
+use crate::formula::{MAX_BYTES, MAX_NODES};
+use crate::prepared::{FORMULA_LENGTH, NAME_SLOT, NODE_SLOT, NODES};
+use crate::reply::{Refusal, Reply};
+use crate::table::{MAX_NAME, is_name_byte};
+
+pub fn read_formula(table: &[u8], text: &[u8], formula: &mut [u8]) -> Reply {
+    let Some(table) = table.first_chunk() else {
+        return Refusal::ShortTable.into();
+    };
+    let Some(lent) = formula.first_chunk_mut::<FORMULA_LENGTH>() else {
+        return Refusal::ShortFormula.into();
+    };
+    let Some(table) = checked_table(table) else {
+        return Refusal::PreparedTable.into();
+    };
+    match read(&table, text) {
+        Ok(form) => {
+            *lent = form;
+            Reply::accepted(0)
+        }
+        Err(refusal) => refusal.into(),
+    }
+}
+
+fn read(table: &Table, text: &[u8]) -> Result<[u8; FORMULA_LENGTH], Refusal> {
+    if text.len() > MAX_BYTES {
+        return Err(Refusal::FormulaLength(text.len()));
+    }
+    let mut parser =
+        Parser { table, text, at: 0, unknown: None, nodes: Vec::with_capacity(MAX_NODES) };
+    let whole = parser.formula();
+    if whole.is_none() || parser.at < text.len() {
+        return Err(Refusal::Grammar(parser.at));
+    }
+    if let Some(offset) = parser.unknown {
+        return Err(Refusal::UnknownName(offset));
+    }
+    let mut nodes = parser.nodes;
+    if nodes.len() > MAX_NODES {
+        return Err(Refusal::NodeCount(nodes.len()));
+    }
+    complete(&mut nodes).map_err(Refusal::NoClass)?;
+    Ok(form(&nodes))
+}
+
+fn form(nodes: &[Node]) -> [u8; FORMULA_LENGTH] {
+    let mut form = [0; FORMULA_LENGTH];
+    form[0] = nodes.len() as u8;
+    let slots = form[NODES..].as_chunks_mut::<NODE_SLOT>().0;
+    for (slot, node) in slots.iter_mut().zip(nodes) {
+        slot[0] = node.kind;
+        slot[1..9].copy_from_slice(&node.first.to_le_bytes());
+        slot[9..17].copy_from_slice(&node.then.to_le_bytes());
+    }
+    form
+}
+
+/// Reading fails with `at` where the longest viable beginning ends.
+struct Parser<'a> {
+    table: &'a Table<'a>,
+    text: &'a [u8],
+    at: usize,
+    unknown: Option<usize>,
+    nodes: Vec<Node>,
+}
+
+impl Parser<'_> {
+    fn next(&self) -> Option<u8> {
+        self.text.get(self.at).copied()
+    }
+
+    fn blanks(&mut self) {
+        while self.next() == Some(b' ') {
+            self.at += 1;
+        }
+    }
+
+    fn byte(&mut self, byte: u8) -> Option<()> {
+        (self.next() == Some(byte)).then(|| self.at += 1)
+    }
+
+    fn mark(&mut self, byte: u8) -> Option<()> {
+        self.blanks();
+        self.byte(byte)
+    }
+
+    fn formula(&mut self) -> Option<()> {
+        let first = self.nodes.len();
+        self.term()?;
+        loop {
+            let end = self.at;
+            if self.mark(b'|').is_none() {
+                // Blanks behind the last token of a bracket are its own; at the end they are viable
+                // and no more.
+                return (self.at < self.text.len() || self.at == end).then_some(());
+            }
+            self.blanks();
+            self.term()?;
+            let or = Node { kind: OR, ..Node::default() };
+            self.nodes.insert(first, or);
+        }
+    }
+
+    fn term(&mut self) -> Option<()> {
+        match self.next()? {
+            b'T' => {
+                self.at += 1;
+                self.push(TRUE, 0, 0);
+                Some(())
+            }
+            b'~' => {
+                self.at += 1;
+                self.push(NOT, 0, 0);
+                self.blanks();
+                self.term()
+            }
+            b'(' => {
+                self.at += 1;
+                self.blanks();
+                self.formula()?;
+                self.mark(b')')
+            }
+            b'E' => {
+                self.at += 1;
+                match self.next()? {
+                    b'X' => self.next_step(NEXT_SILENT, NEXT),
+                    b'U' => self.until(),
+                    _ => None,
+                }
+            }
+            b'A' => {
+                self.at += 1;
+                match self.next()? {
+                    b'X' => self.next_step(ALL_NEXT_SILENT, ALL_NEXT),
+                    _ => None,
+                }
+            }
+            _ => None,
+        }
+    }
+
+    fn push(&mut self, kind: u8, first: u64, then: u64) {
+        self.nodes.push(Node { kind, first, then, ..Node::default() });
+    }
+
+    fn next_step(&mut self, silent: u8, among: u8) -> Option<()> {
+        self.at += 1;
+        self.mark(b'[')?;
+        self.blanks();
+        if self.byte(b'.').is_some() {
+            self.push(silent, 0, 0);
+        } else {
+            let set = self.set()?;
+            self.push(among, set, 0);
+        }
+        self.mark(b']')?;
+        self.blanks();
+        self.term()
+    }
+
+    fn until(&mut self) -> Option<()> {
+        self.at += 1;
+        self.mark(b'[')?;
+        self.blanks();
+        let first = self.set()?;
+        if self.mark(b';').is_some() {
+            self.blanks();
+            let then = self.set()?;
+            self.push(UNTIL_THEN, first, then);
+        } else {
+            self.push(UNTIL, first, 0);
+        }
+        self.mark(b']')?;
+        self.blanks();
+        self.term()
+    }
+
+    fn all(&self) -> u64 {
+        ((1 << self.table.labels) - 1) << 1
+    }
+
+    fn set(&mut self) -> Option<u64> {
+        let mut set = self.operand()?;
+        while self.mark(b'|').is_some() {
+            self.blanks();
+            set |= self.operand()?;
+        }
+        Some(set)
+    }
+
+    fn operand(&mut self) -> Option<u64> {
+        match self.next()? {
+            b'*' => {
+                self.at += 1;
+                Some(self.all())
+            }
+            b'~' => {
+                self.at += 1;
+                self.blanks();
+                let operand = self.operand()?;
+                Some(self.all() & !operand)
+            }
+            b'(' => {
+                self.at += 1;
+                self.blanks();
+                let set = self.set()?;
+                self.mark(b')')?;
+                Some(set)
+            }
+            b'a'..=b'z' => Some(self.name()),
+            _ => None,
+        }
+    }
+
+    fn name(&mut self) -> u64 {
+        let bytes = &self.text[self.at..];
+        let length = bytes.iter().take(MAX_NAME).take_while(|&&byte| is_name_byte(byte)).count();
+        let mut slot = [0; NAME_SLOT];
+        slot[0] = length as u8;
+        slot[1..=length].copy_from_slice(&bytes[..length]);
+        let label = self.table.names.iter().position(|name| *name == slot);
+        if label.is_none() {
+            self.unknown.get_or_insert(self.at);
+        }
+        self.at += length;
+        label.map_or(0, |label| 2 << label)
+    }
+}

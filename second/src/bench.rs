@@ -1,0 +1,221 @@
+//! Time per call of the library's entries beside the baseline's, on the same inputs in one run.
+
+use std::hint::black_box;
+use std::io::{self, Write};
+use std::time::{Duration, Instant};
+
+use crate::baseline::BASELINE;
+use crate::entries::{EDGE_PLACE, Entries, ROW_PLACE};
+use crate::formula::{Formula, MAX_BYTES};
+use crate::fuzz::longest_listing;
+use crate::inputs::questions::Question;
+use crate::inputs::rng::Rng;
+use crate::inputs::tables;
+use crate::listing::Listing;
+use crate::prepared::{self, FORMULA_LENGTH, TABLE_LENGTH};
+use crate::reply::Reply;
+use crate::table::{MAX_LABELS, MAX_NAME, Table};
+use crate::word::MAX_WORD;
+
+/// The two explainers are timed in turn, so often; the shortest time of each counts.
+const ROUNDS: usize = 31;
+const ROUND: Duration = Duration::from_millis(4);
+
+struct Input {
+    size: &'static str,
+    table_text: Vec<u8>,
+    formula_text: Vec<u8>,
+    table: Vec<u8>,
+    formula: Vec<u8>,
+    word: Vec<u8>,
+}
+
+impl Input {
+    fn new(size: &'static str, formula_text: Vec<u8>, question: &Question) -> Input {
+        let Question { table, formula } = question;
+        Input {
+            size,
+            table_text: table.text(),
+            formula_text,
+            table: prepared::table_bytes(table),
+            formula: prepared::formula_bytes(formula),
+            word: word_along(&Listing::of(table, formula)),
+        }
+    }
+}
+
+fn inputs() -> [Input; 3] {
+    [small(), typical(), largest()]
+}
+
+/// Table M of 01.
+fn small() -> Input {
+    let text = b"     3     2     3     0\n     1 req\n     2 ack\n     \
+        0     1     1\n     1     0     2\n     1     2     0\n";
+    let table = Table::read(text).expect("a table");
+    read("small", table, b"EU[*;ack] T")
+}
+
+fn typical() -> Input {
+    let mut table = tables::with_counts(&mut Rng::new(2), 30, 8, 90);
+    let names = ["load", "unload", "clamp", "release", "frame", "drop", "retry", "ack"];
+    table.names = names.map(|name| name.as_bytes().to_vec()).into();
+    let formula =
+        b"EU[~(drop | retry); frame] (EX[.] EU[*; ack] T | EU[clamp | load] ~AX[~release] AX[*] T)";
+    read("typical", table, formula)
+}
+
+fn read(size: &'static str, table: Table, text: &[u8]) -> Input {
+    let formula = Formula::read(&table, text).expect("a formula");
+    Input::new(size, text.to_vec(), &Question { table, formula })
+}
+
+/// The longest listing; its formula's text, with long names, is another of 40 nodes and 512 bytes.
+fn largest() -> Input {
+    let mut question = longest_listing(&mut Rng::new(3));
+    let name = |label: usize| format!("{:x<1$}{label:02}", "l", MAX_NAME - 2).into_bytes();
+    question.table.names = (1..=MAX_LABELS).map(name).collect();
+    let mut text = Vec::new();
+    for label in 1..=20 {
+        text.extend_from_slice(b"EX[");
+        text.extend_from_slice(&question.table.names[label * 2 - 1]);
+        text.extend_from_slice(b"]EU[*]");
+    }
+    text.truncate(text.len() - b"EU[*]".len());
+    text.resize(MAX_BYTES - 1, b' ');
+    text.push(b'T');
+    Input::new("largest", text, &question)
+}
+
+/// Labels along the listing, through rows that were not left before as long as there are any.
+fn word_along(listing: &Listing) -> Vec<u8> {
+    let mut left = vec![false; listing.rows.len()];
+    let mut word = Vec::new();
+    let mut row = 0;
+    while word.len() < MAX_WORD {
+        left[row as usize] = true;
+        let edges = listing.edges_from(row);
+        let fresh = edges.iter().find(|edge| !left[edge.target as usize]);
+        let Some(edge) = fresh.or(edges.last()) else {
+            break;
+        };
+        word.push(edge.label);
+        row = edge.target;
+    }
+    word
+}
+
+/// The lent buffers, large enough for every input.
+struct Buffers {
+    table: Vec<u8>,
+    formula: Vec<u8>,
+    rows: Vec<u8>,
+    edges: Vec<u8>,
+}
+
+type Call = fn(&Entries, &Input, &mut Buffers) -> Option<Reply>;
+
+const CALLS: [(&str, Call); 6] = [
+    ("read_table", read_table),
+    ("read_formula", read_formula),
+    ("verdict", verdict),
+    ("build", build),
+    ("accepts", accepts),
+    ("all but accepts", whole),
+];
+
+fn read_table(of: &Entries, input: &Input, lent: &mut Buffers) -> Option<Reply> {
+    Some(of.read_table?(&input.table_text, &mut lent.table))
+}
+
+fn read_formula(of: &Entries, input: &Input, lent: &mut Buffers) -> Option<Reply> {
+    Some(of.read_formula?(&input.table, &input.formula_text, &mut lent.formula))
+}
+
+fn verdict(of: &Entries, input: &Input, _: &mut Buffers) -> Option<Reply> {
+    Some(of.verdict?(&input.table, &input.formula))
+}
+
+fn build(of: &Entries, input: &Input, lent: &mut Buffers) -> Option<Reply> {
+    let mut edge_count = 0;
+    let (rows, edges) = (&mut lent.rows, &mut lent.edges);
+    Some(of.build?(&input.table, &input.formula, rows, edges, &mut edge_count))
+}
+
+fn accepts(of: &Entries, input: &Input, _: &mut Buffers) -> Option<Reply> {
+    Some(of.accepts?(&input.table, &input.formula, &input.word))
+}
+
+fn whole(of: &Entries, input: &Input, lent: &mut Buffers) -> Option<Reply> {
+    read_table(of, input, lent)?;
+    read_formula(of, input, lent)?;
+    verdict(of, input, lent)?;
+    build(of, input, lent)
+}
+
+pub fn run(library: &Entries, out: &mut impl Write) -> io::Result<()> {
+    let mut lent = Buffers {
+        table: vec![0; TABLE_LENGTH],
+        formula: vec![0; FORMULA_LENGTH],
+        rows: vec![0; 10_496 * ROW_PLACE],
+        edges: vec![0; 1_000_000 * EDGE_PLACE],
+    };
+    let head = ["entry", "input", "library", "baseline", "ratio"];
+    writeln!(out, "{:16} {:8} {:>12} {:>12} {:>7}", head[0], head[1], head[2], head[3], head[4])?;
+    let inputs = inputs();
+    for (entry, call) in CALLS {
+        for input in &inputs {
+            let [library, baseline] = time(call, [library, &BASELINE], input, &mut lent);
+            let baseline = baseline.expect("the baseline has all entries");
+            let (time, ratio) = match library {
+                Some(library) => (in_microseconds(library), format!("{:.2}", library / baseline)),
+                None => ("-".into(), "-".into()),
+            };
+            let (size, baseline) = (input.size, in_microseconds(baseline));
+            writeln!(out, "{entry:16} {size:8} {time:>12} {baseline:>12} {ratio:>7}")?;
+        }
+    }
+    Ok(())
+}
+
+fn in_microseconds(seconds: f64) -> String {
+    format!("{:.3} us", seconds * 1e6)
+}
+
+/// Seconds per call, or none for an explainer that lacks the entry.
+fn time(
+    call: Call,
+    explainers: [&Entries; 2],
+    input: &Input,
+    lent: &mut Buffers,
+) -> [Option<f64>; 2] {
+    let mut shortest = [None; 2];
+    let mut calls = [1; 2];
+    for _ in 0..ROUNDS {
+        for (which, of) in explainers.into_iter().enumerate() {
+            let Some(reply) = call(of, input, lent) else {
+                continue;
+            };
+            assert_eq!(reply.number, 0, "the inputs are accepted");
+            let seconds = round(call, of, input, lent, &mut calls[which]);
+            let least = shortest[which].get_or_insert(seconds);
+            *least = seconds.min(*least);
+        }
+    }
+    shortest
+}
+
+/// One round; the calls it takes are found in the first and kept.
+fn round(call: Call, of: &Entries, input: &Input, lent: &mut Buffers, calls: &mut u32) -> f64 {
+    loop {
+        let begin = Instant::now();
+        for _ in 0..*calls {
+            black_box(call(black_box(of), black_box(input), lent));
+        }
+        let took = begin.elapsed();
+        if took >= ROUND / 2 {
+            return took.as_secs_f64() / f64::from(*calls);
+        }
+        *calls *= 2;
+    }
+}

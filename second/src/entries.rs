@@ -1,0 +1,120 @@
+//! The entries, byte for byte as in the C interface: any explainer's, and the second one's own.
+
+use crate::formula::Formula;
+use crate::listing::Listing;
+use crate::prepared::{self, FORMULA_LENGTH, TABLE_LENGTH};
+use crate::reply::{Refusal, Reply};
+use crate::table::Table;
+use crate::{verdict, word};
+
+pub const ROW_PLACE: usize = 3;
+pub const EDGE_PLACE: usize = 5;
+
+pub type ReadTable = fn(text: &[u8], table: &mut [u8]) -> Reply;
+pub type ReadFormula = fn(table: &[u8], text: &[u8], formula: &mut [u8]) -> Reply;
+pub type Verdict = fn(table: &[u8], formula: &[u8]) -> Reply;
+/// The count of edges is written if the build is accepted.
+pub type Build = fn(
+    table: &[u8],
+    formula: &[u8],
+    rows: &mut [u8],
+    edges: &mut [u8],
+    edge_count: &mut u64,
+) -> Reply;
+pub type Accepts = fn(table: &[u8], formula: &[u8], word: &[u8]) -> Reply;
+
+/// An explainer; an entry that it lacks is not compared.
+#[derive(Clone, Copy, Default)]
+pub struct Entries {
+    pub read_table: Option<ReadTable>,
+    pub read_formula: Option<ReadFormula>,
+    pub verdict: Option<Verdict>,
+    pub build: Option<Build>,
+    pub accepts: Option<Accepts>,
+}
+
+pub const SECOND: Entries = Entries {
+    read_table: Some(read_table),
+    read_formula: Some(read_formula),
+    verdict: Some(verdict),
+    build: Some(build),
+    accepts: Some(accepts),
+};
+
+pub fn read_table(text: &[u8], table: &mut [u8]) -> Reply {
+    let outcome = long_enough(table, TABLE_LENGTH, Refusal::ShortTable)
+        .and_then(|()| Table::read(text))
+        .map(|read| {
+            table[..TABLE_LENGTH].copy_from_slice(&prepared::table_bytes(&read));
+            0
+        });
+    outcome.into()
+}
+
+pub fn read_formula(table: &[u8], text: &[u8], formula: &mut [u8]) -> Reply {
+    let outcome = long_enough(table, TABLE_LENGTH, Refusal::ShortTable)
+        .and_then(|()| long_enough(formula, FORMULA_LENGTH, Refusal::ShortFormula))
+        .and_then(|()| prepared::table_of(table).ok_or(Refusal::PreparedTable))
+        .and_then(|table| Formula::read(&table, text))
+        .map(|read| {
+            formula[..FORMULA_LENGTH].copy_from_slice(&prepared::formula_bytes(&read));
+            0
+        });
+    outcome.into()
+}
+
+pub fn verdict(table: &[u8], formula: &[u8]) -> Reply {
+    let question = question(table, formula);
+    let verdict = question.map(|(table, formula)| verdict::holds(&table, &formula).into());
+    verdict.into()
+}
+
+pub fn build(
+    table: &[u8],
+    formula: &[u8],
+    rows: &mut [u8],
+    edges: &mut [u8],
+    edge_count: &mut u64,
+) -> Reply {
+    let listing = match question(table, formula) {
+        Ok((table, formula)) => Listing::of(&table, &formula),
+        Err(refusal) => return refusal.into(),
+    };
+    if listing.rows.len() > rows.len() / ROW_PLACE {
+        return Refusal::RowPlaces(listing.rows.len()).into();
+    }
+    if listing.edges.len() > edges.len() / EDGE_PLACE {
+        return Refusal::EdgePlaces(listing.edges.len()).into();
+    }
+    for (place, row) in rows.chunks_mut(ROW_PLACE).zip(&listing.rows) {
+        place.copy_from_slice(&[row.place, row.state, row.is_final.into()]);
+    }
+    for (place, edge) in edges.chunks_mut(EDGE_PLACE).zip(&listing.edges) {
+        place[0..2].copy_from_slice(&edge.row.to_le_bytes());
+        place[2] = edge.label;
+        place[3..5].copy_from_slice(&edge.target.to_le_bytes());
+    }
+    *edge_count = listing.edges.len() as u64;
+    Reply::accepted(listing.rows.len() as u64)
+}
+
+pub fn accepts(table: &[u8], formula: &[u8], letters: &[u8]) -> Reply {
+    let outcome = question(table, formula).and_then(|(table, formula)| {
+        word::check(letters, table.labels())?;
+        Ok(word::is_accepted(&table, &formula, letters).into())
+    });
+    outcome.into()
+}
+
+/// Refusals 14 and 10.
+fn question(table: &[u8], formula: &[u8]) -> Result<(Table, Formula), Refusal> {
+    long_enough(table, TABLE_LENGTH, Refusal::ShortTable)?;
+    long_enough(formula, FORMULA_LENGTH, Refusal::ShortFormula)?;
+    let table = prepared::table_of(table).ok_or(Refusal::PreparedTable)?;
+    let formula = prepared::formula_of(formula, table.labels());
+    Ok((table, formula.ok_or(Refusal::PreparedFormula)?))
+}
+
+fn long_enough(buffer: &[u8], length: usize, short: Refusal) -> Result<(), Refusal> {
+    (buffer.len() >= length).then_some(()).ok_or(short)
+}

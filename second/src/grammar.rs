@@ -1,0 +1,314 @@
+//! The formula grammar of 01 as rules over bytes, and reading by all leftmost derivations at once.
+//!
+//! A derivation is what it still expects and the marks that it has passed. Each byte keeps the
+//! derivations that can take it. Every rule can be finished, so one is left exactly if some
+//! grammatical text, of any length, begins as the bytes taken so far.
+
+use crate::table::{MAX_NAME, is_name_byte};
+
+/// What a derivation says of the text, in postfix order: arms and operands before their mark.
+#[derive(Clone, Copy, Debug, PartialEq, Eq)]
+pub enum Mark {
+    True,
+    Not,
+    Or,
+    Next,
+    AllNext,
+    Until,
+    UntilThen,
+    SilentStep,
+    NameBegins,
+    NameEnds,
+    AllLabels,
+    Complement,
+    Union,
+}
+
+#[derive(Clone, Copy)]
+enum Rule {
+    Formula,
+    MoreTerms,
+    Term,
+    Condition,
+    Set,
+    MoreOperands,
+    Operand,
+}
+
+#[derive(Clone, Copy)]
+enum Symbol {
+    Byte(u8),
+    Letter,
+    NameByte,
+    /// At most so many further bytes of a name.
+    NameRest(usize),
+    Blanks,
+    Part(Rule),
+    Says(Mark),
+}
+
+use Rule::*;
+use Symbol::*;
+
+type Symbols = &'static [Symbol];
+
+/// Blanks are expected only between two tokens, in one place each, so a text has one derivation.
+#[rustfmt::skip]
+fn alternatives(rule: Rule) -> &'static [Symbols] {
+    match rule {
+        Formula => &[&[Part(Term), Part(MoreTerms)]],
+        MoreTerms => &[
+            &[],
+            &[Blanks, Byte(b'|'), Blanks, Part(Term), Says(Mark::Or), Part(MoreTerms)],
+        ],
+        Term => &[
+            &[Byte(b'T'), Says(Mark::True)],
+            &[Byte(b'~'), Blanks, Part(Term), Says(Mark::Not)],
+            &[Byte(b'E'), Byte(b'X'), Blanks, Byte(b'['), Blanks, Part(Condition), Blanks, Byte(b']'), Blanks,
+                Part(Term), Says(Mark::Next)],
+            &[Byte(b'A'), Byte(b'X'), Blanks, Byte(b'['), Blanks, Part(Condition), Blanks, Byte(b']'), Blanks,
+                Part(Term), Says(Mark::AllNext)],
+            &[Byte(b'E'), Byte(b'U'), Blanks, Byte(b'['), Blanks, Part(Set), Blanks, Byte(b']'), Blanks,
+                Part(Term), Says(Mark::Until)],
+            &[Byte(b'E'), Byte(b'U'), Blanks, Byte(b'['), Blanks, Part(Set), Blanks, Byte(b';'), Blanks, Part(Set),
+                Blanks, Byte(b']'), Blanks, Part(Term), Says(Mark::UntilThen)],
+            &[Byte(b'('), Blanks, Part(Formula), Blanks, Byte(b')')],
+        ],
+        Condition => &[
+            &[Byte(b'.'), Says(Mark::SilentStep)],
+            &[Part(Set)],
+        ],
+        Set => &[&[Part(Operand), Part(MoreOperands)]],
+        MoreOperands => &[
+            &[],
+            &[Blanks, Byte(b'|'), Blanks, Part(Operand), Says(Mark::Union), Part(MoreOperands)],
+        ],
+        Operand => &[
+            &[Says(Mark::NameBegins), Letter, NameRest(MAX_NAME - 1), Says(Mark::NameEnds)],
+            &[Byte(b'*'), Says(Mark::AllLabels)],
+            &[Byte(b'~'), Blanks, Part(Operand), Says(Mark::Complement)],
+            &[Byte(b'('), Blanks, Part(Set), Blanks, Byte(b')')],
+        ],
+    }
+}
+
+/// What a name may go on with, by the bytes that it may still have.
+static NAME_GOES_ON: [[Symbol; 2]; MAX_NAME] = {
+    let mut goes_on = [[NameByte, NameRest(0)]; MAX_NAME];
+    let mut bytes = 1;
+    while bytes < MAX_NAME {
+        goes_on[bytes] = [NameByte, NameRest(bytes - 1)];
+        bytes += 1;
+    }
+    goes_on
+};
+
+fn takes(symbol: Symbol, byte: u8) -> bool {
+    match symbol {
+        Byte(expected) => byte == expected,
+        Letter => byte.is_ascii_lowercase(),
+        NameByte => is_name_byte(byte),
+        NameRest(_) | Blanks | Part(_) | Says(_) => false,
+    }
+}
+
+/// The end of a chain.
+const NONE: u32 = u32::MAX;
+
+#[derive(Clone, Copy)]
+struct Derivation {
+    expects: Symbols,
+    /// What is expected after that, as a chain in `Derivations::later`.
+    later: u32,
+    /// The marks passed, as a chain in `Derivations::passed`.
+    passed: u32,
+}
+
+/// The derivations that are left, with the chains that they share.
+#[derive(Default)]
+struct Derivations {
+    later: Vec<(Symbols, u32)>,
+    passed: Vec<(Mark, usize, u32)>,
+    open: Vec<Derivation>,
+    /// Each waits for a byte of its symbol.
+    waiting: Vec<(Symbol, Derivation)>,
+    finished: Option<Derivation>,
+}
+
+/// The marks of the text's derivation with their offsets, or the length of the longest beginning
+/// that some grammatical text has.
+pub fn derive(text: &[u8]) -> Result<Vec<(Mark, usize)>, usize> {
+    let mut left = Derivations::default();
+    left.open.push(Derivation { expects: &[Part(Formula)], later: NONE, passed: NONE });
+    for (offset, &byte) in text.iter().enumerate() {
+        left.expand(offset);
+        left.take(byte);
+        if left.open.is_empty() {
+            return Err(offset);
+        }
+    }
+    left.expand(text.len());
+    left.marks().ok_or(text.len())
+}
+
+impl Derivations {
+    fn take(&mut self, byte: u8) {
+        let taking = self.waiting.drain(..);
+        let taking = taking.filter(|(symbol, _)| takes(*symbol, byte));
+        self.open.extend(taking.map(|(_, derivation)| derivation));
+    }
+
+    /// Replaces rules by their alternatives until each derivation waits for a byte or is finished.
+    fn expand(&mut self, offset: usize) {
+        self.finished = None;
+        while let Some(derivation) = self.open.pop() {
+            match derivation.expects {
+                [] => self.resume(derivation),
+                [symbol, after @ ..] => self.advance(*symbol, after, derivation, offset),
+            }
+        }
+    }
+
+    fn resume(&mut self, derivation: Derivation) {
+        if derivation.later == NONE {
+            self.finished = Some(derivation);
+            return;
+        }
+        let (expects, later) = self.later[derivation.later as usize];
+        self.open.push(Derivation { expects, later, ..derivation });
+    }
+
+    fn advance(&mut self, symbol: Symbol, after: Symbols, from: Derivation, offset: usize) {
+        let passes = Derivation { expects: after, ..from };
+        match symbol {
+            Byte(_) | Letter | NameByte => self.waiting.push((symbol, passes)),
+            Blanks => {
+                self.open.push(passes);
+                self.waiting.push((Byte(b' '), from));
+            }
+            NameRest(bytes) => {
+                self.open.push(passes);
+                if bytes > 0 {
+                    self.enter(&NAME_GOES_ON[bytes], passes);
+                }
+            }
+            Part(rule) => {
+                for alternative in alternatives(rule) {
+                    self.enter(alternative, passes);
+                }
+            }
+            Says(mark) => {
+                let passed = self.passed.len() as u32;
+                self.passed.push((mark, offset, from.passed));
+                self.open.push(Derivation { passed, ..passes });
+            }
+        }
+    }
+
+    fn enter(&mut self, expects: Symbols, after: Derivation) {
+        let mut later = after.later;
+        if !after.expects.is_empty() {
+            later = self.later.len() as u32;
+            self.later.push((after.expects, after.later));
+        }
+        self.open.push(Derivation { expects, later, ..after });
+    }
+
+    fn marks(&self) -> Option<Vec<(Mark, usize)>> {
+        let mut marks = Vec::new();
+        let mut chain = self.finished?.passed;
+        while chain != NONE {
+            let (mark, offset, before) = self.passed[chain as usize];
+            marks.push((mark, offset));
+            chain = before;
+        }
+        marks.reverse();
+        Some(marks)
+    }
+}
+
+#[cfg(test)]
+mod tests {
+    use super::*;
+
+    fn beginning(text: &str) -> usize {
+        derive(text.as_bytes()).expect_err("not in the grammar")
+    }
+
+    #[test]
+    fn the_longest_beginning_counts_every_viable_byte() {
+        for (text, figure) in [
+            ("", 0),
+            (" ", 0),
+            (" T", 0),
+            ("T ", 2),
+            ("T  \n", 3),
+            ("TT", 1),
+            ("T)", 1),
+            ("T|", 2),
+            ("T | |", 4),
+            ("t", 0),
+            ("E", 1),
+            ("ET", 1),
+            ("E X[*] T", 1),
+            ("EX", 2),
+            ("EXT", 2),
+            ("EX[]", 3),
+            ("EX[a T", 5),
+            ("EX[a.", 4),
+            ("EX[.|a] T", 4),
+            ("EX[a;b] T", 4),
+            ("EX[a|.] T", 5),
+            ("EX[_a] T", 3),
+            ("EX[aB] T", 4),
+            ("EX[~] T", 4),
+            ("EX[a b] T", 5),
+            ("EX[(a|b] T", 7),
+            ("EX[a)] T", 4),
+            ("EX[T] T", 3),
+            ("EU[.] T", 3),
+            ("EU[a;.] T", 5),
+            ("EU[a;b;c] T", 6),
+            ("EU[a;b]", 7),
+            ("AU", 1),
+            ("(T", 2),
+            ("()", 1),
+            ("((T)", 4),
+            ("(T))", 3),
+            ("~", 1),
+            ("~|T", 1),
+            ("T~T", 1),
+            ("T\u{e9}", 1),
+        ] {
+            assert_eq!(beginning(text), figure, "{text:?}");
+        }
+    }
+
+    #[test]
+    fn a_beginning_ends_before_the_thirteenth_byte_of_a_name() {
+        assert!(derive(b"EX[abcdefghijkl] T").is_ok());
+        assert_eq!(beginning("EX[abcdefghijklm] T"), 15);
+        assert_eq!(beginning("EX[a12345678901_] T"), 15);
+    }
+
+    #[test]
+    fn blanks_stand_between_any_two_tokens() {
+        assert!(derive(b"~  EX  [  ~  (  a  |  *  )  ]  (  T  |  T  )").is_ok());
+        assert!(derive(b"EU [ a ; b ] T").is_ok());
+        assert!(derive(b"EX [ . ] T").is_ok());
+    }
+
+    #[test]
+    fn terms_are_grouped_from_the_left() {
+        let marks = derive(b"T|T|T").expect("in the grammar");
+        let marks: Vec<Mark> = marks.into_iter().map(|(mark, _)| mark).collect();
+        use Mark::{Or, True};
+        assert_eq!(marks, [True, True, Or, True, Or]);
+    }
+
+    #[test]
+    fn a_beginning_may_be_longer_than_any_accepted_formula() {
+        let deep = "(".repeat(5_000);
+        assert_eq!(beginning(&deep), 5_000);
+    }
+}

@@ -1,0 +1,396 @@
+//! Random formulas of any number of nodes, their texts with all the faults that 5 to 9 refuse, and
+//! prepared formulas.
+
+use super::rng::Rng;
+use super::tables::name;
+use super::{damage, random_bytes};
+use crate::formula::{Class, Condition, Formula, MAX_BYTES, MAX_NODES, Node, Set};
+use crate::prepared::{self, FORMULA_LENGTH, NODE_SLOT, NODES};
+use crate::table::{MAX_NAME, Table};
+
+/// Mostly a few; sometimes the most there may be.
+pub fn node_count(rng: &mut Rng) -> usize {
+    match rng.below(64) {
+        0 => MAX_NODES,
+        1 => rng.between(20, MAX_NODES),
+        _ => rng.between(1, 9),
+    }
+}
+
+pub fn class(rng: &mut Rng, nodes: usize) -> Class {
+    match nodes == 1 || rng.below(5) < 3 {
+        true => Class::Witnesses,
+        false => Class::Counterexamples,
+    }
+}
+
+/// A formula of exactly so many nodes, of the class or, without one, of whatever form.
+pub fn formula(rng: &mut Rng, class: Option<Class>, nodes: usize, labels: usize) -> Formula {
+    let mut growth = Growth { rng, labels, nodes: Vec::with_capacity(nodes) };
+    growth.grow(class, nodes);
+    Formula { nodes: growth.nodes }
+}
+
+struct Growth<'a> {
+    rng: &'a mut Rng,
+    labels: usize,
+    nodes: Vec<Node>,
+}
+
+impl Growth<'_> {
+    fn grow(&mut self, class: Option<Class>, count: usize) -> usize {
+        let number = self.nodes.len();
+        self.nodes.push(Node::True);
+        if count > 1 {
+            self.nodes[number] = match class {
+                Some(Class::Witnesses) => self.witnessed(count),
+                Some(Class::Counterexamples) => self.refuted(count),
+                None => self.any(count),
+            };
+        }
+        number
+    }
+
+    fn witnessed(&mut self, count: usize) -> Node {
+        let witnesses = Some(Class::Witnesses);
+        // The smallest formula of the other class has two nodes.
+        let forms = if count > 2 { 12 } else { 6 };
+        match self.rng.below(forms) {
+            0 | 1 => Node::Next(self.condition(), self.grow(witnesses, count - 1)),
+            2 | 3 => Node::Until(set(self.rng, self.labels), self.grow(witnesses, count - 1)),
+            4 | 5 => self.until_then(witnesses, count),
+            6..9 => Node::Not(self.grow(Some(Class::Counterexamples), count - 1)),
+            _ => self.or(witnesses, count),
+        }
+    }
+
+    fn refuted(&mut self, count: usize) -> Node {
+        let arm = match count {
+            2 => Class::Witnesses,
+            _ => Class::Counterexamples,
+        };
+        match self.rng.below(3) {
+            0 => Node::Not(self.grow(Some(Class::Witnesses), count - 1)),
+            _ => Node::AllNext(self.condition(), self.grow(Some(arm), count - 1)),
+        }
+    }
+
+    fn any(&mut self, count: usize) -> Node {
+        let forms = if count > 2 { 6 } else { 5 };
+        match self.rng.below(forms) {
+            0 => Node::Not(self.grow(None, count - 1)),
+            1 => Node::Next(self.condition(), self.grow(None, count - 1)),
+            2 => Node::AllNext(self.condition(), self.grow(None, count - 1)),
+            3 => Node::Until(set(self.rng, self.labels), self.grow(None, count - 1)),
+            4 => self.until_then(None, count),
+            _ => self.or(None, count),
+        }
+    }
+
+    fn until_then(&mut self, class: Option<Class>, count: usize) -> Node {
+        let (first, then) = (set(self.rng, self.labels), set(self.rng, self.labels));
+        Node::UntilThen(first, then, self.grow(class, count - 1))
+    }
+
+    fn or(&mut self, class: Option<Class>, count: usize) -> Node {
+        let left = self.rng.between(1, count - 2);
+        Node::Or(self.grow(class, left), self.grow(class, count - 1 - left))
+    }
+
+    fn condition(&mut self) -> Condition {
+        match self.rng.one_in(5) {
+            true => Condition::Silent,
+            false => Condition::Among(set(self.rng, self.labels)),
+        }
+    }
+}
+
+fn set(rng: &mut Rng, labels: usize) -> Set {
+    match rng.below(8) {
+        _ if labels == 0 => Set::EMPTY,
+        0 | 1 => Set::all(labels),
+        2 | 3 => some_label(rng, labels),
+        4 => some_label(rng, labels).complement(labels),
+        5 => Set(rng.draw() & Set::all(labels).0),
+        6 => some_label(rng, labels).union(some_label(rng, labels)),
+        _ => Set::EMPTY,
+    }
+}
+
+/// Often the first or the last.
+fn some_label(rng: &mut Rng, labels: usize) -> Set {
+    let any = rng.between(1, labels);
+    Set::of(rng.pick(&[1, labels, any, any]) as u8)
+}
+
+/// A text to read, of any kind.
+pub fn text(rng: &mut Rng, table: &Table) -> Vec<u8> {
+    match rng.below(32) {
+        0 => {
+            let length = rng.below(40);
+            random_bytes(rng, length)
+        }
+        1 => deep_text(rng),
+        2 => extreme_text(rng),
+        _ => {
+            let mut tokens = some_tokens(rng, table);
+            if rng.one_in(3) {
+                for _ in 0..rng.between(1, 3) {
+                    faulty_token(rng, &mut tokens);
+                }
+            }
+            let mut text = spaced(rng, &tokens);
+            if rng.one_in(4) {
+                damage(rng, &mut text);
+            }
+            text
+        }
+    }
+}
+
+fn some_tokens(rng: &mut Rng, table: &Table) -> Vec<Vec<u8>> {
+    let nodes = match rng.below(40) {
+        0 => MAX_NODES + 1,
+        1 => rng.between(MAX_NODES - 1, MAX_NODES + 30),
+        _ => node_count(rng),
+    };
+    let class = match rng.one_in(6) {
+        true => None,
+        false => Some(class(rng, nodes)),
+    };
+    let formula = formula(rng, class, nodes, table.labels());
+    tokens(rng, &formula, table)
+}
+
+/// The tokens of some text of this formula.
+pub fn tokens(rng: &mut Rng, formula: &Formula, table: &Table) -> Vec<Vec<u8>> {
+    let brackets = rng.pick(&[2, 8, 1_000]);
+    let mut writer = Writer { rng, formula, table, brackets, tokens: Vec::new() };
+    writer.formula(0);
+    writer.tokens
+}
+
+struct Writer<'a> {
+    rng: &'a mut Rng,
+    formula: &'a Formula,
+    table: &'a Table,
+    /// One in so many terms stands in brackets that it does not need.
+    brackets: usize,
+    tokens: Vec<Vec<u8>>,
+}
+
+impl Writer<'_> {
+    fn put(&mut self, token: &[u8]) {
+        self.tokens.push(token.to_vec());
+    }
+
+    fn formula(&mut self, node: usize) {
+        match self.formula.nodes[node] {
+            Node::Or(left, right) => {
+                self.formula(left);
+                self.put(b"|");
+                self.term(right);
+            }
+            _ => self.term(node),
+        }
+    }
+
+    fn term(&mut self, node: usize) {
+        let needed = matches!(self.formula.nodes[node], Node::Or(..));
+        if needed || self.rng.one_in(self.brackets) {
+            self.put(b"(");
+            self.formula(node);
+            self.put(b")");
+            return;
+        }
+        match self.formula.nodes[node] {
+            Node::True => self.put(b"T"),
+            Node::Not(_) => self.put(b"~"),
+            Node::Next(condition, _) => self.head(b"EX", condition, None),
+            Node::AllNext(condition, _) => self.head(b"AX", condition, None),
+            Node::Until(set, _) => self.head(b"EU", Condition::Among(set), None),
+            Node::UntilThen(set, then, _) => {
+                self.head(b"EU", Condition::Among(set), Some(then));
+            }
+            Node::Or(..) => unreachable!("a term that is no bracket"),
+        }
+        if let Some(arm) = self.formula.nodes[node].arms().next() {
+            self.term(arm);
+        }
+    }
+
+    fn head(&mut self, keyword: &[u8], condition: Condition, then: Option<Set>) {
+        self.put(keyword);
+        self.put(b"[");
+        match condition {
+            Condition::Silent => self.put(b"."),
+            Condition::Among(set) => self.set(set, 3),
+        }
+        if let Some(then) = then {
+            self.put(b";");
+            self.set(then, 3);
+        }
+        self.put(b"]");
+    }
+
+    /// Some set that is equal to this one, with at most so many turns on the way.
+    fn set(&mut self, set: Set, turns: usize) {
+        if turns > 0 && self.rng.one_in(5) {
+            self.operand(set, turns - 1);
+            self.put(b"|");
+            self.operand(set, turns - 1);
+        } else if set != Set::EMPTY && self.is_few(set) {
+            self.names(set);
+        } else {
+            self.operand(set, turns);
+        }
+    }
+
+    fn operand(&mut self, set: Set, turns: usize) {
+        let labels = self.table.labels();
+        let complement = set.complement(labels);
+        if turns > 0 && self.rng.one_in(6) {
+            self.put(b"(");
+            self.set(set, turns - 1);
+            self.put(b")");
+        } else if turns > 0 && self.rng.one_in(6) {
+            self.put(b"~");
+            self.operand(complement, turns - 1);
+        } else if complement == Set::EMPTY {
+            self.put(b"*");
+        } else if set.0.count_ones() == 1 {
+            self.names(set);
+        } else if set != Set::EMPTY && self.is_few(set) {
+            self.put(b"(");
+            self.names(set);
+            self.put(b")");
+        } else {
+            self.put(b"~");
+            self.operand(complement, 0);
+        }
+    }
+
+    fn is_few(&self, set: Set) -> bool {
+        let complement = set.complement(self.table.labels());
+        set.0.count_ones() <= complement.0.count_ones()
+    }
+
+    fn names(&mut self, set: Set) {
+        for (name, label) in self.table.names.iter().zip(1..) {
+            if !set.has(label) {
+                continue;
+            }
+            if set.0 & ((1 << label) - 1) != 0 {
+                self.tokens.push(b"|".to_vec());
+            }
+            self.tokens.push(name.clone());
+        }
+    }
+}
+
+/// Tokens lost, repeated, exchanged, or replaced, by a name that no table has among others.
+fn faulty_token(rng: &mut Rng, tokens: &mut Vec<Vec<u8>>) {
+    const MARKS: [&[u8]; 14] =
+        [b"T", b"~", b"|", b"EX", b"AX", b"EU", b"[", b"]", b"(", b")", b";", b".", b"*", b"E"];
+    let at = rng.below(tokens.len() + 1);
+    let is_name = |token: &Vec<u8>| token[0].is_ascii_lowercase();
+    let names: Vec<usize> = (0..tokens.len()).filter(|&at| is_name(&tokens[at])).collect();
+    match rng.below(8) {
+        0..3 if !names.is_empty() => tokens[rng.pick(&names)] = absent_name(rng),
+        3 if at < tokens.len() => drop(tokens.remove(at)),
+        4 => tokens.insert(at, rng.pick(&MARKS).to_vec()),
+        5 if at < tokens.len() => tokens[at] = rng.pick(&MARKS).to_vec(),
+        6 if at + 1 < tokens.len() => tokens.swap(at, at + 1),
+        7 => tokens.insert(at, name(rng, MAX_NAME + 1)),
+        _ => tokens.truncate(at),
+    }
+}
+
+/// No name of a table begins so. Thirteen bytes are a fault of the grammar instead.
+fn absent_name(rng: &mut Rng) -> Vec<u8> {
+    let mut absent = b"q".to_vec();
+    let longest = rng.pick(&[1, 3, MAX_NAME - 1, MAX_NAME]);
+    absent.extend(name(rng, longest));
+    absent
+}
+
+/// With blanks between tokens: none, some, or as many as lead to a length at the limit.
+fn spaced(rng: &mut Rng, tokens: &[Vec<u8>]) -> Vec<u8> {
+    let bytes: usize = tokens.iter().map(Vec::len).sum();
+    let gaps = tokens.len().saturating_sub(1);
+    let mut blanks = vec![0; gaps + 2];
+    let added = match rng.below(32) {
+        0 => rng.between(MAX_BYTES - 1, MAX_BYTES + 1).saturating_sub(bytes),
+        1 => MAX_BYTES.saturating_sub(bytes),
+        2..12 => 0,
+        _ => rng.below(gaps + 1),
+    };
+    for _ in 0..added {
+        let faulty = gaps == 0 || rng.one_in(2_000);
+        let gap = if faulty { rng.below(gaps + 2) } else { rng.between(1, gaps) };
+        blanks[gap] += 1;
+    }
+    let mut text = vec![b' '; blanks[0]];
+    for (token, blanks) in tokens.iter().zip(&blanks[1..]) {
+        text.extend_from_slice(token);
+        text.extend(std::iter::repeat_n(b' ', *blanks));
+    }
+    text
+}
+
+/// Brackets and negations as deep as the length allows, of terms or of operands.
+fn deep_text(rng: &mut Rng) -> Vec<u8> {
+    let depth = rng.pick(&[20, 39, 100, 250, 255, 256, 511]);
+    let (before, inner, after) = match rng.below(4) {
+        0 => ("EX[", "*", "]T"),
+        1 => ("EU[*;", "*", "]T"),
+        _ => ("", "T", ""),
+    };
+    let opening = rng.pick(&["(", "~", "(~", "~("]);
+    let closing = if opening.contains('(') { ")" } else { "" };
+    let open = depth / opening.len();
+    let close = open + rng.pick(&[0, 0, 0, 1]) - rng.pick(&[0, 0, 0, 1]);
+    let parts = [before, &opening.repeat(open), inner, &closing.repeat(close), after];
+    let mut text = parts.concat().into_bytes();
+    if rng.one_in(4) {
+        damage(rng, &mut text);
+    }
+    text
+}
+
+/// Nothing at all, or far more than a formula takes.
+fn extreme_text(rng: &mut Rng) -> Vec<u8> {
+    match rng.below(3) {
+        0 => Vec::new(),
+        1 if rng.one_in(100) => vec![b'T'; rng.pick(&[1 << 20, (1 << 24) + 1])],
+        1 => vec![b'~'; rng.pick(&[MAX_BYTES, MAX_BYTES + 1, 65_535, 65_536, 100_000])],
+        _ => {
+            let length = rng.between(MAX_BYTES - 2, MAX_BYTES + 2);
+            random_bytes(rng, length)
+        }
+    }
+}
+
+/// Prepared bytes, some of them not the one form of a formula with classes.
+pub fn damaged_prepared(rng: &mut Rng, formula: &Formula, labels: usize) -> Vec<u8> {
+    let mut bytes = prepared::formula_bytes(formula);
+    // One slot past the used ones is as telling as the used ones.
+    let slots = (formula.nodes.len() + 1).min(MAX_NODES);
+    for _ in 0..rng.between(1, 2) {
+        let slot = NODES + rng.below(slots) * NODE_SLOT;
+        let other = NODES + rng.below(slots) * NODE_SLOT;
+        match rng.below(8) {
+            0 => bytes[0] = rng.pick(&[0, 1, 39, 40, 41, 128, 255]),
+            1 => bytes[0] = bytes[0].wrapping_add(rng.pick(&[1, 255])),
+            2 | 3 => bytes[slot] = rng.below(11) as u8,
+            4 => bytes.copy_within(other..other + NODE_SLOT, slot),
+            5 => {
+                let label = rng.pick(&[0, 1, labels, labels + 1, 40, 41, 63]);
+                bytes[slot + rng.pick(&[1, 9]) + label / 8] |= 1 << (label % 8);
+            }
+            6 => bytes[slot + rng.below(NODE_SLOT)] = rng.below(256) as u8,
+            _ => bytes[rng.below(FORMULA_LENGTH)] = rng.below(256) as u8,
+        }
+    }
+    bytes
+}

@@ -1,0 +1,301 @@
+//! Random state tables, their texts with all the faults that 1 to 4 refuse, and prepared tables.
+
+use std::collections::BTreeSet;
+
+use super::rng::Rng;
+use super::{damage, random_bytes};
+use crate::columns;
+use crate::prepared::{self, NAME_SLOT, NAMES, TABLE_LENGTH, TRANSITION_SLOT, TRANSITIONS};
+use crate::table::{MAX_LABELS, MAX_NAME, MAX_STATES, MAX_TRANSITIONS, Step, Table};
+
+#[derive(Clone, Copy, PartialEq, Eq)]
+pub enum Size {
+    Small,
+    Medium,
+    /// The most states and labels, but few transitions.
+    Cornered,
+    Limit,
+}
+
+/// Mostly small; one in `rarity` at the limits.
+pub fn size(rng: &mut Rng, rarity: usize) -> Size {
+    match rng.below(rarity) {
+        0 => Size::Limit,
+        _ if rng.one_in(16) => Size::Medium,
+        _ if rng.one_in(16) => Size::Cornered,
+        _ => Size::Small,
+    }
+}
+
+pub fn table(rng: &mut Rng, size: Size) -> Table {
+    let (states, labels, transitions) = match size {
+        Size::Small => (rng.between(1, 6), rng.below(5), rng.below(13)),
+        Size::Medium => (rng.between(1, 40), rng.below(13), rng.below(121)),
+        Size::Cornered => return cornered(rng),
+        Size::Limit if rng.one_in(3) => return drawn_out(rng),
+        Size::Limit => (
+            rng.pick(&[1, 255, MAX_STATES, MAX_STATES, MAX_STATES]),
+            rng.pick(&[0, 1, MAX_LABELS - 1, MAX_LABELS, MAX_LABELS]),
+            rng.pick(&[0, 300, MAX_TRANSITIONS - 1, MAX_TRANSITIONS, MAX_TRANSITIONS]),
+        ),
+    };
+    with_counts(rng, states, labels, transitions)
+}
+
+/// Transitions among the lowest and highest states, by the lowest and highest labels only.
+fn cornered(rng: &mut Rng) -> Table {
+    const STATES: [u8; 4] = [0, 1, 254, 255];
+    const LABELS: [u8; 4] = [0, 1, 39, 40];
+    let steps = rng.between(1, 20);
+    let step =
+        |_| Step { from: rng.pick(&STATES), label: rng.pick(&LABELS), to: rng.pick(&STATES) };
+    let steps: BTreeSet<Step> = (0..steps).map(step).collect();
+    Table {
+        states: MAX_STATES,
+        start: rng.pick(&STATES),
+        names: names(rng, MAX_LABELS),
+        transitions: steps.into_iter().collect(),
+    }
+}
+
+/// The most states in one line or ring, with a few steps aside.
+fn drawn_out(rng: &mut Rng) -> Table {
+    let labels = rng.pick(&[0, 1, 2, MAX_LABELS]);
+    let label = |rng: &mut Rng| rng.below(labels + 1) as u8;
+    let mut steps = BTreeSet::new();
+    for from in 0..rng.pick(&[u8::MAX, u8::MAX - 1]) {
+        steps.insert(Step { from, label: label(rng), to: from + 1 });
+    }
+    for _ in 0..rng.below(4) {
+        let (from, to) = (rng.below(MAX_STATES) as u8, rng.below(MAX_STATES) as u8);
+        steps.insert(Step { from, label: label(rng), to });
+    }
+    Table {
+        states: MAX_STATES,
+        start: rng.pick(&[0, 0, 128, u8::MAX]),
+        names: names(rng, labels),
+        transitions: steps.into_iter().collect(),
+    }
+}
+
+/// As many transitions as so many states and labels allow.
+pub fn with_counts(rng: &mut Rng, states: usize, labels: usize, transitions: usize) -> Table {
+    let possible = states * states * (labels + 1);
+    let wanted = transitions.min(possible - possible / 4);
+    let mut steps = BTreeSet::new();
+    while steps.len() < wanted {
+        steps.insert(Step {
+            from: rng.below(states) as u8,
+            label: rng.below(labels + 1) as u8,
+            to: rng.below(states) as u8,
+        });
+    }
+    Table {
+        states,
+        start: rng.below(states) as u8,
+        names: names(rng, labels),
+        transitions: steps.into_iter().collect(),
+    }
+}
+
+fn names(rng: &mut Rng, labels: usize) -> Vec<Vec<u8>> {
+    // Two bytes are too few for 40 names of these letters.
+    let longest = rng.pick(&[3, 4, MAX_NAME, MAX_NAME]);
+    let mut names: Vec<Vec<u8>> = Vec::with_capacity(labels);
+    while names.len() < labels {
+        let name = name(rng, longest);
+        if !names.contains(&name) {
+            names.push(name);
+        }
+    }
+    names
+}
+
+/// Mostly from few letters, so that names often begin alike. None begins with `q`.
+pub fn name(rng: &mut Rng, longest: usize) -> Vec<u8> {
+    let length = match rng.one_in(4) {
+        true => longest,
+        false => rng.between(1, longest),
+    };
+    let first = match rng.one_in(8) {
+        true => rng.pick(b"defghijklmnoprstuvwxy"),
+        false => rng.pick(b"aabcz"),
+    };
+    let further = |_| match rng.one_in(8) {
+        true => rng.pick(b"cdefghijklmnopqrstuvwxy2345678"),
+        false => rng.pick(b"aabz019_"),
+    };
+    std::iter::once(first).chain((1..length).map(further)).collect()
+}
+
+/// A text to read, of any kind.
+pub fn text(rng: &mut Rng) -> Vec<u8> {
+    let size = size(rng, 40);
+    let table = table(rng, size);
+    let mut text = table.text();
+    match rng.below(16) {
+        0..4 => {}
+        4..8 => {
+            for _ in 0..rng.between(1, 3) {
+                damage(rng, &mut text);
+            }
+        }
+        8..14 => text = faulty_text(rng, &table),
+        14 => {
+            let length = rng.below(80);
+            text = random_bytes(rng, length);
+        }
+        _ => text = extreme_text(rng, text),
+    }
+    text
+}
+
+/// Nothing at all, or far more than a table takes.
+fn extreme_text(rng: &mut Rng, mut text: Vec<u8>) -> Vec<u8> {
+    if rng.one_in(2) {
+        return Vec::new();
+    }
+    let length = match rng.one_in(100) {
+        true => rng.pick(&[1 << 20, (1 << 24) + 1]),
+        false => rng.pick(&[1_000, 65_535, 65_536, 65_537]),
+    };
+    let behind = match rng.below(3) {
+        0 => vec![b'\n'; length],
+        1 => vec![b' '; length],
+        _ => text.repeat(length.div_ceil(text.len())),
+    };
+    if rng.one_in(2) {
+        text.clear();
+    }
+    text.extend_from_slice(&behind);
+    text
+}
+
+/// Lines that are faulty as lines: numbers out of range or turn, names used twice, lines swapped.
+fn faulty_text(rng: &mut Rng, table: &Table) -> Vec<u8> {
+    let text = table.text();
+    let lines = text.split_inclusive(|&byte| byte == b'\n');
+    let mut lines: Vec<Vec<u8>> = lines.map(<[u8]>::to_vec).collect();
+    for _ in 0..rng.between(1, 2) {
+        faulty_line(rng, table, &mut lines);
+    }
+    lines.concat()
+}
+
+fn faulty_line(rng: &mut Rng, table: &Table, lines: &mut Vec<Vec<u8>>) {
+    if lines.is_empty() {
+        return;
+    }
+    let line = rng.below(lines.len());
+    let other = rng.below(lines.len());
+    match rng.below(11) {
+        0 | 1 => set_number(rng, table, &mut lines[0]),
+        2 | 3 => set_number(rng, table, &mut lines[line]),
+        4 => lines.swap(line, other),
+        5 => lines.insert(line, lines[other].clone()),
+        6 => drop(lines.remove(line)),
+        7..10 => set_name(rng, table, lines),
+        _ => set_layout(rng, &mut lines[line]),
+    }
+}
+
+/// Puts a number near some limit in one of the columns.
+fn set_number(rng: &mut Rng, table: &Table, line: &mut [u8]) {
+    let limits = [
+        0,
+        table.states,
+        table.labels(),
+        table.transitions.len(),
+        MAX_STATES,
+        MAX_LABELS,
+        MAX_TRANSITIONS,
+        999_999,
+    ];
+    let number = (rng.pick(&limits) + rng.below(3)).saturating_sub(1);
+    let field = rng.below(4) * columns::COLUMNS;
+    let mut columns = Vec::new();
+    columns::write(number as u64, &mut columns);
+    if let Some(place) = line.get_mut(field..field + columns::COLUMNS) {
+        place.copy_from_slice(&columns[..columns::COLUMNS]);
+    }
+}
+
+fn set_name(rng: &mut Rng, table: &Table, lines: &mut [Vec<u8>]) {
+    let label = rng.between(1, table.labels().max(1));
+    let Some(line) = lines.get_mut(label) else {
+        return;
+    };
+    let new = match rng.below(12) {
+        0 => name(rng, MAX_NAME + 1),
+        1 => Vec::new(),
+        2 => b"0a".to_vec(),
+        3 => b"aB".to_vec(),
+        4 => b"a b".to_vec(),
+        _ if table.labels() > 0 => table.names[rng.below(table.labels())].clone(),
+        _ => b"a".to_vec(),
+    };
+    line.truncate(columns::COLUMNS + 1);
+    line.extend_from_slice(&new);
+    line.push(b'\n');
+}
+
+fn set_layout(rng: &mut Rng, line: &mut Vec<u8>) {
+    let end = line.len().saturating_sub(1);
+    match rng.below(6) {
+        0 => line.insert(end, b' '),
+        1 => line.insert(end, b'\r'),
+        2 => line.insert(0, b' '),
+        3 => drop(line.pop()),
+        4 => {
+            if let Some(blank) = line.iter().rposition(|&byte| byte == b' ') {
+                line[blank] = b'0';
+            }
+        }
+        _ => line.rotate_left(1),
+    }
+}
+
+/// Prepared bytes, some of them bytes that no reading leaves.
+pub fn damaged_prepared(rng: &mut Rng, table: &Table) -> Vec<u8> {
+    let mut bytes = prepared::table_bytes(table);
+    for _ in 0..rng.between(1, 2) {
+        match rng.below(6) {
+            0 => bytes[rng.below(NAMES)] = rng.pick(&[0, 1, 2, 4, 5, 39, 40, 41, 255]),
+            1 => bytes[rng.below(TABLE_LENGTH)] = rng.below(256) as u8,
+            2 => damage_names(rng, table, &mut bytes),
+            3 | 4 => damage_transitions(rng, table, &mut bytes),
+            _ => {
+                let count = rng.below(NAMES);
+                bytes[count] = (bytes[count]).wrapping_add(rng.pick(&[1, 255]));
+            }
+        }
+    }
+    bytes
+}
+
+fn damage_names(rng: &mut Rng, table: &Table, bytes: &mut [u8]) {
+    // One slot past the used ones is as telling as the used ones.
+    let slots = (table.labels() + 1).min(MAX_LABELS);
+    let slot = NAMES + rng.below(slots) * NAME_SLOT;
+    let other = NAMES + rng.below(slots) * NAME_SLOT;
+    match rng.below(3) {
+        0 => bytes.copy_within(other..other + NAME_SLOT, slot),
+        1 => bytes[slot] = rng.pick(&[0, 1, 2, 11, 12, 13, 14, 15, 16, 255]),
+        _ => bytes[slot + rng.below(NAME_SLOT)] = rng.pick(super::TELLING),
+    }
+}
+
+fn damage_transitions(rng: &mut Rng, table: &Table, bytes: &mut [u8]) {
+    let slots = (table.transitions.len() + 1).min(MAX_TRANSITIONS);
+    let slot = TRANSITIONS + rng.below(slots) * TRANSITION_SLOT;
+    let other = TRANSITIONS + rng.below(slots) * TRANSITION_SLOT;
+    match rng.below(3) {
+        0 => bytes.copy_within(other..other + TRANSITION_SLOT, slot),
+        1 => (0..TRANSITION_SLOT).for_each(|byte| bytes.swap(slot + byte, other + byte)),
+        _ => {
+            let limits = [0, table.states, table.labels(), 255];
+            let byte = (rng.pick(&limits) + rng.below(3)).saturating_sub(1);
+            bytes[slot + rng.below(TRANSITION_SLOT)] = byte as u8;
+        }
+    }
+}

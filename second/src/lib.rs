@@ -1,0 +1,22 @@
+//! The second explainer: 01 by other methods than the library's, and what holds the two together.
+#![deny(unsafe_code)]
+
+pub mod baseline;
+pub mod bench;
+pub mod columns;
+pub mod compare;
+pub mod entries;
+pub mod formula;
+pub mod fuzz;
+pub mod grammar;
+pub mod inputs;
+#[allow(unsafe_code)]
+pub mod link;
+pub mod listing;
+pub mod prepared;
+pub mod print;
+pub mod reply;
+pub mod run;
+pub mod table;
+pub mod verdict;
+pub mod word;

@@ -1,0 +1,72 @@
+//! The baseline answers as the second explainer does.
+
+use std::collections::{BTreeMap, BTreeSet};
+
+use second::baseline::BASELINE;
+use second::compare::{self, Lent};
+use second::compare::{Case, disagreement};
+use second::entries::SECOND;
+use second::formula::MAX_BYTES;
+use second::fuzz;
+use second::inputs::rng::Rng;
+use second::prepared::{self, FORMULA_LENGTH};
+
+#[test]
+fn random_calls_agree_and_reach_every_refusal() {
+    let mut reached: BTreeMap<&str, BTreeSet<u32>> = BTreeMap::new();
+    let outcome = fuzz::run(&SECOND, &BASELINE, 21, 20_000, |agreement| {
+        let numbers = agreement.numbers.into_keys().collect();
+        reached.insert(agreement.entry, numbers);
+    });
+    assert_eq!(outcome, Ok(()));
+    let expected: BTreeMap<&str, BTreeSet<u32>> = BTreeMap::from([
+        ("read_table", [0, 1, 2, 3, 4, 14].into()),
+        ("read_formula", [0, 5, 6, 7, 8, 9, 10, 14].into()),
+        ("verdict", [0, 10, 14].into()),
+        ("build", [0, 10, 11, 12, 14].into()),
+        ("accepts", [0, 10, 13, 14].into()),
+    ]);
+    assert_eq!(reached, expected);
+}
+
+#[test]
+fn the_longest_listings_agree() {
+    for seed in 0..3 {
+        let question = fuzz::longest_listing(&mut Rng::new(seed));
+        let lent = |length| Lent { length, fill: seed };
+        let case = compare::Build {
+            table: prepared::table_bytes(&question.table),
+            formula: prepared::formula_bytes(&question.formula),
+            rows: lent(10_496 * 3),
+            edges: lent(1_000_000 * 5),
+        };
+        agree(&case);
+        let built = case.answer(&SECOND).expect("the second explainer builds");
+        assert!(built.reply.figure > 9_000, "{}", built.reply.figure);
+        assert!(built.edge_count > 500_000, "{}", built.edge_count);
+    }
+}
+
+/// Every text of four telling bytes, after beginnings that lead into each part of the grammar.
+#[test]
+fn short_texts_agree_after_every_kind_of_beginning() {
+    let table = second::table::Table::read(b"     1     1     0     0\n     1 a\n");
+    let table = prepared::table_bytes(&table.expect("a table"));
+    let bytes = b"T~|()[];.*aEX U1";
+    for beginning in ["", "(T", "EX[", "EX[a", "EU[a|", "EU[*;(", "AX[.]", "T|EX[a]", "~(~"] {
+        for index in 0..bytes.len().pow(4) {
+            let digit = |place: u32| bytes[index / bytes.len().pow(place) % bytes.len()];
+            let text = [beginning.as_bytes(), &[0, 1, 2, 3].map(digit)].concat();
+            let lent = &mut [0; FORMULA_LENGTH];
+            let second = second::entries::read_formula(&table, &text, lent);
+            let baseline = second::baseline::read_formula(&table, &text, lent);
+            assert_eq!(second, baseline, "{}", text.escape_ascii());
+        }
+    }
+    assert!(bytes.len() < MAX_BYTES);
+}
+
+fn agree<C: Case>(case: &C) {
+    let answers = [&SECOND, &BASELINE].map(|of| case.answer(of).expect("both have all entries"));
+    assert_eq!(disagreement(case, &answers[0], &answers[1]), None);
+}

@@ -1,0 +1,179 @@
+//! The comparison finds faults: each of these explainers is wrong in one thing.
+
+use second::entries::{self, Entries, SECOND};
+use second::fuzz;
+use second::prepared::{FORMULA_LENGTH, TABLE_LENGTH};
+use second::reply::Reply;
+
+/// What the comparison tells of an explainer that is wrong in one entry.
+fn told(wrong: Entries) -> String {
+    let outcome = fuzz::run(&SECOND, &wrong, 31, 3_000, |_| ());
+    outcome.expect_err("the fault is found")
+}
+
+#[test]
+fn a_right_explainer_is_not_blamed() {
+    assert_eq!(fuzz::run(&SECOND, &SECOND, 31, 500, |_| ()), Ok(()));
+}
+
+#[test]
+fn a_missing_entry_is_not_compared() {
+    let mut compared = Vec::new();
+    let wrong = Entries { verdict: SECOND.verdict, ..Entries::default() };
+    let outcome = fuzz::run(&SECOND, &wrong, 31, 10, |agreement| compared.push(agreement.entry));
+    assert_eq!((outcome, compared), (Ok(()), vec!["verdict"]));
+}
+
+#[test]
+fn a_figure_off_by_one_is_found() {
+    let told = told(Entries {
+        read_formula: Some(|table, text, formula| {
+            let reply = entries::read_formula(table, text, formula);
+            let off = u64::from(reply.number == 6 && reply.figure > 3);
+            Reply { figure: reply.figure + off, ..reply }
+        }),
+        ..Entries::default()
+    });
+    assert!(told.contains("read_formula: number and figure (6, "), "{told}");
+}
+
+#[test]
+fn refusals_in_another_order_are_found() {
+    let told = told(Entries {
+        read_formula: Some(|table, text, formula| {
+            match entries::read_formula(table, text, formula) {
+                Reply { number: 7, .. } if text.len() > 40 => Reply { number: 8, figure: 41 },
+                reply => reply,
+            }
+        }),
+        ..Entries::default()
+    });
+    assert!(told.contains("(7, "), "{told}");
+}
+
+#[test]
+fn a_byte_written_on_a_refusal_is_found() {
+    let told = told(Entries {
+        read_table: Some(|text, table| {
+            let reply = entries::read_table(text, table);
+            if let (4, Some(byte)) = (reply.number, table.last_mut()) {
+                *byte ^= 1;
+            }
+            reply
+        }),
+        ..Entries::default()
+    });
+    assert!(told.contains("written buffer 0: byte "), "{told}");
+}
+
+#[test]
+fn a_byte_past_the_prepared_length_is_found() {
+    let told = told(Entries {
+        read_formula: Some(|table, text, formula| {
+            let reply = entries::read_formula(table, text, formula);
+            if let (0, Some(byte)) = (reply.number, formula.get_mut(FORMULA_LENGTH)) {
+                *byte ^= 1;
+            }
+            reply
+        }),
+        ..Entries::default()
+    });
+    assert!(told.contains("written buffer 0: byte 681 "), "{told}");
+}
+
+#[test]
+fn a_prepared_byte_not_written_is_found() {
+    let told = told(Entries {
+        read_table: Some(|text, table| {
+            let before = table.get(TABLE_LENGTH - 1).copied();
+            let reply = entries::read_table(text, table);
+            if let Some(before) = before {
+                table[TABLE_LENGTH - 1] = before;
+            }
+            reply
+        }),
+        ..Entries::default()
+    });
+    assert!(told.contains("written buffer 0: byte 3717 is 0 here"), "{told}");
+}
+
+#[test]
+fn a_lost_word_is_found() {
+    let told = told(Entries {
+        accepts: Some(|table, formula, word| match word {
+            [.., 1, 0] => Reply { figure: 0, ..entries::accepts(table, formula, word) },
+            _ => entries::accepts(table, formula, word),
+        }),
+        ..Entries::default()
+    });
+    assert!(told.contains("accepts: number and figure "), "{told}");
+}
+
+#[test]
+fn edges_in_another_order_are_found() {
+    let told = told(Entries {
+        build: Some(|table, formula, rows, edges, edge_count| {
+            let reply = entries::build(table, formula, rows, edges, edge_count);
+            if reply.number == 0 && *edge_count >= 2 {
+                let second = *edge_count as usize * 5 - 5;
+                edges[second - 5..].rotate_left(5);
+            }
+            reply
+        }),
+        ..Entries::default()
+    });
+    assert!(told.contains("written buffer 1: byte "), "{told}");
+}
+
+#[test]
+fn a_final_mark_dropped_is_found() {
+    let told = told(Entries {
+        build: Some(|table, formula, rows, edges, edge_count| {
+            let reply = entries::build(table, formula, rows, edges, edge_count);
+            if reply.number == 0 && reply.figure == 4 {
+                rows[3 * 3 + 2] = 0;
+            }
+            reply
+        }),
+        ..Entries::default()
+    });
+    assert!(told.contains("written buffer 0: byte 11 "), "{told}");
+}
+
+#[test]
+fn a_count_of_edges_written_on_a_refusal_is_found() {
+    let told = told(Entries {
+        build: Some(|table, formula, rows, edges, edge_count| {
+            let reply = entries::build(table, formula, rows, edges, edge_count);
+            if reply.number == 12 {
+                *edge_count = reply.figure;
+            }
+            reply
+        }),
+        ..Entries::default()
+    });
+    assert!(told.contains("edge counts "), "{told}");
+}
+
+#[test]
+fn a_wrong_verdict_where_the_start_is_idle_is_found() {
+    let told = told(Entries {
+        verdict: Some(|table, formula| match entries::verdict(table, formula) {
+            Reply { number: 0, figure } if table[5] != table[646] => {
+                Reply::accepted(figure & u64::from(table[3] > 0))
+            }
+            reply => reply,
+        }),
+        ..Entries::default()
+    });
+    assert!(told.contains("verdict: number and figure (0, 1) here, (0, 0) there"), "{told}");
+}
+
+#[test]
+fn a_disagreement_is_told_as_a_test() {
+    let told = told(Entries { verdict: Some(|_, _| Reply::accepted(1)), ..Entries::default() });
+    assert!(
+        told.contains("#[test]\nfn verdict_agrees() {\n    agree(&Verdict { table: sparse("),
+        "{told}"
+    );
+}
