@@ -6,3 +6,4 @@ pub mod Explanation
 pub mod Printed
 pub mod BenchSheet
 pub mod Interface
+pub mod Readings

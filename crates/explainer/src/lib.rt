@@ -2,6 +2,7 @@
 pub mod exports;
 mod interface;
 pub mod print;
+pub mod readings;
 
 // What `explain` answers: verdict, class, rows and edges, or the number and the figure of a refusal.
 pub enum ExplainReply {

@@ -1,0 +1,149 @@
+-- Reading both texts into buffers of just their lengths.
+use mathlib.Core.Path.{_≡_, refl, sym, ap, _∙_, subst}
+use mathlib.Core.Bool.{Bool, true, false}
+use mathlib.Core.List.{List, [], _∷_, _++_, append-nil}
+use mathlib.Core.Option.{Option, none, some}
+use Prim.Native.Nat.{ℕ, _≤_, _<_}
+use native.Mathlib.Omega.{arith}
+use lib.Dec.{leb}
+use lib.ListN.{length, drop, drop-of-length-le}
+use borrow.Author.Tests.{le-leb}
+use Rattle.lts.specs.Reply.{Reply, accepted, refusal, unless, overwritten, leftIn, answers}
+use Rattle.lts.specs.Steps.{Table, labels}
+use Rattle.lts.specs.Reading.{readTable}
+use Rattle.lts.specs.Prepared.{tableLength, tableBytes, preparedTable}
+use Rattle.lts.specs.Replies as lts
+use Rattle.lts.specs.declared.TableReply.{TableReply}
+use Rattle.lts.specs.declared.TableReply.the-variants as tables
+use Rattle.lts.proofs.Laws.TableBytes.{table-bytes-length}
+use Rattle.lts.proofs.Laws.Texts.{text-of-read}
+use Rattle.actl.specs.Formulas.{Formula, size}
+use Rattle.actl.specs.Reading.{readFormula}
+use Rattle.actl.specs.Prepared.{formulaLength, formulaBytes}
+use Rattle.actl.specs.Replies as actl
+use Rattle.actl.specs.declared.FormulaReply.{FormulaReply}
+use Rattle.actl.specs.declared.FormulaReply.the-variants as formulas
+use Rattle.actl.proofs.Laws.Forms.{length-form}
+use Rattle.explainer.specs.Interface.{numberIn, figureIn}
+use Rattle.explainer.specs.Explanation.{next}
+use Rattle.explainer.specs.Readings.{Read, readings, ReadBoth}
+use Rattle.explainer.specs.declared.readings.Readiness.the-variants.{Ready, Refused}
+use Rattle.explainer.proofs.Explained.{reading-leaves-table, reading-leaves-formula}
+
+-- A reply with the number 0 accepted; any other is the refusal that number and figure say.
+pub table-zero : (r : TableReply) → numberIn (lts.tableReply r) ≡ 0 → lts.tableReply r ≡ accepted tt
+table-zero tables.Accepted e = refl
+table-zero (tables.NotLaidOut n) e = absurd (omega arith)
+table-zero (tables.OutOfRange n) e = absurd (omega arith)
+table-zero (tables.NameRepeated n) e = absurd (omega arith)
+table-zero (tables.NotRising n) e = absurd (omega arith)
+table-zero (tables.BufferShort n) e = absurd (omega arith)
+
+pub formula-zero : (r : FormulaReply) → numberIn (actl.formulaReply r) ≡ 0 → actl.formulaReply r ≡ accepted tt
+formula-zero formulas.Accepted e = refl
+formula-zero (formulas.TooLong n) e = absurd (omega arith)
+formula-zero (formulas.NotGrammatical n) e = absurd (omega arith)
+formula-zero (formulas.NameUnknown n) e = absurd (omega arith)
+formula-zero (formulas.TooManyNodes n) e = absurd (omega arith)
+formula-zero (formulas.NoClass n) e = absurd (omega arith)
+formula-zero formulas.TableForeign e = absurd (omega arith)
+formula-zero (formulas.BufferShort n) e = absurd (omega arith)
+
+refused-so : (r : Reply (Unit {0})) → (numberIn r ≡ 0 → ⊥) → r ≡ refusal (numberIn r) (figureIn (λ _. 0) r)
+refused-so (accepted u) h = absurd (h refl)
+refused-so (refusal n g) h = refl
+
+same-refusal : {A B : Type 0} (f : A → B) (r : Reply A) (n g : ℕ) → answers f r ≡ refusal n g → r ≡ refusal n g
+same-refusal f (accepted a) n g e = absurd (let z : _≡_ {A = ℕ} 0 1 = cc in omega arith)
+same-refusal f (refusal m h) n g e = let a : m ≡ n = cc in let b : h ≡ g = cc in λ i. refusal (a i) (b i)
+
+-- A buffer of just the length is written whole.
+all-written : (bytes buffer : List ℕ) → length bytes ≡ length buffer → overwritten bytes buffer ≡ bytes
+all-written bytes buffer e = let h : length buffer ≤ length bytes = omega arith in ap (λ l. bytes ++ l) (drop-of-length-le buffer h) ∙ append-nil bytes
+
+enough : {A : Type 0} (b : Bool) (n f : ℕ) (next : Reply A) → b ≡ true → unless b n f next ≡ next
+enough true n f next e = refl
+enough false n f next e = absurd (let z : _≡_ {A = ℕ} 0 1 = cc in omega arith)
+
+module _ (text buffer : List ℕ) (long : length buffer ≡ tableLength) where
+  table-reading : lts.tableReading text buffer ≡ readTable text
+  unfolding lts.tableReading
+  table-reading = enough (leb tableLength (length buffer)) 14 tableLength (readTable text) (le-leb tableLength (length buffer) (omega arith))
+
+  pub table-refused : (r : TableReply) → lts.tableReply r ≡ lts.tableReplied text buffer → (numberIn (lts.tableReply r) ≡ 0 → ⊥)
+      → readTable text ≡ refusal (numberIn (lts.tableReply r)) (figureIn (λ _. 0) (lts.tableReply r))
+  table-refused r e h = sym table-reading ∙ same-refusal (λ t. tt) (lts.tableReading text buffer) _ _ (sym e ∙ refused-so (lts.tableReply r) h)
+
+  pub table-written : (t : Table) → readTable text ≡ accepted t → lts.tableLeft text buffer ≡ tableBytes t
+  table-written t e =
+      ap (λ r. leftIn tableBytes r buffer) (table-reading ∙ e)
+      ∙ all-written (tableBytes t) buffer (table-bytes-length t (text-of-read text t e .1) ∙ sym long)
+
+module _ (table text buffer : List ℕ) (long : length buffer ≡ formulaLength) (whole : length table ≡ tableLength) (t : Table) (held : preparedTable table ≡ some t) where
+  formula-reading : actl.formulaReading table text buffer ≡ readFormula (t .names) text
+  unfolding actl.formulaReading
+  formula-reading =
+      enough (leb tableLength (length table)) 14 tableLength _ (le-leb tableLength (length table) (omega arith))
+      ∙ enough (leb formulaLength (length buffer)) 14 formulaLength _ (le-leb formulaLength (length buffer) (omega arith))
+      ∙ ap (λ o. actl.withTable o (λ u. readFormula (u .names) text)) held
+
+  pub formula-refused : (r : FormulaReply) → actl.formulaReply r ≡ actl.formulaReplied table text buffer → (numberIn (actl.formulaReply r) ≡ 0 → ⊥)
+      → readFormula (t .names) text ≡ refusal (numberIn (actl.formulaReply r)) (figureIn (λ _. 0) (actl.formulaReply r))
+  formula-refused r e h = sym formula-reading ∙ same-refusal (λ F. tt) (actl.formulaReading table text buffer) _ _ (sym e ∙ refused-so (actl.formulaReply r) h)
+
+  pub formula-written : (F : Formula) → readFormula (t .names) text ≡ accepted F → size F ≤ 40 → actl.formulaLeft table text buffer ≡ formulaBytes F
+  formula-written F e few =
+      ap (λ r. leftIn formulaBytes r buffer) (formula-reading ∙ e)
+      ∙ all-written (formulaBytes F) buffer (length-form F few ∙ sym long)
+
+-- What both readings come to.
+module _ (tableText formulaText : List ℕ) where
+  pub both-table-refused : (n g : ℕ) → readTable tableText ≡ refusal n g → (table formula : List ℕ) → ReadBoth (readings tableText formulaText) (Refused n g) table formula
+  both-table-refused n g e table formula =
+      subst (λ (r : Reply Table). ReadBoth (next r (λ t. next (readFormula (t .names) formulaText) (λ F. accepted (record { table = t; formula = F })))) (Refused n g) table formula) (sym e) (refl, refl)
+
+  module _ (t : Table) (read : readTable tableText ≡ accepted t) where
+    over : readings tableText formulaText ≡ next (readFormula (t .names) formulaText) (λ F. accepted (record { table = t; formula = F }))
+    over = ap (λ r. next r (λ t. next (readFormula (t .names) formulaText) (λ F. accepted (record { table = t; formula = F })))) read
+
+    pub both-formula-refused : (n g : ℕ) → readFormula (t .names) formulaText ≡ refusal n g → (table formula : List ℕ) → ReadBoth (readings tableText formulaText) (Refused n g) table formula
+    both-formula-refused n g e table formula =
+        subst (λ (r : Reply Read). ReadBoth r (Refused n g) table formula) (sym (over ∙ ap (λ r. next r (λ F. accepted (record { table = t; formula = F }))) e)) (refl, refl)
+
+    pub both-read : (F : Formula) → readFormula (t .names) formulaText ≡ accepted F → (table formula : List ℕ) → table ≡ tableBytes t → formula ≡ formulaBytes F
+        → ReadBoth (readings tableText formulaText) Ready table formula
+    both-read F e table formula a b =
+        subst (λ (r : Reply Read). ReadBoth r Ready table formula) (sym (over ∙ ap (λ r. next r (λ F. accepted (record { table = t; formula = F }))) e)) (a, b)
+
+-- What an accepted reading into a buffer of just the length gives.
+pub record TableRead (text left : List ℕ) : Type 0 where
+  pub table : Table
+  pub read : readTable text ≡ accepted table
+  pub held : preparedTable left ≡ some table
+  pub bytes : left ≡ tableBytes table
+  pub whole : length left ≡ tableLength
+
+pub table-read : (text buffer : List ℕ) (r : TableReply) (left : List ℕ) → lts.tableReply r ≡ lts.tableReplied text buffer → left ≡ lts.tableLeft text buffer
+    → numberIn (lts.tableReply r) ≡ 0 → length buffer ≡ tableLength → TableRead text left
+table-read text buffer r left e d z long =
+    let (t, read, held) = reading-leaves-table text buffer (sym e ∙ table-zero r z) in
+    let bytes = d ∙ table-written text buffer long t read in
+    record {
+      table = t;
+      read = read;
+      held = ap preparedTable d ∙ held;
+      bytes = bytes;
+      whole = ap length bytes ∙ table-bytes-length t (text-of-read text t read .1);
+    }
+
+pub record FormulaRead (t : Table) (text left : List ℕ) : Type 0 where
+  pub formula : Formula
+  pub read : readFormula (t .names) text ≡ accepted formula
+  pub bytes : left ≡ formulaBytes formula
+
+pub formula-read : (table text buffer : List ℕ) → length buffer ≡ formulaLength → length table ≡ tableLength → (t : Table) → preparedTable table ≡ some t
+    → (r : FormulaReply) (left : List ℕ) → actl.formulaReply r ≡ actl.formulaReplied table text buffer → left ≡ actl.formulaLeft table text buffer
+    → numberIn (actl.formulaReply r) ≡ 0 → FormulaRead t text left
+formula-read table text buffer long whole t held r left e d z =
+    let (F, read, form, again) = reading-leaves-formula table text buffer t held (sym e ∙ formula-zero r z) in
+    record { formula = F; read = read; bytes = d ∙ formula-written table text buffer long whole t held F read (form .few) }

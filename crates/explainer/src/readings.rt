@@ -1,0 +1,37 @@
+// Reading both texts, the formula's over the table that was read.
+ghost use mathlib.Core.Path.{_≡_};
+ghost use lib.ListN.{length};
+ghost use Rattle.explainer.specs.Readings.{readings, ReadBoth};
+use crate::interface::formula_figure;
+use crate::interface::formula_number;
+use crate::interface::table_figure;
+use crate::interface::table_number;
+use actl::read_formula;
+use lts::reading::read_table;
+
+pub enum Readiness {
+    Ready,
+    Refused(u32, u64),
+}
+
+pub fn read_both(
+    tabletext: &[u8],
+    formulatext: &[u8],
+    table: &mut [u8],
+    formula: &mut [u8],
+) -> Readiness
+    requires { ⌜ (length (now table) ≡ 3718) × (length (now formula) ≡ 681) ⌝ }
+    ensures { λ r. ⌜ ReadBoth (readings (now (tabletext .entry)) (now (formulatext .entry))) r (now (table .exit)) (now (formula .exit)) ⌝ }
+{
+    let first = read_table(tabletext, table);
+    let number = table_number(first);
+    if number != 0 {
+        return Readiness::Refused(number, table_figure(first));
+    }
+    let second = read_formula(table, formulatext, formula);
+    let number = formula_number(second);
+    if number != 0 {
+        return Readiness::Refused(number, formula_figure(second));
+    }
+    Readiness::Ready
+}
