@@ -61,7 +61,7 @@ same-refusal f (refusal m h) n g e = let a : m ≡ n = cc in let b : h ≡ g = c
 all-written : (bytes buffer : List ℕ) → length bytes ≡ length buffer → overwritten bytes buffer ≡ bytes
 all-written bytes buffer e = let h : length buffer ≤ length bytes = omega arith in ap (λ l. bytes ++ l) (drop-of-length-le buffer h) ∙ append-nil bytes
 
-enough : {A : Type 0} (b : Bool) (n f : ℕ) (next : Reply A) → b ≡ true → unless b n f next ≡ next
+pub enough : {A : Type 0} (b : Bool) (n f : ℕ) (next : Reply A) → b ≡ true → unless b n f next ≡ next
 enough true n f next e = refl
 enough false n f next e = absurd (let z : _≡_ {A = ℕ} 0 1 = cc in omega arith)
 
