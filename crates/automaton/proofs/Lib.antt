@@ -16,3 +16,4 @@ pub mod Unique
 pub mod Counts
 pub mod Bytes
 pub mod Accepted
+pub mod Laws

@@ -7,3 +7,4 @@ pub mod Listed
 pub mod Words
 pub mod Bytes
 pub mod Replies
+pub mod Hops
