@@ -2,3 +2,4 @@
 pub mod Stores
 pub mod Hops
 pub mod Loops
+pub mod Labels
