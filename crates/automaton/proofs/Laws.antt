@@ -3,3 +3,4 @@ pub mod Stores
 pub mod Hops
 pub mod Loops
 pub mod Labels
+pub mod Survey
