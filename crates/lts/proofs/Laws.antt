@@ -10,3 +10,9 @@ pub mod Texts
 pub mod Slots
 pub mod TableBytes
 pub mod Prepared
+pub mod Names
+pub mod Decides
+pub mod Spelling
+pub mod Filled
+pub mod WellFormed
+pub mod Held

@@ -283,6 +283,14 @@ module _ {A : Type 0} (d : A) where
     rising-index (x ∷ l) r (suc i) zero h k = absurd (omega arith)
     rising-index (x ∷ l) r (suc i) (suc j) h k = rising-index l (r .1) i j (omega arith) (omega arith)
 
+    -- Any two by number.
+    pub rising-pairs : (l : List A) → ((i j : ℕ) → i < j → j < length l → R (getD l i d) (getD l j d)) → Rising R l
+    rising-pairs [] h = tt
+    rising-pairs (x ∷ l) h = (
+      λ y m. let (i, b, e) = mem-index m in subst (R x) e (h 0 (suc i) (omega arith) (omega arith)),
+      rising-pairs l (λ i j p q. h (suc i) (suc j) (omega arith) (omega arith)),
+    )
+
     -- Neighbours suffice.
     pub rising-adjacent : ((x y z : A) → R x y → R y z → R x z) → (l : List A) → ((i : ℕ) → suc i < length l → R (getD l i d) (getD l (suc i) d)) → Rising R l
     rising-adjacent tr [] h = tt

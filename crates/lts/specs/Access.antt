@@ -6,10 +6,12 @@ use mathlib.Core.Option.{Option, none, some}
 use Prim.Native.Nat.{ℕ, suc, _≤_, _<_}
 use lib.Dec.{ltb}
 use lib.ListN.{length, getD}
-use Rattle.lts.specs.Steps.{Step, Table}
+use Rattle.lts.specs.Steps.{Step}
 use Rattle.lts.specs.Range.{InRange}
 use Rattle.lts.specs.Prepared.{tableLength, tableIn, transitionAt}
 use Rattle.lts.specs.declared.prepared.Transition.{Transition}
+use Rattle.lts.specs.declared.names.Found.{Found}
+use Rattle.lts.specs.declared.names.Found.the-variants.{At, Nothing}
 
 abbrev pub isSome : {A : Type 0} → Option A → Bool
 isSome none = false
@@ -45,3 +47,13 @@ pub record ExitsFound (b r : List ℕ) : Type 0 where
   pub states : length r ≡ 257
   pub begins : (s : ℕ) → s ≤ 256 → getD r s 0 ≡ exitsBelow (tableIn b .transitions) s
   pub few : (s : ℕ) → s ≤ 256 → getD r s 0 ≤ length (tableIn b .transitions)
+
+-- An answer to a question.
+pub record Decides (P : Type 0) (r : Bool) : Type 0 where
+  pub yes : r ≡ true → P
+  pub no : r ≡ false → P → ⊥
+
+-- A label's number, if there is one.
+abbrev pub foundIn : Found → Option ℕ
+foundIn (At k) = some k
+foundIn Nothing = none

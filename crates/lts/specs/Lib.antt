@@ -8,3 +8,4 @@ pub mod Reading
 pub mod Prepared
 pub mod Replies
 pub mod Access
+pub mod Check

@@ -10,4 +10,6 @@ pub enum TableReply {
     BufferShort(usize),
 }
 
+pub mod check;
+pub mod names;
 pub mod prepared;

@@ -15,7 +15,7 @@ pub struct Transition {
     pub to: usize,
 }
 
-fn byte(table: &[u8], i: usize) -> usize
+pub fn byte(table: &[u8], i: usize) -> usize
     requires { ⌜ i < length (now table) ⌝ }
     ensures { λ r. ⌜ Counted 256 (byteAt (now (table .entry)) i) r ⌝ }
 {

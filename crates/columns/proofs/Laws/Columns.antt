@@ -1,5 +1,5 @@
 -- Laws of numbers in six columns: length, bytes, and the number that they hold.
-use mathlib.Core.Path.{_≡_, refl, sym, ap, _∙_, subst}
+use mathlib.Core.Path.{_≡_, refl, sym, ap, _∙_}
 use mathlib.Core.Bool.{Bool, true, false, cond}
 use mathlib.Core.List.{List, [], _∷_, _++_, List·Memᴰ, List·Memᴰ·not-nil, List·Memᴰ·eq-of-singleton, List·Memᴰ·append-cases}
 use mathlib.Core.Logic.{_⊎_, inl, inr}
@@ -7,7 +7,7 @@ use Prim.Native.Nat.{ℕ, zero, suc, _+_, _-_, _*_, _/_, _%_, _^_, _≤_, _<_}
 use native.Mathlib.Nat.{pow-suc}
 use native.Mathlib.Omega.{arith}
 use lib.Dec.{ltb}
-use lib.ListN.{length, replicate, take, drop, length-append, length-replicate}
+use lib.ListN.{length, replicate, take, length-append, length-replicate}
 use lib.Seq.{take-all, take-at, drop-append-add}
 use borrow.Author.Tests.{ltb-true, ltb-false}
 use Rattle.columns.specs.Columns.{digitsWithin, decimal, column, valueFrom, valueAt}

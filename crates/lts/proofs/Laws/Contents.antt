@@ -1,12 +1,12 @@
 -- What stands in bytes, member by member: the counts, names and transitions of `tableIn`.
-use mathlib.Core.Path.{_≡_, refl, sym, ap, _∙_}
+use mathlib.Core.Path.{_≡_, refl, ap, _∙_}
 use mathlib.Core.List.{List, [], _∷_, map}
 use Prim.Native.Nat.{ℕ, zero, suc, _+_, _*_, _<_}
 use native.Mathlib.Nat.{zero-add}
 use native.Mathlib.Omega.{arith}
 use lib.ListN.{length, getD, length-map}
 use Rattle.lts.specs.Lists.{upFrom}
-use Rattle.lts.specs.Steps.{Step, Table, labels}
+use Rattle.lts.specs.Steps.{Step, labels}
 use Rattle.lts.specs.Prepared.{tableIn, byteAt, nameAt, transitionAt}
 use Rattle.lts.proofs.Lists.{upFrom-length, upFrom-at}
 

@@ -1,17 +1,17 @@
 -- Lines: the first line of a text, and what each kind of line says.
 use mathlib.Core.Path.{_≡_, refl, sym, ap, ap₂, _∙_, subst}
 use mathlib.Core.Logic.{_⊎_, inl, inr}
-use mathlib.Core.Bool.{Bool, true, false, cond, _&&_}
+use mathlib.Core.Bool.{Bool, true, false, cond}
 use mathlib.Core.List.{List, [], _∷_, _++_, List·Memᴰ, List·Memᴰ·head, List·Memᴰ·tail, List·Memᴰ·cases-cons, List·Memᴰ·append-cases}
-use Prim.Native.Nat.{ℕ, zero, suc, _+_, _≤_, _<_}
+use Prim.Native.Nat.{ℕ, _<_}
 use native.Mathlib.Omega.{arith}
 use lib.Dec.{eqb}
-use lib.ListN.{length, drop}
+use lib.ListN.{drop}
 use lib.Seq.{drop-append-add}
 use borrow.Author.Tests.{eqb-true, ne-eqb}
 use Rattle.columns.specs.Bytes.{sameBytes}
 use Rattle.columns.specs.Columns.{column, valueAt}
-use Rattle.columns.proofs.Laws.Bytes.{same-of, same-to}
+use Rattle.columns.proofs.Laws.Bytes.{same-to}
 use Rattle.columns.proofs.Laws.Columns.{Digit, column-length, column-are, value-here, value-last, value-past}
 use Rattle.lts.specs.Steps.{Step}
 use Rattle.lts.specs.Names.{isName}

@@ -2,7 +2,7 @@
 use mathlib.Core.Path.{_≡_, refl, sym, ap, _∙_, subst}
 use mathlib.Core.Logic.{_↔_}
 use mathlib.Core.Bool.{Bool, true, false, false≢true, cond}
-use mathlib.Core.List.{List, [], _∷_, _++_}
+use mathlib.Core.List.{List, _++_}
 use mathlib.Core.Option.{Option, none, some}
 use Prim.Native.Nat.{ℕ, _≤_}
 use native.Mathlib.Omega.{arith}
@@ -74,3 +74,6 @@ prepared-length b t e =
 pub prepared-holds : (b : List ℕ) (t : Table) → preparedTable b ≡ some t → HoldsTable b
 prepared-holds b t e = let p = prepared-of b t e in
     record { long = prepared-length b t e; in-range = subst InRange (sym (p .2)) (p .0) }
+
+pub found-holds : (b : List ℕ) → isSome (preparedTable b) ≡ true → HoldsTable b
+found-holds b e = prepared-holds b (tableIn b) (prepared-in b e)

@@ -1,23 +1,19 @@
 -- Reading line by line: one line more, and all the lines of labels and of transitions.
-use mathlib.Core.Path.{_≡_, refl, sym, ap, _∙_, subst}
+use mathlib.Core.Path.{_≡_, refl, sym, ap, _∙_}
 use mathlib.Core.Bool.{Bool, true, false, not}
 use mathlib.Core.List.{List, [], _∷_, _++_, append-assoc, append-nil}
-use Prim.Native.Nat.{ℕ, zero, suc, _+_, _≤_, _<_}
+use Prim.Native.Nat.{ℕ, zero, suc, _+_}
 use native.Mathlib.Omega.{arith}
-use lib.Dec.{eqb}
-use lib.ListN.{length, drop, length-append}
-use borrow.Author.Tests.{eqb-true, eq-eqb}
-use Rattle.columns.specs.Columns.{valueAt}
+use lib.ListN.{length}
 use Rattle.columns.proofs.Laws.Bytes.{same-of}
-use Rattle.lts.specs.Reply.{Reply, accepted, refusal, unless}
+use Rattle.lts.specs.Reply.{Reply, accepted, unless}
 use Rattle.lts.specs.Steps.{Step, Table}
 use Rattle.lts.specs.Names.{isName}
-use Rattle.lts.specs.Text.{ended, labelLine, transitionLine, labelLines, transitionLines}
-use Rattle.lts.specs.Reading.{Line, missing, line, firstLine, onLine, Header, labelLaidOut, used, stepOf, stepLaidOut, stepInRange, above, atEnd, readTransitions, readLabels}
-use Rattle.lts.proofs.Lists.{and-true-of}
-use Rattle.lts.proofs.Laws.Tests.{Counts, step-range-of, name-shape}
+use Rattle.lts.specs.Text.{ended, transitionLine, transitionLines}
+use Rattle.lts.specs.Reading.{Line, missing, line, firstLine, onLine, Header, used, stepOf, stepLaidOut, stepInRange, above, readTransitions}
+use Rattle.lts.proofs.Laws.Tests.{Counts, step-range-of}
 use Rattle.lts.proofs.Laws.Grown.{Grown}
-use Rattle.lts.proofs.Laws.Lines.{first-line-of, first-line-to, step-of, step-laid-out, step-unbroken, label-number, label-name, label-laid-out, label-unbroken}
+use Rattle.lts.proofs.Laws.Lines.{first-line-of, first-line-to, step-of, step-laid-out, step-unbroken}
 
 -- Names that may follow, and transitions that may follow.
 abbrev pub Named : List (List ℕ) → List (List ℕ) → Type 0

@@ -1,5 +1,5 @@
 -- Reading the lines of labels: one more, and all of them.
-use mathlib.Core.Path.{_≡_, refl, sym, ap, ap₂, _∙_, subst}
+use mathlib.Core.Path.{_≡_, refl, sym, ap, ap₂, _∙_}
 use mathlib.Core.Bool.{true, not}
 use mathlib.Core.List.{List, [], _∷_, _++_, append-assoc, append-nil}
 use Prim.Native.Nat.{ℕ, zero, suc, _+_, _≤_, _<_}
@@ -10,7 +10,7 @@ use lib.ListN.{length, drop, length-append}
 use borrow.Author.Tests.{eqb-true, eq-eqb}
 use Rattle.columns.specs.Columns.{valueAt}
 use Rattle.columns.proofs.Laws.Bytes.{same-of}
-use Rattle.lts.specs.Reply.{Reply, accepted, refusal, unless}
+use Rattle.lts.specs.Reply.{accepted, unless}
 use Rattle.lts.specs.Steps.{Table}
 use Rattle.lts.specs.Names.{isName}
 use Rattle.lts.specs.Text.{ended, labelLine, labelLines}

@@ -1,14 +1,12 @@
 -- Slots of one width, one behind the other: how long they are together, and what stands in slot k.
-use mathlib.Core.Path.{_≡_, refl, sym, ap, _∙_, subst}
+use mathlib.Core.Path.{_≡_, refl, sym, ap, _∙_}
 use mathlib.Core.List.{List, [], _∷_, _++_, append-assoc, List·Memᴰ, List·Memᴰ·head, List·Memᴰ·tail}
-use Prim.Native.Nat.{ℕ, zero, suc, _+_, _*_, _≤_, _<_}
-use native.Mathlib.Nat.{suc-mul, zero-mul, add-comm}
+use Prim.Native.Nat.{ℕ, zero, suc, _+_, _*_, _<_}
+use native.Mathlib.Nat.{suc-mul, zero-mul}
 use native.Mathlib.Omega.{arith}
-use lib.ListN.{length, getD, take, drop, length-append, take-append-drop}
+use lib.ListN.{length, getD, drop, length-append}
 use lib.Seq.{drop-append-add}
 use Rattle.lts.specs.Lists.{bind}
-use Rattle.lts.specs.Steps.{Step}
-use Rattle.lts.specs.Prepared.{nameSlot, transitionSlot, byteAt, nameAt, transitionAt}
 
 module _ {A : Type 0} (f : A → List ℕ) (w : ℕ) where
   abbrev pub Sized : List A → Type 0

@@ -1,34 +1,33 @@
 -- The bytes of a table: how many they are, that they are bytes, and that the table stands in them.
-use mathlib.Core.Path.{_≡_, refl, sym, ap, ap₂, _∙_, subst}
-use mathlib.Core.Bool.{true}
+use mathlib.Core.Path.{_≡_, refl, sym, ap, ap₂, _∙_}
 use mathlib.Core.List.{List, [], _∷_, _++_, map, append-assoc, List·Memᴰ}
-use mathlib.Core.Logic.{_⊎_, inl, inr}
-use Prim.Native.Nat.{ℕ, zero, suc, _+_, _-_, _*_, _/_, _%_, _≤_, _<_}
+use Prim.Native.Nat.{ℕ, suc, _+_, _-_, _*_, _/_, _%_, _≤_, _<_}
 use native.Mathlib.Nat.{add-zero}
 use native.Mathlib.Omega.{arith}
 use lib.ListN.{length, getD, take, drop, replicate, length-append}
-use lib.Seq.{take-append-seam, take-at, drop-at, drop-drop, getD-drop, ext-getD}
-use Rattle.columns.specs.Bytes.{padded, lowFirst}
+use lib.Seq.{take-append-seam, drop-at, drop-drop, getD-drop, ext-getD}
+use Rattle.columns.specs.Bytes.{lowFirst}
 use Rattle.columns.proofs.Laws.Bytes.{Bytes, bytes-none, bytes-cons, bytes-append, padded-length, padded-bytes, lowFirst-bytes, pair-value}
 use Rattle.lts.specs.Lists.{upFrom, bind}
 use Rattle.lts.specs.Steps.{Step, Table, labels, idleAt}
 use Rattle.lts.specs.Range.{InRange}
 use Rattle.lts.specs.Prepared.{tableLength, nameSlot, transitionSlot, nameSlots, transitionSlots, tableBytes, byteAt, nameAt, transitionAt, tableIn}
-use Rattle.lts.proofs.Lists.{getD-mem, bind-of}
-use Rattle.lts.proofs.Laws.Tests.{NameShape, name-shape}
+use Rattle.lts.proofs.Lists.{bind-of}
+use Rattle.lts.proofs.Laws.Tests.{name-shape}
 use Rattle.lts.proofs.Laws.Contents.{map-upFrom-length, map-upFrom-at}
 use Rattle.lts.proofs.Laws.Slots.{slots-length, slot-at}
 
 -- A slot says what it was made of.
+pub size-of-slot : (b n z : List ℕ) (k : ℕ) → drop (6 + k * 16) b ≡ nameSlot n ++ z → byteAt b (6 + k * 16) ≡ length n
+size-of-slot b n z k e = ap (byteAt b) (sym (add-zero (6 + k * 16))) ∙ (sym (getD-drop (6 + k * 16) b 0 0) ∙ ap (λ (s : List ℕ). byteAt s 0) e)
+
 pub name-of-slot : (b n z : List ℕ) (k : ℕ) → drop (6 + k * 16) b ≡ nameSlot n ++ z → nameAt b k ≡ n
 name-of-slot b n z k e =
     let zeros : List ℕ = replicate (16 - suc (length n)) 0 in
-    let size : byteAt b (6 + k * 16) ≡ length n
-    = ap (byteAt b) (sym (add-zero (6 + k * 16))) ∙ (sym (getD-drop (6 + k * 16) b 0 0) ∙ ap (λ (s : List ℕ). byteAt s 0) e) in
     let next : (6 + k * 16) + 1 ≡ 7 + k * 16 = omega arith in
     let bytes : drop (7 + k * 16) b ≡ n ++ (zeros ++ z)
     = ap (λ (j : ℕ). drop j b) (sym next) ∙ (sym (drop-drop 1 (6 + k * 16) b) ∙ (ap (drop 1) e ∙ append-assoc n zeros z)) in
-    ap₂ take size bytes ∙ take-append-seam n (zeros ++ z)
+    ap₂ take (size-of-slot b n z k e) bytes ∙ take-append-seam n (zeros ++ z)
 
 pub transition-of-slot : (b z : List ℕ) (st : Step) (k : ℕ) → drop (646 + k * 3) b ≡ transitionSlot st ++ z → transitionAt b k ≡ st
 transition-of-slot b z st k e =
@@ -41,7 +40,7 @@ transition-of-slot b z st k e =
     at i d = ap (byteAt b) (sym d) ∙ (sym (getD-drop (646 + k * 3) b i 0) ∙ ap (λ (s : List ℕ). getD s i 0) e)
 
 module _ (t : Table) (r : InRange t) where
-  names-sized : (n : List ℕ) → List·Memᴰ n (t .names) → length (nameSlot n) ≡ 16
+  pub names-sized : (n : List ℕ) → List·Memᴰ n (t .names) → length (nameSlot n) ≡ 16
   names-sized n m = padded-length 16 (length n ∷ n) (omega (arith, name-shape n (r .named n m) .short))
 
   names-fit : length (bind nameSlot (t .names)) ≤ 640
@@ -82,24 +81,28 @@ module _ (t : Table) (r : InRange t) where
       (bytes-append (nameSlots t) (padded-bytes 640 (bind nameSlot (t .names)) name-bytes) (padded-bytes 3072 (bind transitionSlot (t .transitions)) transition-bytes)))))
 
   module _ (rest : List ℕ) where
-    abbrev whole : List ℕ
+    abbrev pub whole : List ℕ
     whole = tableBytes t ++ rest
 
-    names-behind : drop 6 whole ≡ nameSlots t ++ (transitionSlots t ++ rest)
+    pub names-behind : drop 6 whole ≡ nameSlots t ++ (transitionSlots t ++ rest)
     unfolding tableBytes
     names-behind = append-assoc (nameSlots t) (transitionSlots t) rest
 
-    transitions-behind : drop 646 whole ≡ transitionSlots t ++ rest
+    pub transitions-behind : drop 646 whole ≡ transitionSlots t ++ rest
     transitions-behind =
         sym (drop-drop 640 6 whole) ∙ (ap (drop 640) names-behind ∙ drop-at (nameSlots t) (transitionSlots t ++ rest) 640 name-slots-length)
 
-    name-there : (k : ℕ) → k < labels t → nameAt whole k ≡ getD (t .names) k []
-    name-there k h =
+    pub name-slot-there : (k : ℕ) → k < labels t → (z : List ℕ) × (drop (6 + k * 16) whole ≡ nameSlot (getD (t .names) k []) ++ z)
+    name-slot-there k h =
         let zeros : List ℕ = replicate (640 - length (bind nameSlot (t .names))) 0 in
-        let (z, e) = slot-at nameSlot 16 (t .names) k [] (zeros ++ (transitionSlots t ++ rest)) names-sized h in
-        name-of-slot whole (getD (t .names) k []) z k
-        (sym (drop-drop (k * 16) 6 whole)
-        ∙ (ap (drop (k * 16)) (names-behind ∙ append-assoc (bind nameSlot (t .names)) zeros (transitionSlots t ++ rest)) ∙ e))
+        let (z, e) = slot-at nameSlot 16 (t .names) k [] (zeros ++ (transitionSlots t ++ rest)) names-sized h in (
+          z,
+          sym (drop-drop (k * 16) 6 whole)
+              ∙ (ap (drop (k * 16)) (names-behind ∙ append-assoc (bind nameSlot (t .names)) zeros (transitionSlots t ++ rest)) ∙ e),
+        )
+
+    name-there : (k : ℕ) → k < labels t → nameAt whole k ≡ getD (t .names) k []
+    name-there k h = let (z, e) = name-slot-there k h in name-of-slot whole (getD (t .names) k []) z k e
 
     transition-there : (k : ℕ) → k < length (t .transitions) → transitionAt whole k ≡ getD (t .transitions) k (idleAt 0)
     transition-there k h =

@@ -2,20 +2,20 @@
 use mathlib.Core.Path.{_≡_, refl, sym, ap, _∙_, subst}
 use mathlib.Core.Logic.{_⊎_, inl, inr}
 use mathlib.Core.Bool.{Bool, true, false, true≢false, false≢true, not, _&&_, _||_}
-use mathlib.Core.List.{List, [], _∷_, _++_, List·Memᴰ, List·Memᴰ·head, List·Memᴰ·tail, List·Memᴰ·not-nil, List·Memᴰ·cases-cons, List·Memᴰ·eq-of-singleton}
-use Prim.Native.Nat.{ℕ, zero, suc, _+_, _≤_, _<_}
+use mathlib.Core.List.{List, [], _∷_, List·Memᴰ, List·Memᴰ·head, List·Memᴰ·tail, List·Memᴰ·not-nil, List·Memᴰ·cases-cons, List·Memᴰ·eq-of-singleton}
+use Prim.Native.Nat.{ℕ, zero, suc, _≤_, _<_}
 use native.Mathlib.Omega.{arith}
 use lib.Dec.{leb, ltb, eqb}
 use lib.ListN.{length}
-use borrow.Author.Tests.{ltb-true, ltb-false, leb-true, leb-false, eqb-true, lt-ltb, le-leb, eq-eqb}
+use borrow.Author.Tests.{ltb-true, leb-true, eqb-true, lt-ltb, le-leb, eq-eqb}
 use Rattle.columns.specs.Bytes.{sameBytes}
 use Rattle.columns.proofs.Laws.Bytes.{same-of, same-to}
-use Rattle.lts.specs.Lists.{some, Rising}
+use Rattle.lts.specs.Lists.{Rising}
 use Rattle.lts.specs.Names.{isLower, isNameByte, atMost, isName}
-use Rattle.lts.specs.Steps.{Step, Table, labels}
-use Rattle.lts.specs.Range.{Below, Differ, StepInRange}
+use Rattle.lts.specs.Steps.{Step, labels}
+use Rattle.lts.specs.Range.{Below, Differ}
 use Rattle.lts.specs.Reading.{Header, headerInRange, used, stepInRange, stepBelow, above}
-use Rattle.lts.proofs.Lists.{and-true-of, and-true-to, or-true-of, or-true-left, or-true-right, not-true, not-false, some-of, some-to, rising-append}
+use Rattle.lts.proofs.Lists.{and-true-of, and-true-to, or-true-of, or-true-left, or-true-right, not-false, some-of, some-to}
 
 -- Order of transitions.
 pub below-of : (a b : Step) → stepBelow a b ≡ true → Below a b

@@ -1,18 +1,16 @@
 -- A table in range has exactly one text, and reading that text gives the table: `read-of-text` and `text-of-read`.
-use mathlib.Core.Path.{_≡_, refl, sym, ap, ap₂, _∙_, subst}
+use mathlib.Core.Path.{_≡_, sym, ap, ap₂, _∙_, subst}
 use mathlib.Core.Bool.{true}
-use mathlib.Core.List.{List, [], _∷_, _++_, List·Memᴰ}
-use Prim.Native.Nat.{ℕ, zero, suc, _+_, _≤_, _<_}
+use mathlib.Core.List.{List, [], _++_, List·Memᴰ}
+use Prim.Native.Nat.{ℕ}
 use native.Mathlib.Omega.{arith}
 use lib.ListN.{length}
 use Rattle.columns.proofs.Laws.Bytes.{same-of}
-use Rattle.lts.specs.Reply.{Reply, accepted, refusal, unless}
-use Rattle.lts.specs.Lists.{Rising}
+use Rattle.lts.specs.Reply.{accepted, unless}
 use Rattle.lts.specs.Steps.{Step, Table, labels}
-use Rattle.lts.specs.Range.{Below, Differ, StepInRange, InRange}
+use Rattle.lts.specs.Range.{Below, Differ, InRange}
 use Rattle.lts.specs.Text.{ended, headerLine, labelLines, transitionLines, tableText}
-use Rattle.lts.specs.Reading.{Line, line, firstLine, onLine, Header, headerOf, headerLaidOut, headerInRange, readTransitions, readLabels, readTable, stepInRange, above, used}
-use Rattle.lts.specs.Names.{isName}
+use Rattle.lts.specs.Reading.{Line, line, firstLine, onLine, Header, headerOf, headerLaidOut, headerInRange, readLabels, readTable, stepInRange}
 use Rattle.lts.proofs.Laws.Tests.{Counts, counts-of, counts-to, step-range-of, step-range-to, above-of, above-to, used-of, used-to}
 use Rattle.lts.proofs.Laws.Grown.{grown-of, grown-to}
 use Rattle.lts.proofs.Laws.Lines.{first-line-of, first-line-to, header-of, header-laid-out, header-unbroken}

@@ -1,0 +1,55 @@
+-- What the check of prepared bytes asks, slot by slot. proofs/Laws/WellFormed.antt: together it is exactly that the bytes are prepared.
+use mathlib.Core.Path.{_≡_}
+use mathlib.Core.Bool.{true}
+use mathlib.Core.List.{List}
+use Prim.Native.Nat.{ℕ, suc, _+_, _*_, _≤_, _<_}
+use lib.ListN.{length}
+use Rattle.lts.specs.Names.{isName, isNameByte}
+use Rattle.lts.specs.Steps.{Table, labels}
+use Rattle.lts.specs.Range.{Below, Differ}
+use Rattle.lts.specs.Prepared.{tableLength, byteAt, nameAt, transitionAt, tableIn}
+
+-- Bytes from i to before j that are all zero, or all such as a name may have.
+abbrev pub ZerosFrom : List ℕ → ℕ → ℕ → Type 0
+ZerosFrom b i j = (k : ℕ) → i ≤ k → k < j → byteAt b k ≡ 0
+
+abbrev pub NameBytesFrom : List ℕ → ℕ → ℕ → Type 0
+NameBytesFrom b i j = (k : ℕ) → i ≤ k → k < j → isNameByte (byteAt b k) ≡ true
+
+-- 01: "states (1 to 256), labels (0 to 40), transitions (0 to 1,024), start (below states)"
+pub record CountsHeld (t : Table) : Type 0 where
+  pub some-state : 1 ≤ t .states
+  pub few-states : t .states ≤ 256
+  pub few-labels : labels t ≤ 40
+  pub few-transitions : length (t .transitions) ≤ 1024
+  pub starts : t .start < t .states
+
+-- A name stands in slot k, with zeros behind it; and it is none of the names before it.
+pub record NameHeld (b : List ℕ) (k : ℕ) : Type 0 where
+  pub name : isName (nameAt b k) ≡ true
+  pub behind : ZerosFrom b ((7 + k * 16) + byteAt b (6 + k * 16)) (22 + k * 16)
+
+abbrev pub NewName : List ℕ → ℕ → Type 0
+NewName b k = (j : ℕ) → j < k → Differ (nameAt b j) (nameAt b k)
+
+abbrev pub NamesHeld : List ℕ → Type 0
+NamesHeld b = (k : ℕ) → k < labels (tableIn b) → NameHeld b k × NewName b k
+
+-- The transition in slot k is in range, and above the one before.
+pub record TransitionHeld (b : List ℕ) (states most k : ℕ) : Type 0 where
+  pub leaves : transitionAt b k .from < states
+  pub labelled : transitionAt b k .label ≤ most
+  pub enters : transitionAt b k .to < states
+  pub rises : (j : ℕ) → suc j ≡ k → Below (transitionAt b j) (transitionAt b k)
+
+abbrev pub TransitionsHeld : List ℕ → Type 0
+TransitionsHeld b = (k : ℕ) → k < length (tableIn b .transitions) → TransitionHeld b (tableIn b .states) (labels (tableIn b)) k
+
+-- All of it, and zeros in the slots that are not used.
+pub record WellFormed (b : List ℕ) : Type 0 where
+  pub long : tableLength ≤ length b
+  pub counts : CountsHeld (tableIn b)
+  pub names : NamesHeld b
+  pub past-names : ZerosFrom b (6 + labels (tableIn b) * 16) 646
+  pub transitions : TransitionsHeld b
+  pub past-transitions : ZerosFrom b (646 + length (tableIn b .transitions) * 3) tableLength

@@ -1,0 +1,195 @@
+// Whether bytes are a prepared table: the counts, each name's slot, each transition's slot, and zeros in the slots that are not used.
+use crate::names::Found;
+use crate::names::find_label;
+use crate::names::is_lower;
+use crate::names::is_name_byte;
+use crate::names::name_of;
+use crate::prepared::Transition;
+use crate::prepared::byte;
+use crate::prepared::label_count;
+use crate::prepared::start_state;
+use crate::prepared::state_count;
+use crate::prepared::transition_at;
+use crate::prepared::transition_count;
+ghost use mathlib.Core.Path.{_≡_};
+ghost use Prim.Native.Nat.{_+_, _*_, _≤_, _<_};
+ghost use lib.ListN.{length};
+ghost use Rattle.lts.specs.Steps.{labels};
+ghost use Rattle.lts.specs.Reading.{stepBelow};
+ghost use Rattle.lts.specs.Prepared.{tableLength, tableIn, byteAt, preparedTable};
+ghost use Rattle.lts.specs.Access.{Decides, stepIn, isSome};
+ghost use Rattle.lts.specs.Check.{ZerosFrom, NameBytesFrom, CountsHeld, NameHeld, NewName, NamesHeld, TransitionHeld, TransitionsHeld};
+
+pub fn is_prepared(table: &[u8]) -> bool
+    ensures { λ r. ⌜ r ≡ isSome (preparedTable (now (table .entry))) ⌝ }
+{
+    if table.len() < 3718 {
+        return false;
+    }
+    if !counts_held(table) {
+        return false;
+    }
+    if !names_held(table) {
+        return false;
+    }
+    if !zeros(table, 6 + label_count(table) * 16, 646) {
+        return false;
+    }
+    if !transitions_held(table) {
+        return false;
+    }
+    zeros(table, 646 + transition_count(table) * 3, 3718)
+}
+
+fn zeros(table: &[u8], from: usize, to: usize) -> bool
+    requires { ⌜ to ≤ length (now table) ⌝ }
+    ensures { λ r. ⌜ Decides (ZerosFrom (now (table .entry)) from to) r ⌝ }
+{
+    let mut i = from;
+    while i < to {
+        if table[i] != 0 {
+            return false;
+        }
+        i += 1;
+    }
+    true
+}
+
+fn counts_held(table: &[u8]) -> bool
+    requires { ⌜ tableLength ≤ length (now table) ⌝ }
+    ensures { λ r. ⌜ Decides (CountsHeld (tableIn (now (table .entry)))) r ⌝ }
+{
+    let states = state_count(table);
+    if states < 1 {
+        return false;
+    }
+    if 256 < states {
+        return false;
+    }
+    if 40 < label_count(table) {
+        return false;
+    }
+    if 1024 < transition_count(table) {
+        return false;
+    }
+    if states <= start_state(table) {
+        return false;
+    }
+    true
+}
+
+fn names_held(table: &[u8]) -> bool
+    requires { ⌜ (tableLength ≤ length (now table)) × (labels (tableIn (now table)) ≤ 40) ⌝ }
+    ensures { λ r. ⌜ Decides (NamesHeld (now (table .entry))) r ⌝ }
+{
+    let n = label_count(table);
+    let mut k: usize = 0;
+    while k < n {
+        if !name_held(table, k) {
+            return false;
+        }
+        if !new_name(table, k) {
+            return false;
+        }
+        k += 1;
+    }
+    true
+}
+
+fn name_held(table: &[u8], k: usize) -> bool
+    requires { ⌜ (tableLength ≤ length (now table)) × (k < 40) ⌝ }
+    ensures { λ r. ⌜ Decides (NameHeld (now (table .entry)) k) r ⌝ }
+{
+    let len = byte(table, 6 + k * 16);
+    if len < 1 {
+        return false;
+    }
+    if 12 < len {
+        return false;
+    }
+    let at = 7 + k * 16;
+    if !is_lower(byte(table, at)) {
+        return false;
+    }
+    if !name_bytes(table, at + 1, at + len) {
+        return false;
+    }
+    zeros(table, at + len, 22 + k * 16)
+}
+
+fn name_bytes(table: &[u8], from: usize, to: usize) -> bool
+    requires { ⌜ to ≤ length (now table) ⌝ }
+    ensures { λ r. ⌜ Decides (NameBytesFrom (now (table .entry)) from to) r ⌝ }
+{
+    let mut i = from;
+    while i < to {
+        if !is_name_byte(byte(table, i)) {
+            return false;
+        }
+        i += 1;
+    }
+    true
+}
+
+// Looking up the name in slot k finds that slot, if no slot before it has the name.
+fn new_name(table: &[u8], k: usize) -> bool
+    requires { ⌜ (tableLength ≤ length (now table)) × ((labels (tableIn (now table)) ≤ 40) × ((k < labels (tableIn (now table))) × (byteAt (now table) (6 + k * 16) ≤ 12))) ⌝ }
+    ensures { λ r. ⌜ Decides (NewName (now (table .entry)) k) r ⌝ }
+{
+    let name = name_of(table, k);
+    let len = byte(table, 6 + k * 16);
+    let Found::At(j) = find_label(table, name, len) else {
+        return false;
+    };
+    j == k + 1
+}
+
+fn transitions_held(table: &[u8]) -> bool
+    requires { ⌜ (tableLength ≤ length (now table)) × (length (tableIn (now table) .transitions) ≤ 1024) ⌝ }
+    ensures { λ r. ⌜ Decides (TransitionsHeld (now (table .entry))) r ⌝ }
+{
+    let n = transition_count(table);
+    let states = state_count(table);
+    let most = label_count(table);
+    let mut k: usize = 0;
+    while k < n {
+        if !transition_held(table, states, most, k) {
+            return false;
+        }
+        k += 1;
+    }
+    true
+}
+
+fn transition_held(table: &[u8], states: usize, most: usize, k: usize) -> bool
+    requires { ⌜ (tableLength ≤ length (now table)) × (k < 1024) ⌝ }
+    ensures { λ r. ⌜ Decides (TransitionHeld (now (table .entry)) states most k) r ⌝ }
+{
+    let here = transition_at(table, k);
+    if states <= here.from {
+        return false;
+    }
+    if most < here.label {
+        return false;
+    }
+    if states <= here.to {
+        return false;
+    }
+    if k == 0 {
+        return true;
+    }
+    below(transition_at(table, k - 1), here)
+}
+
+// Rising by (from, label, to).
+fn below(a: Transition, b: Transition) -> bool
+    ensures { λ r. ⌜ r ≡ stepBelow (stepIn a) (stepIn b) ⌝ }
+{
+    if a.from != b.from {
+        return a.from < b.from;
+    }
+    if a.label != b.label {
+        return a.label < b.label;
+    }
+    a.to < b.to
+}
