@@ -8,3 +8,5 @@ pub mod Reading
 pub mod Prepared
 pub mod Replies
 pub mod Access
+pub mod Walk
+pub mod Check

@@ -2,13 +2,17 @@
 use mathlib.Core.Path.{_≡_, refl, sym, ap, _∙_}
 use mathlib.Core.Logic.{_⊎_, inl, inr}
 use mathlib.Core.Bool.{Bool, true, false, cond}
-use mathlib.Core.List.{List, [], _∷_, _++_, List·Memᴰ, List·Memᴰ·head, List·Memᴰ·tail, List·Memᴰ·not-nil, List·Memᴰ·cases-cons, List·Memᴰ·append-cases}
+use mathlib.Core.List.{List, [], _∷_, _++_, map, List·Memᴰ, List·Memᴰ·head, List·Memᴰ·tail, List·Memᴰ·not-nil, List·Memᴰ·cases-cons, List·Memᴰ·append-cases}
 use mathlib.Core.Option.{Option, none, some}
-use Prim.Native.Nat.{ℕ, zero, suc}
+use Prim.Native.Nat.{ℕ, zero, suc, _+_, _≤_, _<_}
+use native.Mathlib.Numerals.{add-one}
 use native.Mathlib.Omega.{arith}
 use lib.Dec.{eqb}
-use borrow.Author.Tests.{eqb-true, eqb-false, ne-eqb}
+use lib.ListN.{length, getD, drop, drop-of-length-le}
+use lib.Seq.{drop-cons}
+use borrow.Author.Tests.{eqb-false, eq-eqb, ne-eqb}
 use Rattle.actl.specs.Formulas.{Formula, tru, not, or, ex, ax, eu, euThen, nodes, isT, classOf, classOfNot, classOfOr, classOfSome, classOfAll, hasNoClass, highestFrom, highestWithoutClass}
+use Rattle.actl.specs.Walk.{lastNone}
 
 -- A node whose arm has no class has none.
 none-all : (f : Formula) → classOf f ≡ 0 → classOfAll (isT f) (classOf f) ≡ 0
@@ -70,3 +74,42 @@ none-found k (g ∷ l) found e = step (hasNoClass g) refl (none-found (suc k) l 
 pub all-classed : (F : Formula) → highestWithoutClass F ≡ none → (f : Formula) → List·Memᴰ f (nodes F) → Classed f
 unfolding highestWithoutClass
 all-classed F e = none-found 0 (nodes F) none e .1
+
+-- The last class that is none, found from the front: what is left, with the last one so far. It is the length as long as there is none.
+abbrev soFar : ℕ → ℕ → Option ℕ
+soFar count found = cond (eqb found count) none (some found)
+
+abbrev pub Remains : List ℕ → ℕ → ℕ → Type 0
+Remains classes found k = lastNone k (drop k classes) (soFar (length classes) found) ≡ lastNone 0 classes none
+
+module _ (classes : List ℕ) where
+  pub remains-all : Remains classes (length classes) 0
+  remains-all = ap (λ t. lastNone 0 classes (cond t none (some (length classes)))) (eq-eqb (length classes) (length classes) refl)
+
+  step : (found k : ℕ) → k < length classes → Remains classes found k
+      → lastNone (suc k) (drop (k + 1) classes) (cond (eqb (getD classes k 0) 0) (some k) (soFar (length classes) found)) ≡ lastNone 0 classes none
+  step found k h e = rw add-one (sym (ap (λ l. lastNone k l (soFar (length classes) found)) (drop-cons classes k 0 h)) ∙ e)
+
+  pub remains-none : (found k : ℕ) → k < length classes → getD classes k 0 ≡ 0 → Remains classes found k → Remains classes k (k + 1)
+  remains-none found k h z e =
+      let s = step found k h e in
+      let a : cond (eqb (getD classes k 0) 0) (some k) (soFar (length classes) found) ≡ soFar (length classes) k =
+      ap (λ t. cond t (some k) (soFar (length classes) found)) (eq-eqb (getD classes k 0) 0 z) ∙ sym (ap (λ t. cond t none (some k)) (ne-eqb k (length classes) (λ d. omega arith))) in
+      let b : k + 1 ≡ suc k = add-one k in
+      (λ i. lastNone (b i) (drop (k + 1) classes) (sym a i)) ∙ s
+
+  pub remains-some : (found k : ℕ) → k < length classes → (getD classes k 0 ≡ 0 → ⊥) → Remains classes found k → Remains classes found (k + 1)
+  remains-some found k h z e =
+      let s = step found k h e in
+      let a : cond (eqb (getD classes k 0) 0) (some k) (soFar (length classes) found) ≡ soFar (length classes) found =
+      ap (λ t. cond t (some k) (soFar (length classes) found)) (ne-eqb (getD classes k 0) 0 z) in
+      let b : k + 1 ≡ suc k = add-one k in
+      (λ i. lastNone (b i) (drop (k + 1) classes) (sym a i)) ∙ s
+
+  pub remains-end : (found k : ℕ) → length classes ≤ k → Remains classes found k → soFar (length classes) found ≡ lastNone 0 classes none
+  remains-end found k h e = sym (ap (λ l. lastNone k l (soFar (length classes) found)) (drop-of-length-le classes h)) ∙ e
+
+-- Of a formula's classes it is the highest-numbered node without.
+pub highest-none : (k : ℕ) (l : List Formula) (found : Option ℕ) → lastNone k (map classOf l) found ≡ highestFrom k l found
+highest-none k [] found = refl
+highest-none k (f ∷ l) found = highest-none (suc k) l (cond (hasNoClass f) (some k) found)

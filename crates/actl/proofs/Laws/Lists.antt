@@ -1,16 +1,18 @@
 -- Lists by number: what a function of 0, 1, .. has at k; and equal bytes.
 use mathlib.Core.Path.{_≡_, refl, sym, ap, _∙_}
 use mathlib.Core.Bool.{Bool, true, false, false≢true}
-use mathlib.Core.List.{List, [], _∷_, map}
+use mathlib.Core.List.{List, [], _∷_, _++_, map}
 use Prim.Native.Nat.{ℕ, zero, suc, _+_, _<_}
 use native.Mathlib.Nat.{add-zero, add-suc, suc-add, zero-add}
+use native.Mathlib.Numerals.{add-one}
 use native.Mathlib.Omega.{arith}
 use lib.Dec.{eqb}
-use lib.ListN.{length, getD}
+use lib.ListN.{length, getD, take, set}
+use lib.Seq.{take-suc-set}
 use borrow.Author.Tests.{eqb-true, eq-eqb}
 use Rattle.columns.specs.Bytes.{sameBytes}
 use Rattle.lts.specs.Lists.{upFrom}
-use Rattle.lts.proofs.Lists.{and-true-of, and-true-to}
+use Rattle.lts.proofs.Lists.{and-true-of, and-true-to, upFrom-snoc, map-append}
 
 pub length-upFrom : (k n : ℕ) → length (upFrom k n) ≡ n
 length-upFrom k zero = refl
@@ -37,3 +39,9 @@ same-bytes-of (a ∷ l) (b ∷ m) e =
 pub same-bytes-refl : (l : List ℕ) → sameBytes l l ≡ true
 same-bytes-refl [] = refl
 same-bytes-refl (a ∷ l) = and-true-to (eqb a a) (sameBytes l l) (eq-eqb a a refl) (same-bytes-refl l)
+
+-- A list that is filled from the front with what a function gives.
+pub filled-more : (g : ℕ → ℕ) (l : List ℕ) (k : ℕ) → k < length l → take k l ≡ map g (upFrom 0 k) → take (k + 1) (set l k (g k)) ≡ map g (upFrom 0 (k + 1))
+filled-more g l k h e =
+    rw add-one
+    (take-suc-set l k (g k) h ∙ (ap (λ x. x ++ (g k ∷ [])) e ∙ sym (ap (map g) (upFrom-snoc k) ∙ map-append g (upFrom 0 k) (k ∷ []))))

@@ -1,0 +1,137 @@
+-- 01's table of classes, entry by entry, and what it says of each kind of node.
+use mathlib.Core.Path.{_≡_, refl, sym, ap, _∙_}
+use mathlib.Core.Bool.{Bool, true, false, cond, false≢true}
+use mathlib.Core.List.{List, [], _∷_}
+use Prim.Native.Nat.{ℕ, zero, suc, _+_, _*_, _/_, _%_, _<_}
+use native.Mathlib.Omega.{arith}
+use lib.Dec.{eqb}
+use lib.ListN.{getD}
+use borrow.Author.Tests.{eqb-true, ne-eqb}
+use Rattle.lts.specs.Lists.{upFrom, every}
+use Rattle.lts.proofs.Lists.{upFrom-to, every-of}
+use Rattle.actl.specs.Actions.{Mask, Cond, silent, labels}
+use Rattle.actl.specs.Formulas.{Formula, tru, not, or, ex, ax, eu, euThen, isT, classOf, classOfNot, classOfOr, classOfSome, classOfAll}
+use Rattle.actl.specs.Prepared.{nextSlot}
+use Rattle.actl.specs.Walk.{armOf, classOfArm, classFrom}
+
+-- Four entries for each kind, by the arm.
+abbrev pub classes : List ℕ
+classes =
+    0 ∷ 0 ∷ 0 ∷ 0 ∷ 1 ∷ 1 ∷ 1 ∷ 1 ∷ 0 ∷ 2 ∷ 1 ∷ 2 ∷ 0 ∷ 1 ∷ 0 ∷ 1 ∷ 0 ∷ 1 ∷ 0 ∷ 1
+    ∷ 0 ∷ 1 ∷ 0 ∷ 1 ∷ 0 ∷ 0 ∷ 2 ∷ 2 ∷ 0 ∷ 0 ∷ 2 ∷ 2 ∷ 0 ∷ 1 ∷ 0 ∷ 1 ∷ 0 ∷ 1 ∷ 0 ∷ 1 ∷ []
+
+right : ℕ → Bool
+right i = eqb (getD classes i 0) (classFrom (i / 4) (i % 4))
+
+table : every right (upFrom 0 40) ≡ true
+unfolding right classFrom
+table = refl
+
+pub table-right : (kind arm : ℕ) → kind < 10 → arm < 4 → getD classes (kind * 4 + arm) 0 ≡ classFrom kind arm
+unfolding right
+table-right kind arm h l =
+    let i = kind * 4 + arm in
+    let e = eqb-true (getD classes i 0) (classFrom (i / 4) (i % 4)) (every-of right (upFrom 0 40) table i (upFrom-to 0 40 i (omega arith) (omega arith))) in
+    let k : i / 4 ≡ kind = omega arith in
+    let a : i % 4 ≡ arm = omega arith in
+    e ∙ (λ j. classFrom (k j) (a j))
+
+-- The arms' classes.
+not-low : (n : ℕ) → classOfNot n < 3
+not-low zero = omega arith
+not-low (suc zero) = omega arith
+not-low (suc (suc zero)) = omega arith
+not-low (suc (suc (suc n))) = omega arith
+
+or-low : (m n : ℕ) → classOfOr m n < 3
+or-low zero n = omega arith
+or-low (suc zero) zero = omega arith
+or-low (suc zero) (suc zero) = omega arith
+or-low (suc zero) (suc (suc n)) = omega arith
+or-low (suc (suc m)) n = omega arith
+
+some-low : (n : ℕ) → classOfSome n < 3
+some-low zero = omega arith
+some-low (suc zero) = omega arith
+some-low (suc (suc n)) = omega arith
+
+all-low : (t : Bool) (n : ℕ) → classOfAll t n < 3
+all-low true n = omega arith
+all-low false zero = omega arith
+all-low false (suc zero) = omega arith
+all-low false (suc (suc zero)) = omega arith
+all-low false (suc (suc (suc n))) = omega arith
+
+pub class-low : (f : Formula) → classOf f < 3
+unfolding classOf
+class-low tru = omega arith
+class-low (not f) = not-low (classOf f)
+class-low (or f g) = or-low (classOf f) (classOf g)
+class-low (ex c f) = some-low (classOf f)
+class-low (ax c f) = all-low (isT f) (classOf f)
+class-low (eu a f) = some-low (classOf f)
+class-low (euThen a b f) = some-low (classOf f)
+
+class-of-T : (f : Formula) → isT f ≡ true → classOf f ≡ 1
+unfolding classOf
+class-of-T tru e = refl
+class-of-T (not f) e = absurd (false≢true e)
+class-of-T (or f g) e = absurd (false≢true e)
+class-of-T (ex c f) e = absurd (false≢true e)
+class-of-T (ax c f) e = absurd (false≢true e)
+class-of-T (eu a f) e = absurd (false≢true e)
+class-of-T (euThen a b f) e = absurd (false≢true e)
+
+arm-by : (t : Bool) (n : ℕ) → n < 3 → (t ≡ true → n ≡ 1) → (cond t 3 n < 4) × (classOfArm (cond t 3 n) ≡ n) × (eqb (cond t 3 n) 3 ≡ t)
+arm-by true n l h = (omega arith, sym (h refl), refl)
+arm-by false n l h = let e = ne-eqb n 3 (λ z. omega arith) in (omega arith, ap (λ t. cond t 1 n) e, e)
+
+module _ (f : Formula) where
+  pub arm-low : armOf f < 4
+  arm-low = arm-by (isT f) (classOf f) (class-low f) (class-of-T f) .0
+
+  pub class-of-arm : classOfArm (armOf f) ≡ classOf f
+  class-of-arm = arm-by (isT f) (classOf f) (class-low f) (class-of-T f) .1
+
+  pub arm-is-T : eqb (armOf f) 3 ≡ isT f
+  arm-is-T = arm-by (isT f) (classOf f) (class-low f) (class-of-T f) .2
+
+  -- Nodes with one arm.
+  pub class-of-not : classFrom 2 (armOf f) ≡ classOf (not f)
+  unfolding classFrom classOf
+  class-of-not = ap classOfNot class-of-arm
+
+  pub class-of-ex : (c : Cond) → classFrom (nextSlot 4 c .kind) (armOf f) ≡ classOf (ex c f)
+  unfolding classFrom classOf
+  class-of-ex silent = ap classOfSome class-of-arm
+  class-of-ex (labels m) = ap classOfSome class-of-arm
+
+  pub class-of-ax : (c : Cond) → classFrom (nextSlot 6 c .kind) (armOf f) ≡ classOf (ax c f)
+  unfolding classFrom classOf
+  class-of-ax silent = λ i. classOfAll (arm-is-T i) (class-of-arm i)
+  class-of-ax (labels m) = λ i. classOfAll (arm-is-T i) (class-of-arm i)
+
+  pub class-of-eu : (a : Mask) → classFrom 8 (armOf f) ≡ classOf (eu a f)
+  unfolding classFrom classOf
+  class-of-eu a = ap classOfSome class-of-arm
+
+  pub class-of-euThen : (a b : Mask) → classFrom 9 (armOf f) ≡ classOf (euThen a b f)
+  unfolding classFrom classOf
+  class-of-euThen a b = ap classOfSome class-of-arm
+
+pub class-of-or : (f g : Formula) → classOfOr (classOfArm (armOf f)) (classOfArm (armOf g)) ≡ classOf (or f g)
+unfolding classOf
+class-of-or f g = λ i. classOfOr (class-of-arm f i) (class-of-arm g i)
+
+-- `|`: each of the arms must give 1.
+pub or-none : (m n : ℕ) → classOfSome m ≡ 0 → classOfOr m n ≡ 0
+or-none zero n e = refl
+or-none (suc zero) n e = absurd (omega arith)
+or-none (suc (suc m)) n e = refl
+
+pub or-second : (m n : ℕ) → (classOfSome m ≡ 0 → ⊥) → classOfSome n ≡ classOfOr m n
+or-second zero n e = absurd (e refl)
+or-second (suc zero) zero e = refl
+or-second (suc zero) (suc zero) e = refl
+or-second (suc zero) (suc (suc n)) e = refl
+or-second (suc (suc m)) n e = absurd (e refl)

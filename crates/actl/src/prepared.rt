@@ -1,0 +1,61 @@
+// The check that prepared formula bytes are the one form of a formula, over a table's labels.
+use crate::node::mask;
+ghost use mathlib.Core.Path.{_≡_};
+ghost use mathlib.Core.Bool.{_&&_, _||_};
+ghost use Prim.Native.Nat.{_+_, _*_, _<_, _≤_};
+ghost use lib.Dec.{eqb, leb};
+ghost use lib.ListN.{length};
+ghost use Rattle.actl.specs.Prepared.{maskWithin, slotAt};
+ghost use Rattle.actl.specs.Access.{firstUsed, secondUsed};
+ghost use Rattle.actl.specs.Check.{isPrepared, slotFits, slotsFit, zerosFrom};
+
+// 01: "sets within this table's labels": no bit 0, and none above the labels.
+fn within(labels: usize, set: u64) -> bool
+    ensures { λ r. ⌜ r ≡ maskWithin labels set ⌝ }
+{
+    if set % 2 != 0 {
+        return false;
+    }
+    if 63 <= labels {
+        return true;
+    }
+    set >> (labels + 1) == 0
+}
+
+// A mask that the kind has is a set; one that it does not have is zero.
+fn mask_fits(labels: usize, set: u64, used: bool) -> bool
+    ensures { λ r. ⌜ r ≡ ((used || eqb set 0) && maskWithin labels set) ⌝ }
+{
+    if used {
+        return within(labels, set);
+    }
+    set == 0
+}
+
+// How many of its masks a kind has (docs/FORMATS.md).
+const MASKS: [u8; 10] = [0, 0, 0, 0, 0, 1, 0, 1, 1, 2];
+
+fn masks_of(kind: u8) -> u8
+    requires { ⌜ kind < 10 ⌝ }
+    ensures { λ r. ⌜ leb 1 r ≡ firstUsed kind ⌝ }
+    ensures { λ r. ⌜ eqb r 2 ≡ secondUsed kind ⌝ }
+{
+    MASKS[kind as usize]
+}
+
+fn slot_fits(labels: usize, formula: &[u8], k: usize) -> bool
+    requires { ⌜ (681 ≤ length (now formula)) × (k < 40) ⌝ }
+    ensures { λ r. ⌜ r ≡ slotFits labels (slotAt (now (formula .entry)) k) ⌝ }
+{
+    let kind = formula[1 + k * 17];
+    if kind == 0 {
+        return false;
+    }
+    if 9 < kind {
+        return false;
+    }
+    let masks = masks_of(kind);
+    let first = mask_fits(labels, mask(formula, 2 + k * 17), 1 <= masks);
+    let second = mask_fits(labels, mask(formula, 10 + k * 17), masks == 2);
+    first && second
+}
