@@ -6,10 +6,7 @@ use mathlib.Core.List.{List, [], _∷_, List·Memᴰ, List·Memᴰ·not-nil, Lis
 use Prim.Native.Nat.{ℕ, suc, _≤_, _<_}
 use native.Mathlib.Omega.{arith}
 use lib.ListN.{length}
-
-abbrev pub plus : Bool → ℕ → ℕ
-plus true n = suc n
-plus false n = n
+use Rattle.labelling.specs.Count.{plus, count}
 
 plus-le : (b : Bool) (m n : ℕ) → m ≤ n → plus b m ≤ suc n
 plus-le true m n h = omega arith
@@ -22,10 +19,6 @@ plus-mono false true m n h k = omega arith
 plus-mono false false m n h k = k
 
 module _ {A : Type 0} where
-  abbrev pub count : (A → Bool) → List A → ℕ
-  count p [] = 0
-  count p (x ∷ l) = plus (p x) (count p l)
-
   pub count-le : (p : A → Bool) (l : List A) → count p l ≤ length l
   count-le p [] = omega arith
   count-le p (x ∷ l) = plus-le (p x) (count p l) (length l) (count-le p l)

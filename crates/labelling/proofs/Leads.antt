@@ -14,7 +14,8 @@ use Rattle.actl.specs.Actions.{Mask, passes}
 use Rattle.labelling.specs.Runs.{Run}
 use Rattle.labelling.specs.Holds.{within}
 use Rattle.labelling.proofs.Runs.{onto, firstOf, past}
-use Rattle.labelling.proofs.Count.{count, count-le, count-grows}
+use Rattle.labelling.specs.Count.{count}
+use Rattle.labelling.proofs.Count.{count-le, count-grows}
 
 -- Zero or more steps that pass lead from a state into the goal.
 pub data Leads (t : Table) (a : Mask) (P : ℕ → Type 0) : ℕ → Type 0 where

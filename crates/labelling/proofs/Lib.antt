@@ -2,4 +2,5 @@ pub mod Runs
 pub mod Count
 pub mod Leads
 pub mod Satisfaction
-pub mod Verdict
+pub mod Verdicts
+pub mod Laws

@@ -1,4 +1,18 @@
 // Where the nodes of a formula hold, and the verdict.
+use actl::walk::shape_of;
+use lts::prepared::first_exits;
+use lts::prepared::start_state;
+
+mod conditions;
+mod links;
+pub mod nodes;
+mod steps;
+mod until;
+
+ghost use Rattle.lts.specs.Steps.{labels};
+ghost use Rattle.lts.specs.Prepared.{tableIn};
+ghost use Rattle.lts.specs.Access.{HoldsTable};
+ghost use Rattle.labelling.specs.Nodes.{HoldsFormula, AtStart};
 
 // What `verdict` answers. specs/Replies.antt lists the number and the figure of each case.
 pub enum VerdictReply {
@@ -7,4 +21,18 @@ pub enum VerdictReply {
     TableForeign,
     FormulaForeign,
     BufferShort(usize),
+}
+
+// Whether a prepared formula holds at the start of a prepared table.
+fn holds_at_start(table: &[u8], formula: &[u8]) -> bool
+    requires { ⌜ HoldsTable (now table) ⌝ }
+    requires { ⌜ HoldsFormula (labels (tableIn (now table))) (now formula) ⌝ }
+    ensures { λ r. ⌜ AtStart (now (table .entry)) (now (formula .entry)) r ⌝ }
+{
+    let begins = first_exits(table);
+    let shape = shape_of(formula);
+    let ends = shape.ends;
+    let flags = nodes::label_nodes(table, &begins, formula, &ends);
+    let start = start_state(table);
+    flags[start]
 }

@@ -1,0 +1,57 @@
+-- Tests that agree at every state below 256 agree along the steps of a table: steps lead from such a state to such a state.
+use mathlib.Core.Path.{_≡_, refl, sym, ap, _∙_, subst}
+use mathlib.Core.Logic.{_⊎_, inl, inr}
+use mathlib.Core.Bool.{Bool, true, false, not, _&&_, _||_}
+use mathlib.Core.List.{List, [], _∷_, List·Memᴰ, List·Memᴰ·head, List·Memᴰ·tail}
+use Prim.Native.Nat.{ℕ, zero, suc, _≤_, _<_}
+use native.Mathlib.Omega.{arith}
+use lib.ListN.{length}
+use Rattle.lts.specs.Lists.{some, every}
+use Rattle.lts.specs.Steps.{Step, Table, IsStep, stepsFrom}
+use Rattle.lts.specs.Range.{InRange}
+use Rattle.lts.proofs.Steps.{steps-are}
+use Rattle.actl.specs.Actions.{Mask, inSet, Cond, meets, passes}
+use Rattle.labelling.specs.Holds.{within, enters}
+use Rattle.labelling.specs.Flags.{leadsTo}
+
+module _ {A : Type 0} (p q : A → Bool) where
+  pub some-same : (l : List A) → ((x : A) → List·Memᴰ x l → p x ≡ q x) → some p l ≡ some q l
+  some-same [] h = refl
+  some-same (x ∷ l) h = rw (h x (List·Memᴰ·head refl), some-same l (λ y m. h y (List·Memᴰ·tail m)))
+
+  pub every-same : (l : List A) → ((x : A) → List·Memᴰ x l → p x ≡ q x) → every p l ≡ every q l
+  every-same [] h = refl
+  every-same (x ∷ l) h = rw (h x (List·Memᴰ·head refl), every-same l (λ y m. h y (List·Memᴰ·tail m)))
+
+-- Two tests agree at every state.
+abbrev pub Agree : (ℕ → Bool) → (ℕ → Bool) → Type 0
+Agree p q = (s : ℕ) → s < 256 → p s ≡ q s
+
+module _ (t : Table) (r : InRange t) where
+  pub step-below : (s : ℕ) → s < 256 → (st : Step) → List·Memᴰ st (stepsFrom t s) → st .to < 256
+  step-below s h st m = let (e, i) = steps-are t s st .0 m in go e i
+    where
+      go : st .from ≡ s → IsStep t st → st .to < 256
+      go e (inl n) = omega (arith, r .few-states, r .steps-in-range st n .enters)
+      go e (inr (d, n)) = omega (arith, ap (λ (x : Step). x .to) d, e)
+
+  module _ (p q : ℕ → Bool) (a : Agree p q) where
+    -- Steps whose labels pass a test, and that lead to where p, or q, holds.
+    abbrev to-p : (ℕ → Bool) → Step → Bool
+    to-p m st = m (st .label) && p (st .to)
+
+    abbrev to-q : (ℕ → Bool) → Step → Bool
+    to-q m st = m (st .label) && q (st .to)
+
+    pub some-agree : (m : ℕ → Bool) → Agree (λ s. some (to-p m) (stepsFrom t s)) (λ s. some (to-q m) (stepsFrom t s))
+    some-agree m s h = some-same (to-p m) (to-q m) (stepsFrom t s) (λ st n. ap (λ b. m (st .label) && b) (a (st .to) (step-below s h st n)))
+
+    pub every-agree : (m : ℕ → Bool) → Agree (λ s. every (to-p m) (stepsFrom t s)) (λ s. every (to-q m) (stepsFrom t s))
+    every-agree m s h = every-same (to-p m) (to-q m) (stepsFrom t s) (λ st n. ap (λ b. m (st .label) && b) (a (st .to) (step-below s h st n)))
+
+  pub within-agree : (p q : ℕ → Bool) → Agree p q → (m : Mask) (n : ℕ) → Agree (within t m p n) (within t m q n)
+  unfolding within
+  within-agree p q a m zero s h = a s h
+  within-agree p q a m (suc n) s h =
+      ap (λ b. b || some (λ st. passes m (st .label) && within t m p n (st .to)) (stepsFrom t s)) (a s h)
+      ∙ ap (λ b. q s || b) (some-agree (within t m p n) (within t m q n) (within-agree p q a m n) (passes m) s h)

@@ -1,0 +1,126 @@
+-- What holds at a node, from the rows of its arms: the node in a slot is the subformula's, and its rows make the next one.
+use mathlib.Core.Path.{_≡_, refl, sym, ap, _∙_, subst}
+use mathlib.Core.Logic.{_⊎_, inl, inr}
+use mathlib.Core.Bool.{Bool, true, false, cond, not as negate, _||_}
+use mathlib.Core.List.{List}
+use mathlib.Core.Option.{some}
+use Prim.Native.Nat.{ℕ, zero, suc, _+_, _*_, _≤_, _<_}
+use native.Mathlib.Decide.{ℕ-discrete}
+use native.Mathlib.Omega.{arith}
+use lib.Dec.{eqb}
+use lib.ListN.{length, getD}
+use Rattle.lts.specs.Steps.{Table}
+use Rattle.lts.specs.Range.{InRange}
+use Rattle.actl.specs.Actions.{Mask, inSet, Cond, silent, labels, meets}
+use Rattle.actl.specs.Formulas.{Formula, tru, not, or, ex, ax, eu, euThen, size, nodes, At, root, in-not, in-left, in-right, in-ex, in-ax, in-eu, in-euThen}
+use Rattle.actl.specs.Prepared.{Slot, slotOf}
+use Rattle.actl.specs.Access.{condOf, slotOfNode}
+use Rattle.actl.specs.declared.node.Condition.{Condition}
+use Rattle.actl.specs.declared.node.Condition.the-variants.{Silent, Labels}
+use Rattle.actl.specs.declared.node.Node.{Node}
+use Rattle.actl.specs.declared.node.Node.the-variants.{True, Not, Or, Ex, Ax, Until, UntilThen}
+use Rattle.actl.proofs.Subformulas.{node-at, at-node, at-lt}
+use Rattle.labelling.specs.Holds.{within, enters, holds}
+use Rattle.labelling.specs.Flags.{flagAt, nodeHolds, Flags}
+use Rattle.labelling.specs.Nodes.{RowRead, RowPut, LabelledFrom}
+use Rattle.labelling.proofs.Laws.Agree.{Agree, some-agree, every-agree, within-agree}
+
+-- The node in a slot, by its kind (docs/FORMATS.md).
+nodeIn : Slot → Node
+nodeIn s =
+    cond (eqb (s .kind) 1) True (
+    cond (eqb (s .kind) 2) Not (
+    cond (eqb (s .kind) 3) Or (
+    cond (eqb (s .kind) 4) (Ex Silent) (
+    cond (eqb (s .kind) 5) (Ex (Labels (s .first))) (
+    cond (eqb (s .kind) 6) (Ax Silent) (
+    cond (eqb (s .kind) 7) (Ax (Labels (s .first))) (
+    cond (eqb (s .kind) 8) (Until (s .first)) (UntilThen (s .first) (s .second)))))))))
+
+node-in-slot : (n : Node) → nodeIn (slotOfNode n) ≡ n
+unfolding nodeIn
+node-in-slot True = refl
+node-in-slot Not = refl
+node-in-slot Or = refl
+node-in-slot (Ex Silent) = refl
+node-in-slot (Ex (Labels m)) = refl
+node-in-slot (Ax Silent) = refl
+node-in-slot (Ax (Labels m)) = refl
+node-in-slot (Until a) = refl
+node-in-slot (UntilThen a b) = refl
+
+-- The rows of f's arms say where they hold.
+abbrev pub ArmsAgree : Table → Formula → (ℕ → Bool) → (ℕ → Bool) → Type 0
+ArmsAgree t tru p q = Unit {0}
+ArmsAgree t (not f) p q = Agree p (holds t f)
+ArmsAgree t (or f g) p q = Agree p (holds t f) × Agree q (holds t g)
+ArmsAgree t (ex c f) p q = Agree p (holds t f)
+ArmsAgree t (ax c f) p q = Agree p (holds t f)
+ArmsAgree t (eu a f) p q = Agree p (holds t f)
+ArmsAgree t (euThen a b f) p q = Agree p (holds t f)
+
+module _ (t : Table) (r : InRange t) (p q : ℕ → Bool) where
+  holds-in : (f : Formula) → ArmsAgree t f p q → Agree (nodeHolds t (nodeIn (slotOf f)) p q) (holds t f)
+  unfolding nodeIn holds
+  holds-in tru a s h = refl
+  holds-in (not f) a s h = ap negate (a s h)
+  holds-in (or f g) a s h = ap (λ b. b || q s) (a .0 s h) ∙ ap (λ b. holds t f s || b) (a .1 s h)
+  holds-in (ex silent f) a s h = some-agree t r p (holds t f) a (meets silent) s h
+  holds-in (ex (labels m) f) a s h = some-agree t r p (holds t f) a (meets (labels m)) s h
+  holds-in (ax silent f) a s h = every-agree t r p (holds t f) a (meets silent) s h
+  holds-in (ax (labels m) f) a s h = every-agree t r p (holds t f) a (meets (labels m)) s h
+  holds-in (eu m f) a s h = within-agree t r p (holds t f) a m (length (t .transitions)) s h
+  holds-in (euThen m b f) a s h =
+      within-agree t r (enters t b p) (enters t b (holds t f)) (some-agree t r p (holds t f) a (inSet b)) m (length (t .transitions)) s h
+
+  pub node-holds : (n : Node) (f : Formula) → slotOfNode n ≡ slotOf f → ArmsAgree t f p q → Agree (nodeHolds t n p q) (holds t f)
+  node-holds n f e a s h =
+      ap (λ m. nodeHolds t m p q s) (sym (node-in-slot n) ∙ ap nodeIn e) ∙ holds-in f a s h
+
+module _ (t : Table) (r : InRange t) (F : Formula) (few : size F ≤ 40) (k : ℕ) (below : k < size F) (flags : List Bool) (l : LabelledFrom t F (k + 1) flags) where
+  abbrev here : Formula
+  here = getD (nodes F) k tru
+
+  -- A row read at an arm's number says where the arm holds.
+  row-of : (j : ℕ) (g : Formula) (row : List Bool) → k < j → At F j g → RowRead j flags row → Agree (flagAt row) (holds t g)
+  row-of j g row b a d s h =
+      d .flag s (omega (arith, at-lt a)) h ∙ (l .flag j s (omega arith) (at-lt a) h ∙ ap (λ (f : Formula). holds t f s) (node-at a))
+
+  module _ (arm other : List Bool) (d : RowRead (k + 1) flags arm) (right : ℕ)
+      (stands : k + 1 < size F → right ≡ k + 1 + size (getD (nodes F) (k + 1) tru)) (w : RowRead right flags other) where
+    next : (g : Formula) → At F (suc k) g → Agree (flagAt arm) (holds t g)
+    next g a = row-of (k + 1) g arm (omega arith) (subst (λ (j : ℕ). At F j g) (omega arith) a) d
+
+    behind : (g h : Formula) → At F (suc k) g → At F (suc (k + size g)) h → Agree (flagAt other) (holds t h)
+    behind g h a b =
+        let same : k + 1 ≡ suc k = omega arith in
+        let first : getD (nodes F) (k + 1) tru ≡ g = ap (λ j. getD (nodes F) j tru) same ∙ node-at a in
+        let at-right : right ≡ suc (k + size g) = omega (arith, stands (omega (arith, at-lt a)), ap size first) in
+        row-of right h other (omega arith) (subst (λ (j : ℕ). At F j h) (sym at-right) b) w
+
+    arms : (f : Formula) → At F k f → ArmsAgree t f (flagAt arm) (flagAt other)
+    arms tru a = tt
+    arms (not f) a = next f (in-not a)
+    arms (or f g) a = (next f (in-left a), behind f g (in-left a) (in-right a))
+    arms (ex c f) a = next f (in-ex a)
+    arms (ax c f) a = next f (in-ax a)
+    arms (eu m f) a = next f (in-eu a)
+    arms (euThen m b f) a = next f (in-euThen a)
+
+    pub labelled-on : (n : Node) → slotOfNode n ≡ slotOf (getD (nodes F) k tru) → (row flags′ : List Bool)
+        → Flags (nodeHolds t n (flagAt arm) (flagAt other)) row → RowPut k row flags flags′ → LabelledFrom t F k flags′
+    labelled-on n e row flags′ f z = record { flag = λ j s b m h. go j s b m h (ℕ-discrete j k) }
+      where
+        go : (j s : ℕ) → k ≤ j → j < size F → s < 256 → Dec (j ≡ k) → flagAt flags′ (j * 256 + s) ≡ holds t (getD (nodes F) j tru) s
+        go j s b m h (yes c) =
+            ap (λ x. flagAt flags′ (x * 256 + s)) c
+            ∙ (z .inside s h ∙ (f .flag s h ∙ (node-holds t r (flagAt arm) (flagAt other) n here e (arms here (at-node F k below)) s h ∙ ap (λ x. holds t (getD (nodes F) x tru) s) (sym c))))
+        go j s b m h (no c) = z .outside (j * 256 + s) (inr (omega arith)) ∙ l .flag j s (omega arith) m h
+
+-- The search of an until from the flags of its goal.
+pub until-flags : (t : Table) → InRange t → (m : Mask) (g : ℕ → Bool) (goal flags : List Bool) → Flags g goal
+    → Flags (within t m (flagAt goal) (length (t .transitions))) flags → Flags (within t m g (length (t .transitions))) flags
+until-flags t r m g goal flags d w = record {
+  places = w .places;
+  flag = λ s h. w .flag s h ∙ within-agree t r (flagAt goal) g (d .flag) m (length (t .transitions)) s h;
+}

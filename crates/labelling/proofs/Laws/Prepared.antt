@@ -1,0 +1,56 @@
+-- Prepared formulas as labelling reads them: their length, their count of nodes, and the rows from the last node on.
+use mathlib.Core.Path.{_≡_, refl, sym, ap, _∙_}
+use mathlib.Core.Bool.{Bool, true, false}
+use mathlib.Core.List.{List}
+use mathlib.Core.Option.{some}
+use Prim.Native.Nat.{ℕ, _+_, _≤_, _<_}
+use native.Mathlib.Nat.{zero-add}
+use native.Mathlib.Omega.{arith}
+use lib.ListN.{length, getD, replicate, length-take, length-replicate}
+use Rattle.lts.specs.Steps.{labels}
+use Rattle.lts.specs.Prepared.{tableIn}
+use Rattle.lts.specs.Access.{HoldsTable}
+use Rattle.actl.specs.Formulas.{Formula, tru, size, nodes, root}
+use Rattle.actl.specs.Prepared.{formulaLength, preparedFormula, slotAt}
+use Rattle.actl.specs.Access.{shaped}
+use Rattle.actl.proofs.Nodes.{size-pos}
+use Rattle.actl.proofs.Subformulas.{node-at}
+use Rattle.actl.proofs.Laws.Forms.{length-form}
+use Rattle.actl.proofs.Laws.Prepared.{prepared-of, prepared-few, prepared-count, prepared-shaped}
+use Rattle.labelling.specs.Holds.{holds}
+use Rattle.labelling.specs.Flags.{NodeFlags}
+use Rattle.labelling.specs.Nodes.{HoldsFormula, RowsFrom, Labelled, AtStart}
+
+module _ (n : ℕ) (b : List ℕ) (h : HoldsFormula n b) where
+  pub formula-long : 681 ≤ length b
+  formula-long =
+      omega (arith, ap length (prepared-of n b (h .prepared) .form), length-form (h .formula) (prepared-few n b (h .prepared)), length-take formulaLength b)
+
+  pub formula-few : getD b 0 0 ≤ 40
+  formula-few = omega (arith, prepared-count n b (h .prepared), prepared-few n b (h .prepared))
+
+  pub formula-shaped : (k : ℕ) → k < getD b 0 0 → shaped (slotAt b k) ≡ true
+  formula-shaped k l = prepared-shaped n b (h .prepared) k (omega (arith, prepared-count n b (h .prepared)))
+
+module _ (table formula : List ℕ) where
+  -- No row is asked for past the last node.
+  pub rows-none : (flags : List Bool) → length flags ≡ 10240 → RowsFrom table formula (getD formula 0 0) flags
+  rows-none flags e = record {
+    places = e;
+    rows = λ F d. record { flag = λ j s l m h. absurd (omega (arith, prepared-count (labels (tableIn table)) formula d)) };
+  }
+
+  pub rows-all : (k : ℕ) {flags : List Bool} → k ≤ 0 → RowsFrom table formula k flags → Labelled table formula flags
+  rows-all k h r = record {
+    labelled = λ F d. record { places = r .places; flag = λ j s l m. r .rows F d .flag j s (omega arith) l m };
+  }
+
+-- Node 0 is the root: its flag at the start is the answer.
+pub root-at-start : (table formula : List ℕ) → HoldsTable table → (flags : List Bool) → Labelled table formula flags → (start : ℕ) → start ≡ tableIn table .start
+    → AtStart table formula (getD flags start false)
+root-at-start table formula h flags d start e = record {
+  answered = λ F f.
+      let state : tableIn table .start < 256 = omega (arith, h .in-range .starts, h .in-range .few-states) in
+      ap (λ s. getD flags s false) (e ∙ sym (zero-add (tableIn table .start)))
+      ∙ (d .labelled F f .flag 0 (tableIn table .start) (size-pos F) state ∙ ap (λ (g : Formula). holds (tableIn table) g (tableIn table .start)) (node-at {F = F} {k = 0} {f = F} root));
+}

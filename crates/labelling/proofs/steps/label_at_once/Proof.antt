@@ -1,0 +1,51 @@
+-- `label_at_once` meets its contract: the states below s are labelled.
+use mathlib.Core.Path.{_≡_, refl, sym, ap, _∙_, subst}
+use mathlib.Core.Bool.{Bool}
+use Prim.Native.Nat.{ℕ, _≤_, _<_, _+_, _-_}
+use native.Mathlib.Omega.{arith}
+use Rattle.lts.specs.Prepared.{tableIn}
+use Rattle.labelling.specs.Flags.{flagAt, atOnce}
+use Rattle.labelling.proofs.Laws.Flags.{FlagsBelow, flags-none, flags-on, flags-all}
+use Rattle.labelling.proofs.steps.label_at_once.Statement.{statement}
+use Rattle.labelling.proofs.steps.label_at_once.Tie as tie
+
+abbrev Inv-loop : tie.InvT-loop
+Inv-loop table begins node arm other flags₀ s₀ flags s = (s ≤ 256) × FlagsBelow (atOnce (tableIn table) node (flagAt arm) (flagAt other)) s flags
+
+abbrev μ-loop : tie.MeasureT-loop
+μ-loop table begins node arm other flags₀ s₀ flags s = 256 - s
+
+loop-holds : tie.Need-loop-holds Inv-loop μ-loop
+loop-holds c = (omega arith, flags-none _)
+
+at-once-requires : tie.Need-at-once-requires Inv-loop μ-loop
+at-once-requires c κs = (c .before .before .before .pre .0, (c .before .before .before .pre .1, omega arith))
+
+array-write-flags : tie.Need-array-write-flags Inv-loop μ-loop
+array-write-flags c = omega arith
+
+add-s : tie.Need-add-s Inv-loop μ-loop
+add-s c = omega arith
+
+loop-less : tie.Need-loop-less Inv-loop μ-loop
+loop-less c = omega arith
+
+loop-again : tie.Need-loop-again Inv-loop μ-loop
+loop-again c = (omega (arith, c .before .loop-test .taken), flags-on _ (c .before .before .loop .s) (c .at-once .result) (c .before .loop-test .taken) (c .at-once .ensures) (c .before .before .loop .inv .1))
+
+returns : tie.Need-returns Inv-loop μ-loop
+returns c = flags-all _ (c .before .loop .s) (c .loop-test .left) (c .before .loop .inv .1)
+
+pub label-at-once-spec : {M : Type 1} → statement M
+label-at-once-spec =
+    tie.close
+    (tie.spec
+    Inv-loop
+    μ-loop
+    loop-holds
+    at-once-requires
+    array-write-flags
+    add-s
+    loop-less
+    loop-again
+    returns)

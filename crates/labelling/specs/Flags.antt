@@ -1,0 +1,63 @@
+-- Where something holds, as flags state by state; and what holds at a node, from where its arms hold.
+use mathlib.Core.Path.{_≡_}
+use mathlib.Core.Bool.{Bool, true, false, not as negate, _&&_, _||_}
+use mathlib.Core.List.{List}
+use Prim.Native.Nat.{ℕ, _+_, _*_, _<_}
+use lib.ListN.{length, getD}
+use Rattle.lts.specs.Lists.{some, every}
+use Rattle.lts.specs.Steps.{Step, Table, stepsFrom}
+use Rattle.actl.specs.Actions.{Cond, meets}
+use Rattle.actl.specs.Formulas.{Formula, tru, size, nodes}
+use Rattle.actl.specs.Access.{condOf}
+use Rattle.actl.specs.declared.node.Node.{Node}
+use Rattle.actl.specs.declared.node.Node.the-variants.{True, Not, Or, Ex, Ax, Until, UntilThen}
+use Rattle.labelling.specs.Holds.{within, enters, holds}
+
+abbrev pub flagAt : List Bool → ℕ → Bool
+flagAt l s = getD l s false
+
+-- A step meets a condition and leads to where p holds.
+abbrev pub leadsTo : Cond → (ℕ → Bool) → Step → Bool
+leadsTo c p st = meets c (st .label) && p (st .to)
+
+-- A test comes out as it is wanted.
+abbrev pub same : Bool → Bool → Bool
+same true a = a
+same false a = negate a
+
+-- Some step from s leads to where p holds; or, if that is not wanted, some step does not.
+abbrev pub leadsAsWanted : Bool → Cond → (ℕ → Bool) → Step → Bool
+leadsAsWanted wanted c p st = same wanted (leadsTo c p st)
+
+abbrev pub someStep : Table → Bool → Cond → (ℕ → Bool) → ℕ → Bool
+someStep t wanted c p s = some (leadsAsWanted wanted c p) (stepsFrom t s)
+
+-- What holds at s of a node whose arms hold where p and q do. Of an until: its end, without the steps before.
+abbrev pub atOnce : Table → Node → (ℕ → Bool) → (ℕ → Bool) → ℕ → Bool
+atOnce t True p q s = true
+atOnce t Not p q s = negate (p s)
+atOnce t Or p q s = p s || q s
+atOnce t (Ex c) p q s = some (leadsTo (condOf c) p) (stepsFrom t s)
+atOnce t (Ax c) p q s = every (leadsTo (condOf c) p) (stepsFrom t s)
+atOnce t (Until a) p q s = p s
+atOnce t (UntilThen a b) p q s = enters t b p s
+
+-- The same, with an until's steps before its end.
+abbrev pub nodeHolds : Table → Node → (ℕ → Bool) → (ℕ → Bool) → ℕ → Bool
+nodeHolds t True p q s = true
+nodeHolds t Not p q s = negate (p s)
+nodeHolds t Or p q s = p s || q s
+nodeHolds t (Ex c) p q s = some (leadsTo (condOf c) p) (stepsFrom t s)
+nodeHolds t (Ax c) p q s = every (leadsTo (condOf c) p) (stepsFrom t s)
+nodeHolds t (Until a) p q s = within t a p (length (t .transitions)) s
+nodeHolds t (UntilThen a b) p q s = within t a (enters t b p) (length (t .transitions)) s
+
+-- Flags that say of each state whether p holds there.
+pub record Flags (p : ℕ → Bool) (flags : List Bool) : Type 0 where
+  pub places : length flags ≡ 256
+  pub flag : (s : ℕ) → s < 256 → flagAt flags s ≡ p s
+
+-- Flags of every node of F at every state: node k and state s at k * 256 + s.
+pub record NodeFlags (t : Table) (F : Formula) (flags : List Bool) : Type 0 where
+  pub places : length flags ≡ 10240
+  pub flag : (k s : ℕ) → k < size F → s < 256 → flagAt flags (k * 256 + s) ≡ holds t (getD (nodes F) k tru) s

@@ -1,0 +1,51 @@
+-- What labelling the nodes of a prepared formula takes, writes and leaves: rows of 256 flags, a row for each node.
+use mathlib.Core.Path.{_≡_}
+use mathlib.Core.Logic.{_⊎_}
+use mathlib.Core.Bool.{Bool}
+use mathlib.Core.List.{List}
+use mathlib.Core.Option.{some}
+use Prim.Native.Nat.{ℕ, _+_, _*_, _≤_, _<_}
+use lib.ListN.{length, getD}
+use Rattle.lts.specs.Steps.{Table, labels}
+use Rattle.lts.specs.Prepared.{tableIn}
+use Rattle.actl.specs.Formulas.{Formula, tru, size, nodes}
+use Rattle.actl.specs.Prepared.{preparedFormula}
+use Rattle.labelling.specs.Holds.{holds}
+use Rattle.labelling.specs.Flags.{flagAt, NodeFlags}
+
+-- Bytes in which a formula stands, over n labels.
+pub record HoldsFormula (n : ℕ) (b : List ℕ) : Type 0 where
+  pub formula : Formula
+  pub prepared : preparedFormula n b ≡ some formula
+
+-- Where each node's arms end.
+pub record ArmsEnd (n : ℕ) (b ends : List ℕ) : Type 0 where
+  pub arms-end : (F : Formula) → preparedFormula n b ≡ some F → (k : ℕ) → k < size F → getD ends k 0 ≡ k + size (getD (nodes F) k tru)
+
+-- The row of node k, where there is a place for it.
+pub record RowRead (k : ℕ) (flags row : List Bool) : Type 0 where
+  pub places : length row ≡ 256
+  pub flag : (s : ℕ) → k < 40 → s < 256 → flagAt row s ≡ flagAt flags (k * 256 + s)
+
+-- Flags with the row of node k put in.
+pub record RowPut (k : ℕ) (row flags flags′ : List Bool) : Type 0 where
+  pub places : length flags′ ≡ 10240
+  pub inside : (s : ℕ) → s < 256 → flagAt flags′ (k * 256 + s) ≡ flagAt row s
+  pub outside : (i : ℕ) → (i < k * 256) ⊎ (k * 256 + 256 ≤ i) → flagAt flags′ i ≡ flagAt flags i
+
+-- The rows of the nodes from k on.
+pub record LabelledFrom (t : Table) (F : Formula) (k : ℕ) (flags : List Bool) : Type 0 where
+  pub flag : (j s : ℕ) → k ≤ j → j < size F → s < 256 → flagAt flags (j * 256 + s) ≡ holds t (getD (nodes F) j tru) s
+
+-- The same of the formula in bytes, over the table in bytes.
+pub record RowsFrom (table formula : List ℕ) (k : ℕ) (flags : List Bool) : Type 0 where
+  pub places : length flags ≡ 10240
+  pub rows : (F : Formula) → preparedFormula (labels (tableIn table)) formula ≡ some F → LabelledFrom (tableIn table) F k flags
+
+-- 01: what holds at every node of the prepared formula, at every state.
+pub record Labelled (table formula : List ℕ) (flags : List Bool) : Type 0 where
+  pub labelled : (F : Formula) → preparedFormula (labels (tableIn table)) formula ≡ some F → NodeFlags (tableIn table) F flags
+
+-- The answer of the root at the start.
+pub record AtStart (table formula : List ℕ) (answer : Bool) : Type 0 where
+  pub answered : (F : Formula) → preparedFormula (labels (tableIn table)) formula ≡ some F → answer ≡ holds (tableIn table) F (tableIn table .start)

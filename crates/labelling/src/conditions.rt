@@ -1,0 +1,34 @@
+// Whether a step's label meets a step condition, and whether an until's path passes it.
+use actl::node::Condition;
+ghost use mathlib.Core.Path.{_≡_};
+ghost use Prim.Native.Nat.{_<_};
+ghost use Rattle.actl.specs.Actions as actions;
+ghost use Rattle.actl.specs.Access.{condOf};
+
+fn in_set(set: u64, label: usize) -> bool
+    requires { ⌜ label < 64 ⌝ }
+    ensures { λ r. ⌜ r ≡ actions.inSet set label ⌝ }
+{
+    if label == 0 {
+        false
+    } else {
+        (set >> label) % 2 == 1
+    }
+}
+
+pub fn meets(condition: Condition, label: usize) -> bool
+    requires { ⌜ label < 64 ⌝ }
+    ensures { λ r. ⌜ r ≡ actions.meets (condOf condition) label ⌝ }
+{
+    match condition {
+        Condition::Silent => label == 0,
+        Condition::Labels(set) => in_set(set, label),
+    }
+}
+
+pub fn passes(set: u64, label: usize) -> bool
+    requires { ⌜ label < 64 ⌝ }
+    ensures { λ r. ⌜ r ≡ actions.passes set label ⌝ }
+{
+    if label == 0 { true } else { in_set(set, label) }
+}

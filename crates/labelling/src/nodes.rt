@@ -1,0 +1,132 @@
+// Where every node of a prepared formula holds: from the last node to the first, so that arms come before their node.
+use crate::links::entering;
+use crate::steps::label_at_once;
+use crate::until::until;
+use actl::node::Node;
+use actl::node::node_at;
+use actl::node::node_count;
+ghost use mathlib.Core.Path.{_≡_};
+ghost use Prim.Native.Nat.{_+_, _<_};
+ghost use lib.ListN.{length, getD};
+ghost use Rattle.lts.specs.Steps.{labels};
+ghost use Rattle.lts.specs.Prepared.{tableIn};
+ghost use Rattle.lts.specs.Access.{HoldsTable, ExitsFound};
+ghost use Rattle.labelling.specs.Flags.{flagAt, nodeHolds, Flags};
+ghost use Rattle.labelling.specs.Links.{Linked};
+ghost use Rattle.labelling.specs.Nodes.{HoldsFormula, ArmsEnd, RowRead, RowPut, RowsFrom, Labelled};
+
+// Where a node holds, from where its arms hold.
+fn label_node(
+    table: &[u8],
+    begins: &[u16; 257],
+    links: &[u16; 1280],
+    node: Node,
+    arm: &[bool; 256],
+    other: &[bool; 256],
+) -> [bool; 256]
+    requires { ⌜ HoldsTable (now table) ⌝ }
+    requires { ⌜ ExitsFound (now table) (now begins) ⌝ }
+    requires { ⌜ Linked (tableIn (now table)) (now links) ⌝ }
+    ensures { λ r. ⌜ Flags (nodeHolds (tableIn (now (table .entry))) node (flagAt (now (arm .entry))) (flagAt (now (other .entry)))) r ⌝ }
+{
+    let flags = label_at_once(table, begins, node, arm, other);
+    match node {
+        Node::True => flags,
+        Node::Not => flags,
+        Node::Or => flags,
+        Node::Ex(_) => flags,
+        Node::Ax(_) => flags,
+        Node::Until(set) => until(table, links, set, &flags),
+        Node::UntilThen(set, _) => until(table, links, set, &flags),
+    }
+}
+
+// The row of node k; no state, if there is no place for such a node.
+pub fn row(flags: &[bool; 10240], k: usize) -> [bool; 256]
+    ensures { λ r. ⌜ RowRead k (now (flags .entry)) r ⌝ }
+{
+    let mut found = [false; 256];
+    if 40 <= k {
+        return found;
+    }
+    let mut s = 0;
+    while s < 256 {
+        found[s] = flags[k * 256 + s];
+        s += 1;
+    }
+    found
+}
+
+fn put_row(flags: &mut [bool; 10240], k: usize, found: &[bool; 256])
+    requires { ⌜ k < 40 ⌝ }
+    requires { ⌜ length (now flags) ≡ 10240 ⌝ }
+    ensures { λ _. ⌜ RowPut k (now (found .entry)) (now (flags .entry)) (now (flags .exit)) ⌝ }
+{
+    let mut s = 0;
+    while s < 256 {
+        flags[k * 256 + s] = found[s];
+        s += 1;
+    }
+}
+
+fn wide(byte: u8) -> usize
+    ensures { λ r. ⌜ r ≡ byte ⌝ }
+{
+    byte as usize
+}
+
+// The right arm of node k, if it has one: it stands behind the whole left arm.
+fn right_arm(ends: &[u8; 40], k: usize) -> usize
+    requires { ⌜ k < 40 ⌝ }
+    ensures { λ r. ⌜ (k + 1 < 40 → r ≡ getD (now (ends .entry)) (k + 1) 0) ⌝ }
+{
+    if k + 1 < 40 { wide(ends[k + 1]) } else { 40 }
+}
+
+fn label_row(
+    table: &[u8],
+    begins: &[u16; 257],
+    links: &[u16; 1280],
+    formula: &[u8],
+    ends: &[u8; 40],
+    flags: &mut [bool; 10240],
+    k: usize,
+)
+    requires { ⌜ HoldsTable (now table) ⌝ }
+    requires { ⌜ ExitsFound (now table) (now begins) ⌝ }
+    requires { ⌜ Linked (tableIn (now table)) (now links) ⌝ }
+    requires { ⌜ HoldsFormula (labels (tableIn (now table))) (now formula) ⌝ }
+    requires { ⌜ ArmsEnd (labels (tableIn (now table))) (now formula) (now ends) ⌝ }
+    requires { ⌜ k < getD (now formula) 0 0 ⌝ }
+    requires { ⌜ RowsFrom (now table) (now formula) (k + 1) (now flags) ⌝ }
+    ensures { λ _. ⌜ RowsFrom (now (table .entry)) (now (formula .entry)) k (now (flags .exit)) ⌝ }
+{
+    let node = node_at(formula, k);
+    let arm = row(flags, k + 1);
+    let other = row(flags, right_arm(ends, k));
+    let found = label_node(table, begins, links, node, &arm, &other);
+    put_row(flags, k, &found);
+}
+
+// Node k and state s at k * 256 + s.
+pub fn label_nodes(
+    table: &[u8],
+    begins: &[u16; 257],
+    formula: &[u8],
+    ends: &[u8; 40],
+) -> [bool; 10240]
+    requires { ⌜ HoldsTable (now table) ⌝ }
+    requires { ⌜ ExitsFound (now table) (now begins) ⌝ }
+    requires { ⌜ HoldsFormula (labels (tableIn (now table))) (now formula) ⌝ }
+    requires { ⌜ ArmsEnd (labels (tableIn (now table))) (now formula) (now ends) ⌝ }
+    ensures { λ r. ⌜ Labelled (now (table .entry)) (now (formula .entry)) r ⌝ }
+{
+    let links = entering(table);
+    let mut flags = [false; 10240];
+    let mut k = node_count(formula);
+    while 0 < k {
+        k -= 1;
+        label_row(table, begins, &links, formula, ends, &mut flags, k);
+    }
+    flags
+}
