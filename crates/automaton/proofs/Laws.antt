@@ -4,3 +4,5 @@ pub mod Hops
 pub mod Loops
 pub mod Labels
 pub mod Survey
+pub mod Masks
+pub mod Places

@@ -8,3 +8,4 @@ pub mod Words
 pub mod Bytes
 pub mod Replies
 pub mod Hops
+pub mod Masks

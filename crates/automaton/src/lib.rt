@@ -1,6 +1,7 @@
 // The automaton of all finite witnesses or counterexamples: building its rows and edges, and asking for a word.
 
 mod hops;
+mod masks;
 
 // What `build` answers: the counts of rows and edges, or a refusal. specs/Replies.antt lists the number and the figure of each case.
 pub enum BuildReply {

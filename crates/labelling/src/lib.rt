@@ -3,7 +3,7 @@ use actl::walk::shape_of;
 use lts::prepared::first_exits;
 use lts::prepared::start_state;
 
-mod conditions;
+pub mod conditions;
 mod links;
 pub mod nodes;
 mod steps;
