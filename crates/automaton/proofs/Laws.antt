@@ -6,3 +6,4 @@ pub mod Labels
 pub mod Survey
 pub mod Masks
 pub mod Places
+pub mod Stepped

@@ -9,3 +9,4 @@ pub mod Bytes
 pub mod Replies
 pub mod Hops
 pub mod Masks
+pub mod Stepped
