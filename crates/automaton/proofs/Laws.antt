@@ -7,3 +7,4 @@ pub mod Survey
 pub mod Masks
 pub mod Places
 pub mod Stepped
+pub mod Books
