@@ -8,3 +8,6 @@ pub mod Masks
 pub mod Places
 pub mod Stepped
 pub mod Books
+pub mod Taken
+pub mod RowMoves
+pub mod RowHops
