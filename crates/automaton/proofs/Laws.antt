@@ -11,3 +11,4 @@ pub mod Books
 pub mod Taken
 pub mod RowMoves
 pub mod RowHops
+pub mod RowList
