@@ -12,3 +12,4 @@ pub mod Taken
 pub mod RowMoves
 pub mod RowHops
 pub mod RowList
+pub mod Standing
