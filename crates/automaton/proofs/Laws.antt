@@ -13,3 +13,4 @@ pub mod RowMoves
 pub mod RowHops
 pub mod RowList
 pub mod Standing
+pub mod Linked
