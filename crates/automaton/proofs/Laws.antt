@@ -14,3 +14,4 @@ pub mod RowHops
 pub mod RowList
 pub mod Standing
 pub mod Linked
+pub mod Slotted

@@ -10,3 +10,4 @@ pub mod Replies
 pub mod Hops
 pub mod Masks
 pub mod Stepped
+pub mod Slots
