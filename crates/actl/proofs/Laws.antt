@@ -3,12 +3,15 @@ pub mod Accepted
 pub mod Bare
 pub mod Checked
 pub mod Classed
+pub mod Decided
+pub mod Dressed
 pub mod Forms
 pub mod Lists
 pub mod Masks
 pub mod Numbers
 pub mod Polish
 pub mod Prepared
+pub mod Recoded
 pub mod Sets
 pub mod Slots
 pub mod Table

@@ -1,5 +1,7 @@
 // The check that prepared formula bytes are the one form of a formula, over a table's labels.
 use crate::node::mask;
+use crate::node::node_count;
+use crate::walk::spelled;
 ghost use mathlib.Core.Path.{_≡_};
 ghost use mathlib.Core.Bool.{_&&_, _||_};
 ghost use Prim.Native.Nat.{_+_, _*_, _<_, _≤_};
@@ -58,4 +60,52 @@ fn slot_fits(labels: usize, formula: &[u8], k: usize) -> bool
     let first = mask_fits(labels, mask(formula, 2 + k * 17), 1 <= masks);
     let second = mask_fits(labels, mask(formula, 10 + k * 17), masks == 2);
     first && second
+}
+
+fn slots_fit(labels: usize, formula: &[u8], count: usize) -> bool
+    requires { ⌜ (681 ≤ length (now formula)) × (count ≤ 40) ⌝ }
+    ensures { λ r. ⌜ r ≡ slotsFit labels (now (formula .entry)) count ⌝ }
+{
+    let mut k = 0;
+    while k < count {
+        if !slot_fits(labels, formula, k) {
+            return false;
+        }
+        k += 1;
+    }
+    true
+}
+
+fn zeros_from(formula: &[u8], from: usize) -> bool
+    requires { ⌜ (681 ≤ length (now formula)) × (from ≤ 681) ⌝ }
+    ensures { λ r. ⌜ r ≡ zerosFrom (now (formula .entry)) from ⌝ }
+{
+    let mut i = from;
+    while i < 681 {
+        if formula[i] != 0 {
+            return false;
+        }
+        i += 1;
+    }
+    true
+}
+
+// 01: "formula bytes that aren't the one form, given in docs/, of 1 to 40 nodes in order, each with a class, sets within this table's labels"
+pub fn is_prepared(labels: usize, formula: &[u8]) -> bool
+    ensures { λ r. ⌜ r ≡ isPrepared labels (now (formula .entry)) ⌝ }
+{
+    if formula.len() < 681 {
+        return false;
+    }
+    let count = node_count(formula);
+    if 40 < count {
+        return false;
+    }
+    if !slots_fit(labels, formula, count) {
+        return false;
+    }
+    if !zeros_from(formula, 1 + count * 17) {
+        return false;
+    }
+    spelled(formula, count)
 }

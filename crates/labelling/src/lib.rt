@@ -1,6 +1,8 @@
 // Where the nodes of a formula hold, and the verdict.
 use actl::walk::shape_of;
+use lts::check::is_prepared;
 use lts::prepared::first_exits;
+use lts::prepared::label_count;
 use lts::prepared::start_state;
 
 pub mod conditions;
@@ -9,10 +11,13 @@ pub mod nodes;
 mod steps;
 mod until;
 
+ghost use mathlib.Core.Path.{_≡_};
 ghost use Rattle.lts.specs.Steps.{labels};
 ghost use Rattle.lts.specs.Prepared.{tableIn};
-ghost use Rattle.lts.specs.Access.{HoldsTable};
+ghost use Rattle.lts.specs.Access.{HoldsTable, isSome};
+ghost use Rattle.actl.specs.Prepared.{preparedFormula};
 ghost use Rattle.labelling.specs.Nodes.{HoldsFormula, AtStart};
+ghost use Rattle.labelling.specs.Replies.{verdictReply, verdictReplied};
 
 // What `verdict` answers. specs/Replies.antt lists the number and the figure of each case.
 pub enum VerdictReply {
@@ -35,4 +40,34 @@ fn holds_at_start(table: &[u8], formula: &[u8]) -> bool
     let flags = nodes::label_nodes(table, &begins, formula, &ends);
     let start = start_state(table);
     flags[start]
+}
+
+// Whether a formula's bytes are prepared, over the labels of a prepared table.
+fn formula_prepared(table: &[u8], formula: &[u8]) -> bool
+    requires { ⌜ HoldsTable (now table) ⌝ }
+    ensures { λ r. ⌜ r ≡ isSome (preparedFormula (labels (tableIn (now (table .entry)))) (now (formula .entry))) ⌝ }
+{
+    actl::prepared::is_prepared(label_count(table), formula)
+}
+
+pub fn verdict(table: &[u8], formula: &[u8]) -> VerdictReply
+    ensures { λ r. ⌜ verdictReply r ≡ verdictReplied (now (table .entry)) (now (formula .entry)) ⌝ }
+{
+    if table.len() < 3718 {
+        return VerdictReply::BufferShort(3718);
+    }
+    if formula.len() < 681 {
+        return VerdictReply::BufferShort(681);
+    }
+    if !is_prepared(table) {
+        return VerdictReply::TableForeign;
+    }
+    if !formula_prepared(table, formula) {
+        return VerdictReply::FormulaForeign;
+    }
+    if holds_at_start(table, formula) {
+        VerdictReply::Holds
+    } else {
+        VerdictReply::Fails
+    }
 }

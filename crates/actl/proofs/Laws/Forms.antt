@@ -4,7 +4,7 @@ use mathlib.Core.List.{List, [], _∷_, _++_, map}
 use Prim.Native.Nat.{ℕ, zero, suc, _+_, _*_, _-_, _/_, _%_, _^_, _≤_, _<_}
 use native.Mathlib.Omega.{arith}
 use lib.ListN.{length, getD, take, drop, replicate, length-append, length-replicate}
-use lib.Seq.{drop-drop, getD-drop, getD-take}
+use lib.Seq.{drop-drop, getD-drop, getD-take, getD-append-add}
 use Rattle.columns.specs.Bytes.{padded, lowFirst}
 use Rattle.lts.specs.Lists.{bind}
 use Rattle.actl.specs.Formulas.{Formula, tru, size, nodes}
@@ -114,3 +114,19 @@ unfolding formulaBytes
 form-bytes F h =
     let all = bind nodeBytes (nodes F) in
     bytes-cons (size F) (padded 680 all) (omega arith) (bytes-append all (replicate (680 - length all) 0) (bytes-nodes (nodes F)) (bytes-zeros (680 - length all)))
+
+-- Zeros past the last slot.
+zero-at : (m i : ℕ) → getD {A = ℕ} (replicate m 0) i 0 ≡ 0
+zero-at zero i = refl
+zero-at (suc m) zero = refl
+zero-at (suc m) (suc i) = zero-at m i
+
+pub form-zeros : (F : Formula) (i : ℕ) → 1 + size F * 17 ≤ i → getD (formulaBytes F) i 0 ≡ 0
+unfolding formulaBytes
+form-zeros F zero h = absurd (omega arith)
+form-zeros F (suc i) h =
+    let all = bind nodeBytes (nodes F) in
+    let e : length all ≡ size F * 17 = length-parts nodeBytes 17 (λ f. length-slot (slotOf f)) (nodes F) ∙ ap (λ n. n * 17) (length-nodes F) in
+    let d : i ≡ length all + (i - length all) = omega arith in
+    ap (λ j. getD (padded 680 all) j 0) d
+    ∙ (getD-append-add all (replicate (680 - length all) 0) (i - length all) 0 ∙ zero-at (680 - length all) (i - length all))

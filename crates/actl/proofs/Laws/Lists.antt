@@ -2,17 +2,18 @@
 use mathlib.Core.Path.{_≡_, refl, sym, ap, _∙_}
 use mathlib.Core.Bool.{Bool, true, false, false≢true}
 use mathlib.Core.List.{List, [], _∷_, _++_, map}
-use Prim.Native.Nat.{ℕ, zero, suc, _+_, _<_}
+use Prim.Native.Nat.{ℕ, zero, suc, _+_, _≤_, _<_}
 use native.Mathlib.Nat.{add-zero, add-suc, suc-add, zero-add}
 use native.Mathlib.Numerals.{add-one}
+use native.Mathlib.Decide.{decLt}
 use native.Mathlib.Omega.{arith}
 use lib.Dec.{eqb}
 use lib.ListN.{length, getD, take, set}
 use lib.Seq.{take-suc-set}
 use borrow.Author.Tests.{eqb-true, eq-eqb}
 use Rattle.columns.specs.Bytes.{sameBytes}
-use Rattle.lts.specs.Lists.{upFrom}
-use Rattle.lts.proofs.Lists.{and-true-of, and-true-to, upFrom-snoc, map-append}
+use Rattle.lts.specs.Lists.{upFrom, every}
+use Rattle.lts.proofs.Lists.{and-true-of, and-true-to, upFrom-of, upFrom-to, upFrom-snoc, map-append, every-of, every-to}
 
 pub length-upFrom : (k n : ℕ) → length (upFrom k n) ≡ n
 length-upFrom k zero = refl
@@ -45,3 +46,28 @@ pub filled-more : (g : ℕ → ℕ) (l : List ℕ) (k : ℕ) → k < length l �
 filled-more g l k h e =
     rw add-one
     (take-suc-set l k (g k) h ∙ (ap (λ x. x ++ (g k ∷ [])) e ∙ sym (ap (map g) (upFrom-snoc k) ∙ map-append g (upFrom 0 k) (k ∷ []))))
+
+-- A test over numbers in turn: what passed so far, and what the whole gives.
+abbrev pub Passed : (ℕ → Bool) → ℕ → ℕ → Type 0
+Passed p a k = (i : ℕ) → a ≤ i → i < k → p i ≡ true
+
+module _ (p : ℕ → Bool) (a : ℕ) where
+  pub passed-none : Passed p a a
+  passed-none i l h = absurd (omega arith)
+
+  pub passed-more : (k : ℕ) → Passed p a k → p k ≡ true → Passed p a (k + 1)
+  passed-more k h e i l m = case (decLt i k)
+    where
+      case : Dec (i < k) → p i ≡ true
+      case (yes j) = h i l j
+      case (no j) = let d : i ≡ k = omega arith in ap p d ∙ e
+
+  pub passed-all : (n k : ℕ) → a + n ≤ k → Passed p a k → every p (upFrom a n) ≡ true
+  passed-all n k l h = every-to p (upFrom a n) (λ x m. let b = upFrom-of a n m in h x (b .0) (omega arith))
+
+  pub failed-one : (n k : ℕ) → a ≤ k → k < a + n → p k ≡ false → every p (upFrom a n) ≡ false
+  failed-one n k l h e = case (every p (upFrom a n)) refl
+    where
+      case : (t : Bool) → every p (upFrom a n) ≡ t → t ≡ false
+      case true d = absurd (false≢true (sym e ∙ every-of p (upFrom a n) d k (upFrom-to a n k l h)))
+      case false d = refl

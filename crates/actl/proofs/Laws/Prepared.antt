@@ -88,7 +88,7 @@ module _ (n : ℕ) (b : List ℕ) {F : Formula} (e : preparedFormula n b ≡ som
   prepared-shaped k h = ap shaped (prepared-slot k h) ∙ node-shaped (getD (nodes F) k tru)
 
 -- And back: the one form is a prepared formula. Masks of at most 63 labels fit eight bytes.
-is-form-to : (n : ℕ) (b : List ℕ) (F : Formula) → IsForm n b F → isForm n b F ≡ true
+pub is-form-to : (n : ℕ) (b : List ℕ) (F : Formula) → IsForm n b F → isForm n b F ≡ true
 is-form-to n b F h =
     and-true-to _ (every (λ f. slotWithin n (slotOf f)) (nodes F))
     (and-true-to _ (every (λ f. not (eqb (classOf f) 0)) (nodes F))
