@@ -15,3 +15,5 @@ pub mod RowList
 pub mod Standing
 pub mod Linked
 pub mod Slotted
+pub mod Placed
+pub mod Building

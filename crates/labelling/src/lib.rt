@@ -43,7 +43,7 @@ fn holds_at_start(table: &[u8], formula: &[u8]) -> bool
 }
 
 // Whether a formula's bytes are prepared, over the labels of a prepared table.
-fn formula_prepared(table: &[u8], formula: &[u8]) -> bool
+pub fn formula_prepared(table: &[u8], formula: &[u8]) -> bool
     requires { ⌜ HoldsTable (now table) ⌝ }
     ensures { λ r. ⌜ r ≡ isSome (preparedFormula (labels (tableIn (now (table .entry)))) (now (formula .entry))) ⌝ }
 {
