@@ -17,3 +17,4 @@ pub mod Linked
 pub mod Slotted
 pub mod Placed
 pub mod Building
+pub mod LayOut

@@ -11,3 +11,4 @@ pub mod Hops
 pub mod Masks
 pub mod Stepped
 pub mod Slots
+pub mod Searched

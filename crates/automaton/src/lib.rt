@@ -1,5 +1,6 @@
 // The automaton of all finite witnesses or counterexamples: building its rows and edges, and asking for a word.
 
+mod building;
 mod hops;
 mod masks;
 mod slots;
