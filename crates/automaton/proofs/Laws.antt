@@ -18,3 +18,4 @@ pub mod Slotted
 pub mod Placed
 pub mod Building
 pub mod LayOut
+pub mod Readied
