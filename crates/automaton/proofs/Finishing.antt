@@ -22,7 +22,7 @@ use Rattle.automaton.specs.Places.{FreeMoves, stay, Final, Leads}
 use Rattle.automaton.specs.Positions.{Position, at, rootAt, Joins, Walk, stop, go, CanFinish}
 use Rattle.automaton.specs.Listing.{nodeAt, explains, canFinish}
 use Rattle.automaton.proofs.Acceptance.{Accepting, halt, move, shown-is-accepting, broken-is-accepting}
-use Rattle.automaton.proofs.Words.{words-of-witnesses, words-of-counterexamples}
+use Rattle.automaton.proofs.PathWords.{words-of-witnesses, words-of-counterexamples}
 use Rattle.automaton.proofs.States.{States, states-agree, is-false}
 
 pub step-finishes : {t : Table} {F : Formula} {p q : Position} {l : ℕ} → Joins t F p l q → CanFinish t F q → CanFinish t F p

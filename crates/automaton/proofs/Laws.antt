@@ -4,7 +4,7 @@ pub mod Hops
 pub mod Loops
 pub mod Labels
 pub mod Survey
-pub mod Masks
+pub mod MasksFound
 pub mod Places
 pub mod Stepped
 pub mod Books

@@ -1,6 +1,6 @@
 pub mod Frames
 pub mod Acceptance
-pub mod Words
+pub mod PathWords
 pub mod Tests
 pub mod Numbers
 pub mod States

@@ -19,7 +19,7 @@ use Rattle.automaton.specs.Positions.{Position, at, rootAt, Joins, Reach
 use Rattle.automaton.specs.Listing.{Edge, Listing, listing, final, targets, onLabel}
 use Rattle.automaton.specs.Listed.{rowAt, placed, IsRow, Listed}
 use Rattle.automaton.specs.Words.{Reads, ends, reads, Accepts, acceptsFrom, accepts}
-use Rattle.automaton.proofs.Words.{WordOf, words-of-witnesses, words-of-counterexamples}
+use Rattle.automaton.proofs.PathWords.{WordOf, words-of-witnesses, words-of-counterexamples}
 use Rattle.automaton.proofs.Tests.{final-is, targets-of, targets-to, leads-inside}
 use Rattle.automaton.proofs.Finishing.{step-finishes}
 use Rattle.automaton.proofs.Moves.{leaving}

@@ -20,7 +20,7 @@ use Rattle.actl.proofs.Laws.Slots.{node-shaped}
 use Rattle.automaton.specs.Listing.{nodeAt, final}
 use Rattle.automaton.specs.Hops.{MasksFit}
 use Rattle.automaton.specs.Masks.{targetMask, maskOfNode, finalOfNode, Spells, MasksOf, MasksOn, FinalsOf}
-use Rattle.automaton.proofs.Laws.Masks.{mask-past, target-fits, node-mask-is, final-past, node-final-is}
+use Rattle.automaton.proofs.Laws.MasksFound.{mask-past, target-fits, node-mask-is, final-past, node-final-is}
 
 T-by-kind : (f : Formula) → eqb (slotOf f .kind) 1 ≡ isT f
 T-by-kind tru = refl
