@@ -10,3 +10,8 @@ pub mod Words
 pub mod Bytes
 pub mod Replies
 pub mod Reached
+pub mod Hops
+pub mod Masks
+pub mod Stepped
+pub mod Slots
+pub mod Searched

@@ -2,6 +2,11 @@
 
 pub mod targets;
 pub mod words;
+mod building;
+mod hops;
+mod masks;
+mod slots;
+mod steps;
 
 // What `build` answers: the counts of rows and edges, or a refusal. specs/Replies.antt lists the number and the figure of each case.
 pub enum BuildReply {

@@ -5,7 +5,7 @@ ghost use Prim.Native.Nat.{_<_};
 ghost use Rattle.actl.specs.Actions as actions;
 ghost use Rattle.actl.specs.Access.{condOf};
 
-fn in_set(set: u64, label: usize) -> bool
+pub fn in_set(set: u64, label: usize) -> bool
     requires { ⌜ label < 64 ⌝ }
     ensures { λ r. ⌜ r ≡ actions.inSet set label ⌝ }
 {
