@@ -19,3 +19,4 @@ pub mod Placed
 pub mod Building
 pub mod LayOut
 pub mod Readied
+pub mod Entries

@@ -90,4 +90,3 @@ module _ (t : Table) (F : Formula) (w : InRange t) (c : HasClass F) where
 
     pub edges-rising : Rising (BeforeIn R) (edgesOf t F R)
     edges-rising = map-rising (edgeOf R) Sooner (BeforeIn R) M before (upto-rising t F w R (length R))
-

@@ -212,7 +212,7 @@ module _ (t : Table) (F : Formula) (L : Listing) (h : Listed t F L) where
         let z : length R ≡ length R - suc i + suc i = omega arith in
         let m : movesUpto t F R (suc i) ≡ movesUpto t F P i ++ movesFrom t F i (positionAt P i) = ap (λ l. movesUpto t F l (suc i)) q ∙ upto-next t F P extra i b in
         let d : after (movesUpto t F R (suc i)) ≡ visits P (movesFrom t F i (positionAt P i)) =
-            ap after m ∙ (visits-append (rootAt t ∷ []) (movesUpto t F P i) (movesFrom t F i (positionAt P i)) ∙ ap (λ l. visits l (movesFrom t F i (positionAt P i))) (sym (g .built))) in
+        ap after m ∙ (visits-append (rootAt t ∷ []) (movesUpto t F P i) (movesFrom t F i (positionAt P i)) ∙ ap (λ l. visits l (movesFrom t F i (positionAt P i))) (sym (g .built))) in
         subst Prefix d (moves-prefix (movesUpto t F R (suc i)) rest (ap (movesUpto t F R) z ∙ e))
 
     search-prefix : (n i : ℕ) (P : List Position) → Expanded t F i P → Prefix P → Prefix (search t F n i P)
