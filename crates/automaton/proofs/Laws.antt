@@ -25,3 +25,4 @@ pub mod Placed
 pub mod Building
 pub mod LayOut
 pub mod Readied
+pub mod Entries

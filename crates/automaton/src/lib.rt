@@ -1,4 +1,6 @@
 // The automaton of all finite witnesses or counterexamples: building its rows and edges, and asking for a word.
+use labelling::formula_prepared;
+use lts::check::is_prepared;
 
 pub mod targets;
 pub mod words;
@@ -7,6 +9,9 @@ mod hops;
 mod masks;
 mod slots;
 mod steps;
+
+ghost use mathlib.Core.Path.{_≡_};
+ghost use Rattle.automaton.specs.Replies.{buildReply, buildReplied, rowsLeft, edgesLeft};
 
 // What `build` answers: the counts of rows and edges, or a refusal. specs/Replies.antt lists the number and the figure of each case.
 pub enum BuildReply {
@@ -26,4 +31,25 @@ pub enum WordReply {
     TableForeign,
     FormulaForeign,
     BufferShort(usize),
+}
+
+// 01: rows and edges of the automaton, in the lent places; 14, 10, 11, 12 in this order.
+pub fn build(table: &[u8], formula: &[u8], rows: &mut [u8], edges: &mut [u8]) -> BuildReply
+    ensures { λ r. ⌜ buildReply r ≡ buildReplied (now (table .entry)) (now (formula .entry)) (now (rows .entry)) (now (edges .entry)) ⌝ }
+    ensures { λ _. ⌜ now (rows .exit) ≡ rowsLeft (now (table .entry)) (now (formula .entry)) (now (rows .entry)) (now (edges .entry)) ⌝ }
+    ensures { λ _. ⌜ now (edges .exit) ≡ edgesLeft (now (table .entry)) (now (formula .entry)) (now (rows .entry)) (now (edges .entry)) ⌝ }
+{
+    if table.len() < 3718 {
+        return BuildReply::BufferShort(3718);
+    }
+    if formula.len() < 681 {
+        return BuildReply::BufferShort(681);
+    }
+    if !is_prepared(table) {
+        return BuildReply::TableForeign;
+    }
+    if !formula_prepared(table, formula) {
+        return BuildReply::FormulaForeign;
+    }
+    building::built(table, formula, rows, edges)
 }

@@ -24,7 +24,15 @@ fn bit_if(wanted: bool, k: usize) -> u64
 }
 
 // A node's mask, from the masks of its arms; `last` says whether its arm is T.
-fn node_mask(node: Node, end: usize, k: usize, label: usize, last: bool, arm: u64, other: u64) -> u64
+fn node_mask(
+    node: Node,
+    end: usize,
+    k: usize,
+    label: usize,
+    last: bool,
+    arm: u64,
+    other: u64,
+) -> u64
     requires { ⌜ (k < 40) × ((end ≤ 40) × (label ≤ 40)) ⌝ }
     ensures { λ r. ⌜ r ≡ maskOfNode node end k label last arm other ⌝ }
 {
@@ -41,9 +49,7 @@ fn node_mask(node: Node, end: usize, k: usize, label: usize, last: bool, arm: u6
             }
         }
         Node::Until(a) => bit_if(passes(a, label), k) | arm,
-        Node::UntilThen(a, b) => {
-            bit_if(passes(a, label), k) | bit_if(in_set(b, label), k + 1)
-        }
+        Node::UntilThen(a, b) => { bit_if(passes(a, label), k) | bit_if(in_set(b, label), k + 1) }
     }
 }
 
@@ -88,7 +94,11 @@ fn is_true(formula: &[u8], k: usize) -> bool
     requires { ⌜ 681 ≤ length (now formula) ⌝ }
     ensures { λ r. ⌜ (k < 40 → r ≡ eqb (slotAt (now (formula .entry)) k .kind) 1) ⌝ }
 {
-    if k < 40 { formula[1 + k * 17] == 1 } else { false }
+    if k < 40 {
+        formula[1 + k * 17] == 1
+    } else {
+        false
+    }
 }
 
 // The masks of place k, from those of the places behind it.

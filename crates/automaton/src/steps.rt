@@ -41,7 +41,13 @@ fn put_transitions(table: &[u8], hops: &mut [u16; 1280], at: usize, a: usize, b:
 }
 
 // The steps of state s; its idle step, if no transition leaves it.
-fn put_state(table: &[u8], begins: &[u16; 257], hops: &mut [u16; 1280], s: usize, at: usize) -> usize
+fn put_state(
+    table: &[u8],
+    begins: &[u16; 257],
+    hops: &mut [u16; 1280],
+    s: usize,
+    at: usize,
+) -> usize
     requires { ⌜ HoldsTable (now table) ⌝ }
     requires { ⌜ ExitsFound (now table) (now begins) ⌝ }
     requires { ⌜ (length (now hops) ≡ 1280) × ((s < 256) × (at ≤ exitsBelow (tableIn (now table) .transitions) s + s)) ⌝ }

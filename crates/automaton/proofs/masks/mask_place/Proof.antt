@@ -85,8 +85,7 @@ loop-less c = omega arith
 loop-again : tie.Need-loop-again Inv-loop μ-loop
 loop-again c = let d = c .before .before .before .before .before .before .before .before .before .before in
     let a = d .args in
-    let i = c .before .before .before .before .loop in
-    (
+    let i = c .before .before .before .before .loop in (
       omega arith,
       λ F p. masks-turn p (a .k) (d .pre .0 .1) (c .before .before .before .before .before .right-arm .result) (c .before .before .before .before .before .right-arm .ensures .1) (i .masks) (i .l) (i .inv .1 F p) (c .before .before .before .loop-test .taken)
           (c .before .before .before .before .before .before .before .node-at .result) (c .before .before .before .before .before .before .before .node-at .ensures) (c .before .before .before .before .before .before .before .before .node-count .result) (c .before .before .before .before .before .before .before .before .node-count .ensures) (c .before .before .before .before .before .before .is-true .result) (c .before .before .before .before .before .before .is-true .ensures) _ (c .node-mask .ensures),

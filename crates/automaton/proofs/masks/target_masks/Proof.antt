@@ -21,13 +21,12 @@ node-count-requires : tie.Need-node-count-requires Inv-loop μ-loop
 node-count-requires c κs = c .before .pre .0
 
 loop-holds : tie.Need-loop-holds Inv-loop μ-loop
-loop-holds c = let n = c .node-count .ensures in
-    (
-      omega (arith, n),
-      length-replicate {A = ℕ} 1681 0,
-      λ i. subst (λ m. m < 2199023255552) (sym (zeros-at 1681 i)) (omega arith),
-      λ F p. subst (λ k. MasksOf F k (replicate 1681 0)) (sym (n ∙ p .count)) (masks-end F _ (zeros-at 1681)),
-    )
+loop-holds c = let n = c .node-count .ensures in (
+  omega (arith, n),
+  length-replicate {A = ℕ} 1681 0,
+  λ i. subst (λ m. m < 2199023255552) (sym (zeros-at 1681 i)) (omega arith),
+  λ F p. subst (λ k. MasksOf F k (replicate 1681 0)) (sym (n ∙ p .count)) (masks-end F _ (zeros-at 1681)),
+)
 
 sub-k : tie.Need-sub-k Inv-loop μ-loop
 sub-k c = omega arith
