@@ -28,6 +28,11 @@ uint32_t explainer_read_formula(const uint8_t *table, size_t table_len, const ui
 /* Whether a prepared formula holds at the start of a prepared table. Accepted: *figure is 1 if it holds, else 0. */
 uint32_t explainer_verdict(const uint8_t *table, size_t table_len, const uint8_t *formula, size_t formula_len, uint64_t *figure);
 
+/* Builds the automaton of all finite witnesses or counterexamples into row places (3 bytes) and edge places (5 bytes).
+   Accepted: *figure is the count of rows and *edge_count the count of edges; a refusal leaves *edge_count as it was. */
+uint32_t explainer_build(const uint8_t *table, size_t table_len, const uint8_t *formula, size_t formula_len,
+                         uint8_t *rows, size_t rows_len, uint8_t *edges, size_t edges_len, uint64_t *figure, uint64_t *edge_count);
+
 /* Whether the automaton of a prepared table and a prepared formula accepts a word. Accepted: *figure is 1 if it does, else 0. */
 uint32_t explainer_accepts(const uint8_t *table, size_t table_len, const uint8_t *formula, size_t formula_len,
                            const uint8_t *word, size_t word_len, uint64_t *figure);

@@ -2,13 +2,13 @@
 use labelling::formula_prepared;
 use lts::check::is_prepared;
 
-pub mod targets;
-pub mod words;
 mod building;
 mod hops;
 mod masks;
 mod slots;
 mod steps;
+pub mod targets;
+pub mod words;
 
 ghost use mathlib.Core.Path.{_≡_};
 ghost use Rattle.automaton.specs.Replies.{buildReply, buildReplied, rowsLeft, edgesLeft};

@@ -3,8 +3,11 @@ ghost use mathlib.Core.Path.{_≡_};
 ghost use Rattle.lts.specs.Replies.{tableReplied, tableLeft};
 ghost use Rattle.actl.specs.Replies.{formulaReplied, formulaLeft};
 ghost use Rattle.labelling.specs.Replies.{verdictReplied};
-ghost use Rattle.automaton.specs.Replies.{wordReplied};
-ghost use Rattle.explainer.specs.Interface.{numberIn, figureIn};
+ghost use Rattle.automaton.specs.Replies.{buildReplied, rowsLeft, edgesLeft, wordReplied};
+ghost use Rattle.explainer.specs.Interface.{numberIn, figureIn, edgesIn};
+use crate::interface::build_edges;
+use crate::interface::build_figure;
+use crate::interface::build_number;
 use crate::interface::formula_figure;
 use crate::interface::formula_number;
 use crate::interface::table_figure;
@@ -14,6 +17,7 @@ use crate::interface::verdict_number;
 use crate::interface::word_figure;
 use crate::interface::word_number;
 use actl::read_formula;
+use automaton::build;
 use automaton::words::accepts;
 use labelling::verdict;
 use lts::reading::read_table;
@@ -68,4 +72,26 @@ pub extern "C" fn explainer_accepts(
     let reply = accepts(table, formula, word);
     *figure = word_figure(reply);
     word_number(reply)
+}
+
+#[no_mangle]
+pub extern "C" fn explainer_build(
+    table: &[u8],
+    formula: &[u8],
+    rows: &mut [u8],
+    edges: &mut [u8],
+    figure: &mut u64,
+    count: &mut u64,
+) -> u32
+    ensures { λ r. ⌜ r ≡ numberIn (buildReplied (now (table .entry)) (now (formula .entry)) (now (rows .entry)) (now (edges .entry))) ⌝ }
+    ensures { λ _. ⌜ now (rows .exit) ≡ rowsLeft (now (table .entry)) (now (formula .entry)) (now (rows .entry)) (now (edges .entry)) ⌝ }
+    ensures { λ _. ⌜ now (edges .exit) ≡ edgesLeft (now (table .entry)) (now (formula .entry)) (now (rows .entry)) (now (edges .entry)) ⌝ }
+    ensures { λ _. ⌜ now (figure .exit) ≡ figureIn (λ counts. counts .rows) (buildReplied (now (table .entry)) (now (formula .entry)) (now (rows .entry)) (now (edges .entry))) ⌝ }
+    ensures { λ _. ⌜ now (count .exit) ≡ edgesIn (now (count .entry)) (buildReplied (now (table .entry)) (now (formula .entry)) (now (rows .entry)) (now (edges .entry))) ⌝ }
+{
+    let reply = build(table, formula, rows, edges);
+    let before = *count;
+    *figure = build_figure(reply);
+    *count = build_edges(reply, before);
+    build_number(reply)
 }

@@ -4,7 +4,7 @@ ghost use Rattle.lts.specs.Replies.{tableReply};
 ghost use Rattle.actl.specs.Replies.{formulaReply};
 ghost use Rattle.labelling.specs.Replies.{verdictReply};
 ghost use Rattle.automaton.specs.Replies.{buildReply, wordReply};
-ghost use Rattle.explainer.specs.Interface.{numberIn, figureIn};
+ghost use Rattle.explainer.specs.Interface.{numberIn, figureIn, edgesIn};
 use actl::FormulaReply;
 use automaton::BuildReply;
 use automaton::WordReply;
@@ -114,6 +114,20 @@ pub fn build_figure(reply: BuildReply) -> u64
         BuildReply::TableForeign => 0,
         BuildReply::FormulaForeign => 1,
         BuildReply::BufferShort(needed) => needed as u64,
+    }
+}
+
+// The count of edges of a build; what stood there if it was refused.
+pub fn build_edges(reply: BuildReply, before: u64) -> u64
+    ensures { λ r. ⌜ r ≡ edgesIn before (buildReply reply) ⌝ }
+{
+    match reply {
+        BuildReply::Built(_, edges) => edges as u64,
+        BuildReply::RowsShort(_) => before,
+        BuildReply::EdgesShort(_) => before,
+        BuildReply::TableForeign => before,
+        BuildReply::FormulaForeign => before,
+        BuildReply::BufferShort(_) => before,
     }
 }
 
