@@ -4,3 +4,4 @@ pub mod Leads
 pub mod Satisfaction
 pub mod Verdicts
 pub mod Laws
+pub mod Examples
