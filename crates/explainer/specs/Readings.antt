@@ -2,14 +2,18 @@
 use mathlib.Core.Path.{_≡_}
 use mathlib.Core.List.{List}
 use Prim.Native.Nat.{ℕ}
-use Rattle.lts.specs.Reply.{Reply, accepted, refusal}
-use Rattle.lts.specs.Steps.{Table}
+use mathlib.Core.Option.{some}
+use Rattle.lts.specs.Reply.{Reply, accepted, refusal, answers}
+use Rattle.lts.specs.Steps.{Table, labels}
 use Rattle.lts.specs.Reading.{readTable}
-use Rattle.lts.specs.Prepared.{tableBytes}
-use Rattle.actl.specs.Formulas.{Formula}
+use Rattle.lts.specs.Prepared.{tableBytes, preparedTable}
+use Rattle.actl.specs.Formulas.{Formula, classOf}
 use Rattle.actl.specs.Reading.{readFormula}
-use Rattle.actl.specs.Prepared.{formulaBytes}
-use Rattle.explainer.specs.Explanation.{next}
+use Rattle.actl.specs.Prepared.{formulaBytes, preparedFormula}
+use Rattle.automaton.specs.Listing.{Listing, listing}
+use Rattle.automaton.specs.Replies.{fitted}
+use Rattle.explainer.specs.Explanation.{next, Explanation, explainReply, explainReplied, tableLeft, formulaLeft, rowsLeft, edgesLeft}
+use Rattle.explainer.specs.declared.ExplainReply.{ExplainReply}
 use Rattle.explainer.specs.declared.readings.Readiness.{Readiness}
 use Rattle.explainer.specs.declared.readings.Readiness.the-variants.{Ready, Refused}
 
@@ -27,3 +31,25 @@ ReadBoth (accepted x) Ready table formula = (table ≡ tableBytes (x .table)) ×
 ReadBoth (accepted x) (Refused number figure) table formula = ⊥
 ReadBoth (refusal n g) Ready table formula = ⊥
 ReadBoth (refusal n g) (Refused number figure) table formula = (number ≡ n) × (figure ≡ g)
+
+-- Bytes that hold what was read.
+pub record Held (table formula : List ℕ) (x : Read) : Type 0 where
+  pub is-table : preparedTable table ≡ some (x .table)
+  pub is-formula : preparedFormula (labels (x .table)) formula ≡ some (x .formula)
+  pub table-bytes : table ≡ tableBytes (x .table)
+  pub formula-bytes : formula ≡ formulaBytes (x .formula)
+
+abbrev pub ClassIn : List ℕ → ℕ → Type 0
+ClassIn b r = (n : ℕ) (F : Formula) → preparedFormula n b ≡ some F → r ≡ classOf F
+
+-- What was read with its listing, if the lent places suffice.
+abbrev pub listed : Read → List ℕ → List ℕ → Reply Explanation
+listed x rows edges = answers (λ L. record { table = x .table; formula = x .formula; list = L }) (fitted (listing (x .table) (x .formula)) rows edges)
+
+-- The reply, and each lent buffer before and after, as an explanation says.
+pub record Said (e : Reply Explanation) (r : ExplainReply) (table table′ formula formula′ rows rows′ edges edges′ : List ℕ) : Type 0 where
+  pub reply : explainReply r ≡ explainReplied e
+  pub table-left : table′ ≡ tableLeft e table
+  pub formula-left : formula′ ≡ formulaLeft e formula
+  pub rows-left : rows′ ≡ rowsLeft e rows
+  pub edges-left : edges′ ≡ edgesLeft e edges

@@ -1,0 +1,49 @@
+// From the prepared bytes that both readings left to the rows, the edges and the answer.
+ghost use mathlib.Core.Path.{_≡_};
+ghost use Prim.Native.Nat.{_≤_};
+ghost use lib.ListN.{length};
+ghost use Rattle.explainer.specs.Readings.{Read, Held, Said, listed, ClassIn};
+use crate::ExplainReply;
+use crate::interface::build_edges;
+use crate::interface::build_figure;
+use crate::interface::build_number;
+use crate::interface::verdict_figure;
+use actl::walk::shape_of;
+use automaton::build;
+use bytes::copy;
+use labelling::verdict;
+
+fn wide(class: u8) -> u64
+    ensures { λ r. ⌜ r ≡ class ⌝ }
+{
+    class as u64
+}
+
+// The class of a prepared formula.
+fn class_of(formula: &[u8]) -> u64
+    requires { ⌜ 681 ≤ length (now formula) ⌝ }
+    ensures { λ r. ⌜ ClassIn (now (formula .entry)) r ⌝ }
+{
+    let shape = shape_of(formula);
+    let classes = shape.classes;
+    wide(classes[0])
+}
+
+// Builds, and hands the prepared bytes over if nothing was refused.
+pub fn finish(t: &[u8], f: &[u8], table: &mut [u8], formula: &mut [u8], rows: &mut [u8], edges: &mut [u8]) -> ExplainReply
+    requires { ⌜ (length (now t) ≡ 3718) × (length (now f) ≡ 681) ⌝ }
+    requires { ⌜ (3718 ≤ length (now table)) × (681 ≤ length (now formula)) ⌝ }
+    ensures { λ r. ⌜ ((x : Read) → Held (now (t .entry)) (now (f .entry)) x → Said (listed x (now (rows .entry)) (now (edges .entry))) r (now (table .entry)) (now (table .exit)) (now (formula .entry)) (now (formula .exit)) (now (rows .entry)) (now (rows .exit)) (now (edges .entry)) (now (edges .exit))) ⌝ }
+{
+    let built = build(t, f, rows, edges);
+    let number = build_number(built);
+    let count = build_figure(built);
+    if number != 0 {
+        return ExplainReply::Refused(number, count);
+    }
+    let holds = verdict_figure(verdict(t, f));
+    let class = class_of(f);
+    copy(t, table);
+    copy(f, formula);
+    ExplainReply::Explained(holds, class, count, build_edges(built, 0))
+}
