@@ -7,3 +7,4 @@ pub mod Printed
 pub mod BenchSheet
 pub mod Interface
 pub mod Readings
+pub mod Promise

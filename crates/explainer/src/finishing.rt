@@ -30,7 +30,14 @@ fn class_of(formula: &[u8]) -> u64
 }
 
 // Builds, and hands the prepared bytes over if nothing was refused.
-pub fn finish(t: &[u8], f: &[u8], table: &mut [u8], formula: &mut [u8], rows: &mut [u8], edges: &mut [u8]) -> ExplainReply
+pub fn finish(
+    t: &[u8],
+    f: &[u8],
+    table: &mut [u8],
+    formula: &mut [u8],
+    rows: &mut [u8],
+    edges: &mut [u8],
+) -> ExplainReply
     requires { ⌜ (length (now t) ≡ 3718) × (length (now f) ≡ 681) ⌝ }
     requires { ⌜ (3718 ≤ length (now table)) × (681 ≤ length (now formula)) ⌝ }
     ensures { λ r. ⌜ ((x : Read) → Held (now (t .entry)) (now (f .entry)) x → Said (listed x (now (rows .entry)) (now (edges .entry))) r (now (table .entry)) (now (table .exit)) (now (formula .entry)) (now (formula .exit)) (now (rows .entry)) (now (rows .exit)) (now (edges .entry)) (now (edges .exit))) ⌝ }

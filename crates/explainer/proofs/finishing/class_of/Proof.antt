@@ -10,7 +10,6 @@ use Rattle.actl.specs.Formulas.{classOf}
 use Rattle.actl.proofs.Nodes.{size-pos}
 use Rattle.explainer.proofs.Ending.{first-node}
 
-
 shape-of-requires : tie.Need-shape-of-requires
 shape-of-requires c κs = search needs
 

@@ -1,0 +1,99 @@
+-- The promise of `explain`, for each way that it returns.
+use mathlib.Core.Path.{_≡_, refl, sym, ap, _∙_, subst, subst₃}
+use mathlib.Core.Bool.{Bool, true, false}
+use mathlib.Core.List.{List}
+use mathlib.Core.Option.{some}
+use Prim.Native.Nat.{ℕ, _≤_, _<_}
+use native.Mathlib.Omega.{arith}
+use lib.Dec.{leb}
+use lib.ListN.{length}
+use borrow.Author.Tests.{le-leb, lt-leb}
+use Rattle.lts.specs.Reply.{Reply, accepted, refusal, unless, answers}
+use Rattle.lts.specs.Steps.{labels}
+use Rattle.lts.specs.Prepared.{tableLength, tableBytes, preparedTable}
+use Rattle.actl.specs.Prepared.{formulaLength, formulaBytes, preparedFormula}
+use Rattle.actl.specs.Replies.{longEnough}
+use Rattle.automaton.specs.Replies.{Counts}
+use Rattle.explainer.specs.Explained.{FromTexts}
+use Rattle.explainer.specs.Explanation.{Explanation, next, countsOf, explainReply, explainReplied, rowsLeft, edgesLeft, explanation, explaining}
+use Rattle.explainer.specs.Readings.{Read, readings, ReadBoth, Held, listed, Said}
+use Rattle.explainer.specs.Promise.{Promise}
+use Rattle.explainer.specs.declared.ExplainReply.{ExplainReply}
+use Rattle.explainer.specs.declared.ExplainReply.the-variants as replies
+use Rattle.explainer.specs.declared.readings.Readiness.the-variants.{Ready, Refused}
+use Rattle.explainer.proofs.BothTexts.{enough}
+use Rattle.explainer.proofs.Explaining.{explanation-of-readings, readings-prepared}
+use Rattle.explainer.proofs.Explained.{explain-explains}
+
+stopped : {A : Type 0} (b : Bool) (n f : ℕ) (r : Reply A) → b ≡ false → unless b n f r ≡ refusal n f
+stopped true n f r e = absurd (let z : _≡_ {A = ℕ} 0 1 = cc in omega arith)
+stopped false n f r e = refl
+
+-- What was read, out of what `read_both` said.
+pub record WasRead (tableText formulaText t f : List ℕ) : Type 0 where
+  pub both : Read
+  pub read : readings tableText formulaText ≡ accepted both
+  pub held : Held t f both
+
+module _ (tableText formulaText t f : List ℕ) where
+  pub was-read : ReadBoth (readings tableText formulaText) Ready t f → WasRead tableText formulaText t f
+  was-read h = by (readings tableText formulaText) refl h
+    where
+      by : (r : Reply Read) → readings tableText formulaText ≡ r → ReadBoth r Ready t f → WasRead tableText formulaText t f
+      by (refusal n g) e z = absurd z
+      by (accepted x) e (a, b) =
+          let p = readings-prepared tableText formulaText x e in
+          record {
+            both = x;
+            read = e;
+            held = record { is-table = ap preparedTable a ∙ p .is-table; is-formula = ap (preparedFormula (labels (x .table))) b ∙ p .is-formula; table-bytes = a; formula-bytes = b };
+          }
+
+  pub was-refused : (n g : ℕ) → ReadBoth (readings tableText formulaText) (Refused n g) t f → readings tableText formulaText ≡ refusal n g
+  was-refused n g h = by (readings tableText formulaText) h
+    where
+      by : (r : Reply Read) → ReadBoth r (Refused n g) t f → r ≡ refusal n g
+      by (accepted x) z = absurd z
+      by (refusal m k) (a, b) = λ i. refusal (sym a i) (sym b i)
+
+module _ (tableText formulaText table formula rows edges : List ℕ) where
+  abbrev E : Reply Explanation
+  E = explaining tableText formulaText table formula rows edges
+
+  pub promised : (r : ExplainReply) (table′ formula′ rows′ edges′ : List ℕ) → Said E r table table′ formula formula′ rows rows′ edges edges′
+      → Promise tableText formulaText table table′ formula formula′ rows rows′ edges edges′ r
+  promised r table′ formula′ rows′ edges′ s = record {
+    said = s;
+    runs = subst₃ (FromTexts tableText formulaText) (ap (answers countsOf) (sym (s .reply))) (sym (s .rows-left)) (sym (s .edges-left)) (explain-explains tableText formulaText table formula rows edges);
+  }
+
+  refusal-said : (n g : ℕ) (e : Reply Explanation) → e ≡ refusal n g → Said e (replies.Refused n g) table table formula formula rows rows edges edges
+  refusal-said n g e z = subst (λ (y : Reply Explanation). Said y (replies.Refused n g) table table formula formula rows rows edges edges) (sym z)
+      (record { reply = refl; table-left = refl; formula-left = refl; rows-left = refl; edges-left = refl })
+
+  pub promised-refusal : (n g : ℕ) → E ≡ refusal n g → Promise tableText formulaText table table formula formula rows rows edges edges (replies.Refused n g)
+  promised-refusal n g z = promised (replies.Refused n g) table formula rows edges (refusal-said n g E z)
+
+  pub short-table : length table < tableLength → E ≡ refusal 14 tableLength
+  unfolding explaining
+  short-table h = stopped (leb tableLength (length table)) 14 tableLength _ (lt-leb tableLength (length table) h)
+
+  pub short-formula : tableLength ≤ length table → length formula < formulaLength → E ≡ refusal 14 formulaLength
+  unfolding explaining
+  short-formula g h =
+      enough (leb tableLength (length table)) 14 tableLength _ (le-leb tableLength (length table) g)
+      ∙ stopped (leb formulaLength (length formula)) 14 formulaLength _ (lt-leb formulaLength (length formula) h)
+
+  pub long-enough : tableLength ≤ length table → formulaLength ≤ length formula → E ≡ next (readings tableText formulaText) (λ x. listed x rows edges)
+  unfolding explaining
+  long-enough g h =
+      enough (leb tableLength (length table)) 14 tableLength _ (le-leb tableLength (length table) g)
+      ∙ enough (leb formulaLength (length formula)) 14 formulaLength _ (le-leb formulaLength (length formula) h)
+      ∙ explanation-of-readings tableText formulaText rows edges
+
+  pub promised-listing : tableLength ≤ length table → formulaLength ≤ length formula → (x : Read) → readings tableText formulaText ≡ accepted x
+      → (r : ExplainReply) (table′ formula′ rows′ edges′ : List ℕ) → Said (listed x rows edges) r table table′ formula formula′ rows rows′ edges edges′
+      → Promise tableText formulaText table table′ formula formula′ rows rows′ edges edges′ r
+  promised-listing g h x e r table′ formula′ rows′ edges′ s =
+      promised r table′ formula′ rows′ edges′
+      (subst (λ (y : Reply Explanation). Said y r table table′ formula formula′ rows rows′ edges edges′) (sym (long-enough g h ∙ ap (λ y. next y (λ x. listed x rows edges)) e)) s)
