@@ -1,17 +1,5 @@
-pub mod Paths
-pub mod Witnesses
-pub mod Explains
-pub mod Places
-pub mod Positions
-pub mod Listing
-pub mod Targets
-pub mod Listed
-pub mod Words
-pub mod Bytes
 pub mod Replies
-pub mod Reached
 pub mod Hops
-pub mod Masks
 pub mod Stepped
 pub mod Slots
 pub mod Searched

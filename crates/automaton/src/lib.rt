@@ -1,14 +1,11 @@
-// The automaton of all finite witnesses or counterexamples: building its rows and edges, and asking for a word.
+// Building the rows and edges of the automaton.
 use labelling::formula_prepared;
 use lts::check::is_prepared;
 
 mod building;
 mod hops;
-mod masks;
 mod slots;
 mod steps;
-pub mod targets;
-pub mod words;
 
 ghost use mathlib.Core.Path.{_≡_};
 ghost use Rattle.automaton.specs.Replies.{buildReply, buildReplied, rowsLeft, edgesLeft};
@@ -18,16 +15,6 @@ pub enum BuildReply {
     Built(usize, usize),
     RowsShort(usize),
     EdgesShort(usize),
-    TableForeign,
-    FormulaForeign,
-    BufferShort(usize),
-}
-
-// What `accepts` answers. specs/Replies.antt lists the number and the figure of each case.
-pub enum WordReply {
-    Accepted,
-    NotAccepted,
-    WordBad(usize),
     TableForeign,
     FormulaForeign,
     BufferShort(usize),

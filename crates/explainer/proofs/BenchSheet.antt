@@ -24,13 +24,13 @@ use Rattle.actl.specs.Reading.{readFormula}
 use Rattle.labelling.specs.Holds.{holds, within}
 use Rattle.labelling.specs.Satisfaction.{Sat}
 use Rattle.labelling.proofs.Satisfaction.{holds-is-satisfaction}
-use Rattle.automaton.specs.Positions.{Position, rootAt, Walk}
-use Rattle.automaton.specs.Explains.{Explains}
-use Rattle.automaton.specs.Listing.{finalOf, final, leadsOf, leads, targets, canFinish, numberOf, same, movesTo, movesOn, movesFrom, visit, visits, expand, search, positions, movesUpto, Listing, listing}
-use Rattle.automaton.specs.Listed.{placed}
-use Rattle.automaton.specs.Words.{Accepts}
-use Rattle.automaton.proofs.Explains.{explains-is-walk}
-use Rattle.automaton.proofs.Reading.{listing-words}
+use Rattle.listing.specs.Positions.{Position, rootAt, Walk}
+use Rattle.listing.specs.Explains.{Explains}
+use Rattle.listing.specs.Listing.{finalOf, final, leadsOf, leads, targets, canFinish, numberOf, same, movesTo, movesOn, movesFrom, visit, visits, expand, search, positions, movesUpto, Listing, listing}
+use Rattle.listing.specs.Listed.{placed}
+use Rattle.listing.specs.Words.{Accepts}
+use Rattle.listing.proofs.Explains.{explains-is-walk}
+use Rattle.listing.proofs.Reading.{listing-words}
 use Rattle.explainer.specs.BenchSheet.{Language, Member, Answer, Says, refused, explained, Line, LastRow, Answers, SaysRightly, IsRight, starred}
 use Rattle.explainer.proofs.Languages.{hasWords, has-words, same-tests}
 

@@ -13,8 +13,8 @@ use Rattle.actl.specs.Prepared.{formulaLength, formulaBytes}
 use Rattle.labelling.specs.Holds as holds
 use Rattle.labelling.specs.Replies.{verdictReply, verdictReplied}
 use Rattle.labelling.specs.declared.VerdictReply.{VerdictReply}
-use Rattle.automaton.specs.Listing.{Listing, listing}
-use Rattle.automaton.specs.Bytes.{rowsBytes, edgesBytes}
+use Rattle.listing.specs.Listing.{Listing, listing}
+use Rattle.listing.specs.Bytes.{rowsBytes, edgesBytes}
 use Rattle.automaton.specs.Replies as built
 use Rattle.automaton.specs.declared.BuildReply.{BuildReply}
 use Rattle.automaton.specs.declared.BuildReply.the-variants as replies

@@ -13,7 +13,7 @@ use Rattle.actl.specs.Actions.{inSet, maskOf, meets, passes}
 use Rattle.actl.specs.Formulas.{classOf, highestWithoutClass}
 use Rattle.actl.specs.Reading.{readFormula}
 use Rattle.labelling.specs.Holds.{holds, within}
-use Rattle.automaton.specs.Listing.{finalOf, final, leadsOf, leads, targets, canFinish, numberOf, movesTo, movesOn, movesFrom, visit, visits, expand, search, positions, movesUpto, listing}
+use Rattle.listing.specs.Listing.{finalOf, final, leadsOf, leads, targets, canFinish, numberOf, movesTo, movesOn, movesFrom, visit, visits, expand, search, positions, movesUpto, listing}
 use Rattle.explainer.specs.Printed.{printed, explainText}
 
 -- 01's listing for `EU[*;ack] T` over table M, number for number.

@@ -23,8 +23,8 @@ use Rattle.actl.specs.Replies as actl
 use Rattle.actl.proofs.Classes.{HasClass}
 use Rattle.actl.proofs.Laws.Accepted.{reading-leaves-form}
 use Rattle.actl.proofs.Laws.Prepared as prepared-formula
-use Rattle.automaton.specs.Listing.{Listing, listing}
-use Rattle.automaton.specs.Bytes.{rowsBytes, edgesBytes}
+use Rattle.listing.specs.Listing.{Listing, listing}
+use Rattle.listing.specs.Bytes.{rowsBytes, edgesBytes}
 use Rattle.automaton.specs.Replies.{Counts, counts, fitted, built, buildReplied, rowsLeft, edgesLeft}
 use Rattle.automaton.proofs.Accepted.{refusal-is-not-accepted, unless-accepted, long-enough-accepted, Prepared, on-prepared-accepted, prepared-in-range, formed-has-class, fitted-accepted}
 use Rattle.explainer.specs.Explained.{RunsTraced, FromTexts, FromPrepared}

@@ -23,7 +23,7 @@ use Rattle.actl.specs.Replies.{onPrepared, withTable, withFormula, longEnough}
 use Rattle.actl.proofs.Laws.Forms.{length-form}
 use Rattle.actl.proofs.Laws.Prepared as formulas
 use Rattle.actl.proofs.Laws.Accepted.{reading-leaves-form}
-use Rattle.automaton.specs.Listing.{Listing, listing}
+use Rattle.listing.specs.Listing.{Listing, listing}
 use Rattle.automaton.specs.Replies.{fitted}
 use Rattle.explainer.specs.Explanation.{Explanation, next, explanation}
 use Rattle.explainer.specs.Readings.{Read, readings}

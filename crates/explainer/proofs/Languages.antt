@@ -11,9 +11,9 @@ use borrow.Author.Tests.{eqb-true, ltb-true, eq-eqb, lt-ltb}
 use Rattle.columns.specs.Bytes.{sameBytes}
 use Rattle.lts.specs.Lists.{consIf, keep, some, every, bind}
 use Rattle.lts.proofs.Lists.{and-true-of, and-true-to, or-true-of, or-true-left, or-true-right, keep-of, keep-to, some-of, some-to, every-of, map-of, map-to}
-use Rattle.automaton.specs.Listing.{Listing, Edge}
-use Rattle.automaton.specs.Listed.{IsRow, rowAt}
-use Rattle.automaton.specs.Words.{Reads, ends, reads, Accepts}
+use Rattle.listing.specs.Listing.{Listing, Edge}
+use Rattle.listing.specs.Listed.{IsRow, rowAt}
+use Rattle.listing.specs.Words.{Reads, ends, reads, Accepts}
 use Rattle.explainer.specs.BenchSheet.{Language, Member}
 
 -- Equal tests are equal lists.

@@ -8,12 +8,12 @@ use native.Mathlib.Decide.{decLe}
 use native.Mathlib.Omega.{arith}
 use Rattle.lts.specs.Steps.{Step, Table}
 use Rattle.actl.specs.Formulas.{Formula}
-use Rattle.automaton.specs.Places.{Final}
-use Rattle.automaton.specs.Positions.{Position, at, rootAt, Joins, Reached, begin, onward, stop, CanFinish}
-use Rattle.automaton.specs.Listing.{Edge, Listing}
-use Rattle.automaton.specs.Listed.{rowAt, placed, IsRow, Listed}
-use Rattle.automaton.proofs.Finishing.{step-finishes}
-use Rattle.automaton.proofs.Reading.{RowFor, row-for, edge-listed}
+use Rattle.listing.specs.Places.{Final}
+use Rattle.listing.specs.Positions.{Position, at, rootAt, Joins, Reached, begin, onward, stop, CanFinish}
+use Rattle.listing.specs.Listing.{Edge, Listing}
+use Rattle.listing.specs.Listed.{rowAt, placed, IsRow, Listed}
+use Rattle.listing.proofs.Finishing.{step-finishes}
+use Rattle.listing.proofs.Reading.{RowFor, row-for, edge-listed}
 use Rattle.explainer.specs.Positions.{PositionsTrace}
 
 -- 01's tracing, by the rows and edges of a listing instead of their bytes.

@@ -11,10 +11,10 @@ use Rattle.actl.specs.Actions.{Mask, inSet, Cond, meets, passes}
 use Rattle.actl.specs.Formulas.{Formula, tru, not, or, ex, ax, eu, euThen, isT, classOf, At, root}
 use Rattle.actl.proofs.Classes.{class-types, HasClass}
 use Rattle.labelling.specs.Runs.{Run}
-use Rattle.automaton.specs.Places.{Final, Leads}
-use Rattle.automaton.specs.Positions.{Position, at, rootAt, Joins}
-use Rattle.automaton.proofs.Frames.{Frame, Until, now, later, Shows, Breaks}
-use Rattle.automaton.proofs.Acceptance.{Accepting, halt, move, shown-is-accepting, broken-is-accepting}
+use Rattle.listing.specs.Places.{Final, Leads}
+use Rattle.listing.specs.Positions.{Position, at, rootAt, Joins}
+use Rattle.listing.proofs.Frames.{Frame, Until, now, later, Shows, Breaks}
+use Rattle.listing.proofs.Acceptance.{Accepting, halt, move, shown-is-accepting, broken-is-accepting}
 use Rattle.explainer.specs.Shown.{PassesFrom, Shown, Broken, Decides}
 use Rattle.explainer.specs.Positions.{PositionsTrace}
 

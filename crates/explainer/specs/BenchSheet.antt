@@ -15,10 +15,10 @@ use Rattle.lts.specs.Reading.{readTable}
 use Rattle.actl.specs.Formulas.{Formula, classOf}
 use Rattle.actl.specs.Reading.{readFormula}
 use Rattle.labelling.specs.Satisfaction.{Sat}
-use Rattle.automaton.specs.Positions.{Position, at}
-use Rattle.automaton.specs.Explains.{Explains}
-use Rattle.automaton.specs.Listing.{Listing, listing}
-use Rattle.automaton.specs.Listed.{placed}
+use Rattle.listing.specs.Positions.{Position, at}
+use Rattle.listing.specs.Explains.{Explains}
+use Rattle.listing.specs.Listing.{Listing, listing}
+use Rattle.listing.specs.Listed.{placed}
 
 -- A set of words: those listed, and the words of one or more of each letter in `repeated`.
 pub record Language : Type 0 where

@@ -11,8 +11,8 @@ use Rattle.actl.specs.Reading.{readFormula}
 use Rattle.actl.specs.Prepared.{formulaBytes}
 use Rattle.actl.specs.Replies.{longEnough}
 use Rattle.labelling.specs.Holds.{verdict}
-use Rattle.automaton.specs.Listing.{Listing, listing}
-use Rattle.automaton.specs.Bytes.{rowsBytes, edgesBytes}
+use Rattle.listing.specs.Listing.{Listing, listing}
+use Rattle.listing.specs.Bytes.{rowsBytes, edgesBytes}
 use Rattle.automaton.specs.Replies.{Counts, fitted}
 use Rattle.explainer.specs.declared.ExplainReply.{ExplainReply}
 use Rattle.explainer.specs.declared.ExplainReply.the-variants.{Explained, Refused}

@@ -3,8 +3,8 @@ use mathlib.Core.Path.{_≡_}
 use Prim.Native.Nat.{ℕ, suc, _≤_, _<_}
 use Rattle.lts.specs.Steps.{Step, Table}
 use Rattle.actl.specs.Formulas.{Formula}
-use Rattle.automaton.specs.Places.{Final}
-use Rattle.automaton.specs.Positions.{Position, rootAt, Joins}
+use Rattle.listing.specs.Places.{Final}
+use Rattle.listing.specs.Positions.{Position, rootAt, Joins}
 
 pub record PositionsTrace (t : Table) (F : Formula) (r : ℕ → Step) (n : ℕ) : Type 0 where
   pub position : ℕ → Position

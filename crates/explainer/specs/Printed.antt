@@ -8,8 +8,8 @@ use lib.ListN.{length, getD, replicate}
 use Rattle.columns.specs.Columns.{numbersLine}
 use Rattle.lts.specs.Lists.{upFrom, bind}
 use Rattle.lts.specs.Reply.{Reply, accepted, refusal, overwritten}
-use Rattle.automaton.specs.Listing.{Row, Edge, Listing}
-use Rattle.automaton.specs.Bytes.{rowLength, edgeLength, bitOf}
+use Rattle.listing.specs.Listing.{Row, Edge, Listing}
+use Rattle.listing.specs.Bytes.{rowLength, edgeLength, bitOf}
 use Rattle.explainer.specs.Traces.{edgeIn}
 use Rattle.explainer.specs.Explanation.{Summary, Explanation, summary, explanation}
 

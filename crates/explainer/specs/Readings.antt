@@ -10,7 +10,7 @@ use Rattle.lts.specs.Prepared.{tableBytes, preparedTable}
 use Rattle.actl.specs.Formulas.{Formula, classOf}
 use Rattle.actl.specs.Reading.{readFormula}
 use Rattle.actl.specs.Prepared.{formulaBytes, preparedFormula}
-use Rattle.automaton.specs.Listing.{Listing, listing}
+use Rattle.listing.specs.Listing.{Listing, listing}
 use Rattle.automaton.specs.Replies.{fitted}
 use Rattle.explainer.specs.Explanation.{next, Explanation, explainReply, explainReplied, tableLeft, formulaLeft, rowsLeft, edgesLeft}
 use Rattle.explainer.specs.declared.ExplainReply.{ExplainReply}

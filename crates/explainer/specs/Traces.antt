@@ -4,7 +4,7 @@ use mathlib.Core.List.{List}
 use Prim.Native.Nat.{ℕ, suc, _+_, _*_, _≤_, _<_}
 use lib.ListN.{getD}
 use Rattle.lts.specs.Steps.{Step}
-use Rattle.automaton.specs.Listing.{Edge}
+use Rattle.listing.specs.Listing.{Edge}
 use Rattle.automaton.specs.Replies.{Counts}
 
 -- What stands in the lent places: row i's state and final mark, edge j.

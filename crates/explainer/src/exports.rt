@@ -3,7 +3,8 @@ ghost use mathlib.Core.Path.{_≡_};
 ghost use Rattle.lts.specs.Replies.{tableReplied, tableLeft};
 ghost use Rattle.actl.specs.Replies.{formulaReplied, formulaLeft};
 ghost use Rattle.labelling.specs.Replies.{verdictReplied};
-ghost use Rattle.automaton.specs.Replies.{buildReplied, rowsLeft, edgesLeft, wordReplied};
+ghost use Rattle.automaton.specs.Replies.{buildReplied, rowsLeft, edgesLeft};
+ghost use Rattle.words.specs.Replies.{wordReplied};
 ghost use Rattle.explainer.specs.Interface.{numberIn, figureIn, edgesIn};
 use crate::interface::build_edges;
 use crate::interface::build_figure;
@@ -18,9 +19,9 @@ use crate::interface::word_figure;
 use crate::interface::word_number;
 use actl::read_formula;
 use automaton::build;
-use automaton::words::accepts;
 use labelling::verdict;
 use lts::reading::read_table;
+use words::accepts;
 
 #[no_mangle]
 pub extern "C" fn explainer_read_table(text: &[u8], table: &mut [u8], figure: &mut u64) -> u32

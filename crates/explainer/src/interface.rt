@@ -3,13 +3,14 @@ ghost use mathlib.Core.Path.{_≡_};
 ghost use Rattle.lts.specs.Replies.{tableReply};
 ghost use Rattle.actl.specs.Replies.{formulaReply};
 ghost use Rattle.labelling.specs.Replies.{verdictReply};
-ghost use Rattle.automaton.specs.Replies.{buildReply, wordReply};
+ghost use Rattle.automaton.specs.Replies.{buildReply};
+ghost use Rattle.words.specs.Replies.{wordReply};
 ghost use Rattle.explainer.specs.Interface.{numberIn, figureIn, edgesIn};
 use actl::FormulaReply;
 use automaton::BuildReply;
-use automaton::WordReply;
 use labelling::VerdictReply;
 use lts::TableReply;
+use words::WordReply;
 
 pub fn table_number(reply: TableReply) -> u32
     ensures { λ r. ⌜ r ≡ numberIn (tableReply reply) ⌝ }

@@ -12,8 +12,8 @@ use Rattle.lts.specs.Access.{isSome}
 use Rattle.actl.specs.Formulas.{Formula}
 use Rattle.actl.specs.Prepared.{formulaLength, preparedFormula}
 use Rattle.labelling.proofs.Laws.Entries.{table-short, formula-short, table-foreign, formula-foreign, both-prepared}
-use Rattle.automaton.specs.Listing.{Listing, listing}
-use Rattle.automaton.specs.Bytes.{rowsBytes, edgesBytes}
+use Rattle.listing.specs.Listing.{Listing, listing}
+use Rattle.listing.specs.Bytes.{rowsBytes, edgesBytes}
 use Rattle.automaton.specs.Replies.{Counts, counts, fitted, built, buildReply, buildReplied, rowsLeft, edgesLeft}
 use Rattle.automaton.specs.Searched.{LaidOut}
 use Rattle.automaton.specs.declared.BuildReply.{BuildReply}

@@ -5,7 +5,7 @@ use Rattle.explainer.proofs.exports.explainer_accepts.Reads as reads
 use Rattle.explainer.proofs.exports.explainer_accepts.Lts as lts
 use Rattle.explainer.proofs.interface.word_figure.Reads as word-figure-reads
 use Rattle.explainer.proofs.interface.word_number.Reads as word-number-reads
-use Rattle.automaton.proofs.words.accepts.Reads as accepts-reads
+use Rattle.words.proofs.accepts.Reads as accepts-reads
 use mathlib.Core.Path.{ap, _∙_}
 use Rattle.explainer.specs.Interface.{numberIn, figureIn}
 

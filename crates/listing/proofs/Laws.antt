@@ -1,0 +1,3 @@
+-- Laws that the proofs of functions cite, by topic.
+pub mod MasksFound
+pub mod Places

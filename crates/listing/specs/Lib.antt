@@ -1,0 +1,10 @@
+pub mod Paths
+pub mod Witnesses
+pub mod Explains
+pub mod Places
+pub mod Positions
+pub mod Listing
+pub mod Listed
+pub mod Words
+pub mod Bytes
+pub mod Masks

@@ -1,0 +1,170 @@
+-- Loops over letters, places, steps and states, by what is left: a turn takes one away.
+use mathlib.Core.Path.{_≡_, refl, sym, ap, _∙_, subst}
+use mathlib.Core.Bool.{Bool, true, false, cond, _||_}
+use mathlib.Core.List.{List, [], _∷_}
+use mathlib.Core.Option.{Option, none, some}
+use Prim.Native.Nat.{ℕ, zero, suc, _+_, _-_, _≤_, _<_}
+use native.Mathlib.Numerals.{add-one}
+use native.Mathlib.Omega.{arith}
+use lib.Bits.{bitOr}
+use lib.Dec.{eqb, ltb}
+use lib.ListN.{length, getD, set, drop, length-drop}
+use lib.Seq.{drop-cons, slice, slice-cons, slice-empty}
+use borrow.Author.Tests.{lt-ltb, le-ltb, ltb-false, eq-eqb, ne-eqb}
+use Rattle.lts.specs.Lists.{upFrom, some as any}
+use Rattle.lts.specs.Steps.{Step, Table, stepsFrom}
+use Rattle.words.specs.Replies.{badFrom, badLetter}
+use Rattle.words.specs.Reached.{placesAt, targetsAdded, targetsOf, stepTaken, stepsTaken, stateRead, statesRead, letterRead, wordRead, Letters}
+
+over : (w : List ℕ) (i : ℕ) → length w ≤ i → drop i w ≡ []
+over w i h = empty (drop i w) (omega (arith, length-drop i w))
+  where
+    empty : (l : List ℕ) → length l ≡ 0 → l ≡ []
+    empty [] e = refl
+    empty (x ∷ l) e = absurd (omega arith)
+
+-- Letters that are not checked yet.
+abbrev pub badLeft : ℕ → List ℕ → ℕ → Option ℕ
+badLeft labels w i = badFrom (1024 - i) i labels (drop i w)
+
+module _ (labels : ℕ) (w : List ℕ) (i : ℕ) where
+  pub bad-over : length w ≤ i → badLeft labels w i ≡ none
+  bad-over h = ap (badFrom (1024 - i) i labels) (over w i h)
+
+  pub bad-full : i ≡ 1024 → i < length w → badLeft labels w i ≡ some 1024
+  bad-full e h =
+      let none-left : 1024 - i ≡ 0 = omega arith in
+      ap (badFrom (1024 - i) i labels) (drop-cons w i 0 h) ∙ (ap (λ n. badFrom n i labels (getD w i 0 ∷ drop (suc i) w)) none-left ∙ ap some e)
+
+  next-letter : i < 1024 → i < length w → badLeft labels w i ≡ cond (ltb labels (getD w i 0)) (some i) (badFrom (1024 - (i + 1)) (suc i) labels (drop (suc i) w))
+  next-letter few h =
+      let more : 1024 - i ≡ suc (1024 - (i + 1)) = omega arith in
+      ap (badFrom (1024 - i) i labels) (drop-cons w i 0 h) ∙ ap (λ n. badFrom n i labels (getD w i 0 ∷ drop (suc i) w)) more
+
+  pub bad-here : i < 1024 → i < length w → labels < getD w i 0 → badLeft labels w i ≡ some i
+  bad-here few h l =
+      next-letter few h ∙ ap (λ b. cond b (some i) (badFrom (1024 - (i + 1)) (suc i) labels (drop (suc i) w))) (lt-ltb labels (getD w i 0) l)
+
+  pub bad-later : i < 1024 → i < length w → getD w i 0 ≤ labels → badLeft labels w i ≡ badLeft labels w (i + 1)
+  bad-later few h l =
+      next-letter few h ∙ (ap (λ b. cond b (some i) (badFrom (1024 - (i + 1)) (suc i) labels (drop (suc i) w))) (le-ltb labels (getD w i 0) l)
+      ∙ ap (λ j. badFrom (1024 - (i + 1)) j labels (drop j w)) (sym (add-one i)))
+
+-- A word without a bad letter has only letters of the table.
+none-bad : (n i labels : ℕ) (w : List ℕ) → badFrom n i labels w ≡ none → (j : ℕ) → j < length w → getD w j 0 ≤ labels
+none-bad n i labels [] e j h = absurd (omega arith)
+none-bad zero i labels (l ∷ w) e j h = let z : _≡_ {A = ℕ} 0 1 = cc in absurd (omega arith)
+none-bad (suc n) i labels (l ∷ w) e j h = case (ltb labels l) refl e j h (none-bad n (suc i) labels w)
+  where
+    case : (b : Bool) → ltb labels l ≡ b → cond b (some i) (badFrom n (suc i) labels w) ≡ none → (j : ℕ) → j < suc (length w)
+        → (badFrom n (suc i) labels w ≡ none → (j : ℕ) → j < length w → getD w j 0 ≤ labels) → getD (l ∷ w) j 0 ≤ labels
+    case true d e j h more = let z : _≡_ {A = ℕ} 0 1 = cc in absurd (omega arith)
+    case false d e zero h more = ltb-false labels l d
+    case false d e (suc j) h more = more e j (omega arith)
+
+pub letters-few : (labels : ℕ) (w : List ℕ) → labels ≤ 40 → badLetter labels w ≡ none → Letters w
+unfolding badLetter
+letters-few labels w h e = record { few = λ i l. omega (arith, none-bad 1024 0 labels w e i l) }
+
+-- Places whose targets are not added yet.
+pub targets-next : (masks : List ℕ) (places l k found : ℕ) → k < 41
+    → targetsOf masks places l (41 - k) k found ≡ targetsOf masks places l (41 - (k + 1)) (k + 1) (targetsAdded masks places l k found)
+unfolding targetsOf
+targets-next masks places l k found h =
+    let more : 41 - k ≡ suc (41 - (k + 1)) = omega arith in
+    ap (λ n. targetsOf masks places l n k found) more ∙ ap (λ j. targetsOf masks places l (41 - (k + 1)) j (targetsAdded masks places l k found)) (sym (add-one k))
+
+pub targets-over : (masks : List ℕ) (places l k found : ℕ) → 41 ≤ k → targetsOf masks places l (41 - k) k found ≡ found
+unfolding targetsOf
+targets-over masks places l k found h = let none-left : 41 - k ≡ 0 = omega arith in ap (λ n. targetsOf masks places l n k found) none-left
+
+-- A step with the label, and one without.
+module _ (l places : ℕ) (st : Step) (next : List ℕ) where
+  pub step-taken : st .label ≡ l → set next (st .to) (bitOr (placesAt next (st .to)) places) ≡ stepTaken l places st next
+  step-taken e = sym (ap (λ b. cond b (set next (st .to) (bitOr (placesAt next (st .to)) places)) next) (eq-eqb (st .label) l e))
+
+  pub step-not-taken : (st .label ≡ l → ⊥) → next ≡ stepTaken l places st next
+  step-not-taken e = sym (ap (λ b. cond b (set next (st .to) (bitOr (placesAt next (st .to)) places)) next) (ne-eqb (st .label) l e))
+
+pub steps-one : (l places : ℕ) (st : Step) (next : List ℕ) → stepsTaken l places (st ∷ []) next ≡ stepTaken l places st next
+unfolding stepsTaken
+steps-one l places st next = refl
+
+-- Steps that are not taken yet.
+module _ (l places : ℕ) (steps : List Step) (d : Step) (end : ℕ) (few : end ≤ length steps) where
+  pub steps-next : (k : ℕ) (next : List ℕ) → k < end
+      → stepsTaken l places (slice k end steps) next ≡ stepsTaken l places (slice (k + 1) end steps) (stepTaken l places (getD steps k d) next)
+  unfolding stepsTaken
+  steps-next k next h =
+      ap (λ z. stepsTaken l places z next) (slice-cons k end steps d h few)
+      ∙ ap (λ j. stepsTaken l places (slice j end steps) (stepTaken l places (getD steps k d) next)) (sym (add-one k))
+
+  pub steps-over : (k : ℕ) (next : List ℕ) → k ≡ end → stepsTaken l places (slice k end steps) next ≡ next
+  unfolding stepsTaken
+  steps-over k next e = ap (λ j. stepsTaken l places (slice j end steps) next) e ∙ ap (λ z. stepsTaken l places z next) (slice-empty end steps)
+
+-- States that are not read yet.
+module _ (t : Table) (masks reached : List ℕ) (l : ℕ) where
+  abbrev pub statesLeft : ℕ → List ℕ → List ℕ
+  statesLeft s next = statesRead t masks reached l (t .states - s) s next
+
+  pub states-start : (next : List ℕ) → statesRead t masks reached l (t .states) 0 next ≡ statesLeft 0 next
+  states-start next = let same : t .states ≡ t .states - 0 = omega arith in ap (λ n. statesRead t masks reached l n 0 next) same
+
+  pub states-next : (s : ℕ) (next : List ℕ) → s < t .states → statesLeft s next ≡ statesLeft (s + 1) (stateRead t masks (placesAt reached s) l s next)
+  unfolding statesRead
+  states-next s next h =
+      let more : t .states - s ≡ suc (t .states - (s + 1)) = omega arith in
+      ap (λ n. statesRead t masks reached l n s next) more
+      ∙ ap (λ j. statesRead t masks reached l (t .states - (s + 1)) j (stateRead t masks (placesAt reached s) l s next)) (sym (add-one s))
+
+  pub states-over : (s : ℕ) (next : List ℕ) → t .states ≤ s → statesLeft s next ≡ next
+  unfolding statesRead
+  states-over s next h = let none-left : t .states - s ≡ 0 = omega arith in ap (λ n. statesRead t masks reached l n s next) none-left
+
+-- Letters that are not read yet.
+module _ (t : Table) (masks w : List ℕ) (i : ℕ) (reached : List ℕ) where
+  pub word-next : i < length w → wordRead t masks (drop i w) reached ≡ wordRead t masks (drop (i + 1) w) (letterRead t masks (getD w i 0) reached)
+  unfolding wordRead
+  word-next h =
+      ap (λ v. wordRead t masks v reached) (drop-cons w i 0 h) ∙ ap (λ j. wordRead t masks (drop j w) (letterRead t masks (getD w i 0) reached)) (sym (add-one i))
+
+  pub word-over : length w ≤ i → wordRead t masks (drop i w) reached ≡ reached
+  unfolding wordRead
+  word-over h = ap (λ v. wordRead t masks v reached) (over w i h)
+
+-- Numbers that are not tested yet.
+abbrev pub anyLeft : (ℕ → Bool) → ℕ → ℕ → Bool
+anyLeft p n k = any p (upFrom k (n - k))
+
+module _ (p : ℕ → Bool) (n k : ℕ) where
+  next-number : k < n → anyLeft p n k ≡ (p k || any p (upFrom (suc k) (n - (k + 1))))
+  next-number h = let more : n - k ≡ suc (n - (k + 1)) = omega arith in ap (λ m. any p (upFrom k m)) more
+
+  pub any-found : k < n → p k ≡ true → anyLeft p n k ≡ true
+  any-found h e = next-number h ∙ ap (λ b. b || any p (upFrom (suc k) (n - (k + 1)))) e
+
+  pub any-later : k < n → p k ≡ false → anyLeft p n k ≡ anyLeft p n (k + 1)
+  any-later h e =
+      next-number h ∙ (ap (λ b. b || any p (upFrom (suc k) (n - (k + 1)))) e ∙ ap (λ j. any p (upFrom j (n - (k + 1)))) (sym (add-one k)))
+
+  pub any-over : n ≤ k → anyLeft p n k ≡ false
+  any-over h = let none-left : n - k ≡ 0 = omega arith in ap (λ m. any p (upFrom k m)) none-left
+
+pub any-start : (p : ℕ → Bool) (n : ℕ) → any p (upFrom 0 n) ≡ anyLeft p n 0
+any-start p n = let same : n ≡ n - 0 = omega arith in ap (λ m. any p (upFrom 0 m)) same
+
+pub bad-start : (labels : ℕ) (w : List ℕ) → badLetter labels w ≡ badLeft labels w 0
+unfolding badLetter
+bad-start labels w = refl
+
+-- A state with places, and one without.
+module _ (t : Table) (masks : List ℕ) (places l s : ℕ) (next : List ℕ) where
+  abbrev brought : List ℕ
+  brought = stepsTaken l (targetsOf masks places l 41 0 0) (stepsFrom t s) next
+
+  pub state-read : (places ≡ 0 → ⊥) → stepsTaken l (targetsOf masks places l 41 0 0) (stepsFrom t s) next ≡ stateRead t masks places l s next
+  state-read h = sym (ap (λ b. cond b next brought) (ne-eqb places 0 h))
+
+  pub state-empty : places ≡ 0 → next ≡ stateRead t masks places l s next
+  state-empty h = sym (ap (λ b. cond b next brought) (eq-eqb places 0 h))

@@ -1,0 +1,68 @@
+-- `answer` meets its contract: 13, and else what the word's reading says.
+use mathlib.Core.Path.{_≡_, refl, sym, ap, _∙_, subst}
+use Rattle.lts.specs.Reply.{accepted}
+use Rattle.lts.specs.Steps.{labels}
+use Rattle.lts.specs.Prepared.{tableIn}
+use Rattle.lts.specs.Access.{foundIn}
+use Rattle.actl.specs.Reading.{unlessFound}
+use Rattle.listing.specs.Bytes.{bitOf}
+use Rattle.listing.specs.Words.{accepts}
+use Rattle.words.specs.Replies.{badLetter}
+use Rattle.words.proofs.Laws.Left.{letters-few}
+use borrow.Author.Needs.{needs}
+use Rattle.words.proofs.answer.Statement.{statement}
+use Rattle.words.proofs.answer.Tie as tie
+
+-- What the check of the letters found.
+known : (c : tie.After-bad-letter) → badLetter (labels (tableIn (c .before .before .before .before .before .args .table .now))) (c .before .before .before .before .before .args .word .now) ≡ foundIn (c .bad-letter .result)
+known c = sym (c .bad-letter .ensures ∙ ap (λ n. badLetter n (c .before .before .before .before .before .args .word .now)) (c .before .label-count .ensures .count))
+
+label-count-requires : tie.Need-label-count-requires
+label-count-requires c κs = search needs
+
+bad-letter-requires : tie.Need-bad-letter-requires
+bad-letter-requires c κs = search needs
+
+enum-known-bad : tie.Need-enum-known-bad
+enum-known-bad c = search needs
+
+enum-told : tie.Need-enum-told
+enum-told c = search needs
+
+is-accepted-requires : tie.Need-is-accepted-requires
+is-accepted-requires c κs =
+    let start = c .before .before .before .before .before .before .before in
+    (start .pre .0, (start .pre .1, letters-few (labels (tableIn (start .args .table .now))) (start .args .word .now) (start .pre .0 .in-range .few-labels) (known (c .before .before) ∙ ap foundIn (c .enum-told .given .1))))
+
+answer-of-requires : tie.Need-answer-of-requires
+answer-of-requires c κs = search needs
+
+returns : tie.Need-returns
+returns c =
+    let start = c .before .before .before .before .before .before .before .before in
+    let t = tableIn (start .args .table .now) in
+    record { reply = λ F e. sym (ap (λ o. unlessFound o 13 (accepted (bitOf (accepts t F (start .args .word .now))))) (known (c .before .before .before) ∙ ap foundIn (c .before .bad .given .1))) }
+
+returns-2 : tie.Need-returns-2
+returns-2 c =
+    let start = c .before .before .before .before .before .before .before .before .before in
+    let t = tableIn (start .args .table .now) in
+    record {
+      reply = λ F e.
+          c .answer-of .ensures
+          ∙ (ap (λ b. accepted (bitOf b)) (c .before .is-accepted .ensures .answer F e)
+          ∙ sym (ap (λ o. unlessFound o 13 (accepted (bitOf (accepts t F (start .args .word .now))))) (known (c .before .before .before .before) ∙ ap foundIn (c .before .before .enum-told .given .1))));
+    }
+
+pub answer-spec : {M : Type 1} → statement M
+answer-spec =
+    tie.close
+    (tie.spec
+    label-count-requires
+    bad-letter-requires
+    enum-known-bad
+    enum-told
+    is-accepted-requires
+    answer-of-requires
+    returns
+    returns-2)

@@ -1,0 +1,58 @@
+-- `is_accepted` meets its contract: what the word reaches has a final place exactly if the word is accepted.
+use mathlib.Core.Path.{_≡_, refl, sym, ap, _∙_, subst}
+use Rattle.lts.specs.Prepared.{tableIn}
+use Rattle.actl.proofs.Laws.Prepared.{prepared-few}
+use Rattle.labelling.proofs.Laws.Prepared.{formula-long}
+use Rattle.words.specs.Reached.{someFinal}
+use Rattle.words.proofs.Laws.Accepting.{found-as-accepted}
+use borrow.Author.Needs.{needs}
+use Rattle.words.proofs.is_accepted.Statement.{statement}
+use Rattle.words.proofs.is_accepted.Tie as tie
+
+first-exits-requires : tie.Need-first-exits-requires
+first-exits-requires c κs = search needs
+
+shape-of-requires : tie.Need-shape-of-requires
+shape-of-requires c κs = formula-long _ _ (c .before .before .before .before .pre .1 .0)
+
+target-masks-requires : tie.Need-target-masks-requires
+target-masks-requires c κs =
+    let start = c .before .before .before .before .before .before .before in
+    (record { labels = _; holds = start .pre .1 .0 }, record { arms = λ n. record { arms-end = λ F e. c .before .before .shape-of .ensures n F e .ends } })
+
+final-marks-requires : tie.Need-final-marks-requires
+final-marks-requires c κs =
+    let start = c .before .before .before .before .before .before .before .before .before in
+    (record { labels = _; holds = start .pre .1 .0 }, record { arms = λ n. record { arms-end = λ F e. c .before .before .before .before .shape-of .ensures n F e .ends } })
+
+read-word-requires : tie.Need-read-word-requires
+read-word-requires c κs = search needs
+
+some-final-requires : tie.Need-some-final-requires
+some-final-requires c κs = search needs
+
+returns : tie.Need-returns
+returns c =
+    let start = c .before .before .before .before .before .before .before .before .before .before .before .before .before .before .before .before in
+    let t = tableIn (start .args .table .now) in
+    let masks = c .before .before .before .before .before .before .before .before .target-masks in
+    let marks = c .before .before .before .before .before .before .final-marks in
+    let reached = c .before .before .before .read-word in
+    record {
+      answer = λ F e.
+          c .some-final .ensures
+          ∙ (ap (someFinal t (marks .result)) (reached .ensures)
+          ∙ found-as-accepted t (start .pre .0 .in-range) F (prepared-few _ _ e) (masks .result) (masks .ensures .targets _ F e) (marks .result) (marks .ensures .finals _ F e) (start .args .word .now) (start .pre .1 .1));
+    }
+
+pub is-accepted-spec : {M : Type 1} → statement M
+is-accepted-spec =
+    tie.close
+    (tie.spec
+    first-exits-requires
+    shape-of-requires
+    target-masks-requires
+    final-marks-requires
+    read-word-requires
+    some-final-requires
+    returns)

@@ -1,0 +1,49 @@
+-- `some_marked` meets its contract: no place below k is marked.
+use mathlib.Core.Path.{_≡_, refl, sym, ap, _∙_, subst}
+use Prim.Native.Nat.{ℕ, _≤_, _<_, _+_, _-_, _*_}
+use native.Mathlib.Omega.{arith}
+use Rattle.words.specs.Reached.{marked, someMarked}
+use Rattle.words.proofs.Laws.Left.{anyLeft, any-start, any-found, any-later, any-over}
+use Rattle.words.proofs.some_marked.Statement.{statement}
+use Rattle.words.proofs.some_marked.Tie as tie
+
+abbrev Inv-loop : tie.InvT-loop
+Inv-loop marks places k₀ k = (k ≤ 41) × (someMarked marks places ≡ anyLeft (marked marks places) 41 k)
+
+abbrev μ-loop : tie.MeasureT-loop
+μ-loop marks places k₀ k = 41 - k
+
+loop-holds : tie.Need-loop-holds Inv-loop μ-loop
+loop-holds c = (omega arith, any-start (marked (c .args .marks .now) (c .args .places)) 41)
+
+is-marked-requires : tie.Need-is-marked-requires Inv-loop μ-loop
+is-marked-requires c κs = omega (arith, c .loop-test .taken)
+
+returns : tie.Need-returns Inv-loop μ-loop
+returns c = sym (c .before .before .before .loop .inv .1 ∙ any-found _ 41 (c .before .before .before .loop .k) (c .before .before .loop-test .taken) (sym (c .before .is-marked .ensures) ∙ c .if1 .taken))
+
+add-k : tie.Need-add-k Inv-loop μ-loop
+add-k c = omega (arith, c .before .before .loop-test .taken)
+
+loop-less : tie.Need-loop-less Inv-loop μ-loop
+loop-less c = omega (arith, c .before .before .loop-test .taken)
+
+loop-again : tie.Need-loop-again Inv-loop μ-loop
+loop-again c = (omega (arith, c .before .before .loop-test .taken), c .before .before .before .loop .inv .1 ∙ any-later _ 41 (c .before .before .before .loop .k) (c .before .before .loop-test .taken) (sym (c .before .is-marked .ensures) ∙ c .if1 .left))
+
+returns-2 : tie.Need-returns-2 Inv-loop μ-loop
+returns-2 c = sym (c .before .loop .inv .1 ∙ any-over _ 41 (c .before .loop .k) (c .loop-test .left))
+
+pub some-marked-spec : {M : Type 1} → statement M
+some-marked-spec =
+    tie.close
+    (tie.spec
+    Inv-loop
+    μ-loop
+    loop-holds
+    is-marked-requires
+    returns
+    add-k
+    loop-less
+    loop-again
+    returns-2)
