@@ -12,7 +12,7 @@ use second::{bench, fuzz, link, print, program};
 const USAGE: &str = "second explain FOLDER
 second program FILE --seed NUMBER --count NUMBER
 second fuzz --seed NUMBER --count NUMBER
-second bench";
+second bench [ENTRY]";
 
 fn main() -> ExitCode {
     let words: Vec<String> = std::env::args().skip(1).collect();
@@ -33,7 +33,8 @@ fn main() -> ExitCode {
                 _ => usage(),
             }
         }
-        ["bench"] => wrote(bench::run(&link::library(), &mut io::stdout())),
+        ["bench"] => bench(""),
+        ["bench", part] if bench::has(part) => bench(part),
         _ => usage(),
     }
 }
@@ -51,6 +52,10 @@ fn wrote(written: io::Result<()>) -> ExitCode {
             ExitCode::FAILURE
         }
     }
+}
+
+fn bench(part: &str) -> ExitCode {
+    wrote(bench::run(&link::library(), part, &mut io::stdout()))
 }
 
 fn program(file: &Path, seed: u64, count: u64) -> ExitCode {
