@@ -21,7 +21,8 @@ fn main() -> ExitCode {
         ["explain", folder] => {
             wrote(io::stdout().write_all(&print::explain_folder(Path::new(folder))))
         }
-        ["program", file, "--seed", seed, "--count", count] => {
+        ["program", file, "--seed", seed, "--count", count]
+        | ["program", file, "--count", count, "--seed", seed] => {
             match (seed.parse(), count.parse()) {
                 (Ok(seed), Ok(count)) => program(Path::new(file), seed, count),
                 _ => usage(),
