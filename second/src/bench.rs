@@ -121,7 +121,7 @@ const CALLS: [(&str, Call); 6] = [
     ("verdict", verdict),
     ("build", build),
     ("accepts", accepts),
-    ("all but accepts", whole),
+    ("whole", whole),
 ];
 
 fn read_table(of: &Entries, input: &Input, lent: &mut Buffers) -> Option<Reply> {
@@ -146,6 +146,7 @@ fn accepts(of: &Entries, input: &Input, _: &mut Buffers) -> Option<Reply> {
     Some(of.accepts?(&input.table, &input.formula, &input.word))
 }
 
+/// Both readings, the verdict and building.
 fn whole(of: &Entries, input: &Input, lent: &mut Buffers) -> Option<Reply> {
     read_table(of, input, lent)?;
     read_formula(of, input, lent)?;
@@ -153,7 +154,13 @@ fn whole(of: &Entries, input: &Input, lent: &mut Buffers) -> Option<Reply> {
     build(of, input, lent)
 }
 
-pub fn run(library: &Entries, out: &mut impl Write) -> io::Result<()> {
+/// Whether some row's name has this part.
+pub fn has(part: &str) -> bool {
+    CALLS.iter().any(|(entry, _)| entry.contains(part))
+}
+
+/// The rows whose names have this part; all have the empty one.
+pub fn run(library: &Entries, part: &str, out: &mut impl Write) -> io::Result<()> {
     let mut lent = Buffers {
         table: vec![0; TABLE_LENGTH],
         formula: vec![0; FORMULA_LENGTH],
@@ -161,9 +168,9 @@ pub fn run(library: &Entries, out: &mut impl Write) -> io::Result<()> {
         edges: vec![0; 1_000_000 * EDGE_PLACE],
     };
     let head = ["entry", "input", "library", "baseline", "ratio"];
-    writeln!(out, "{:16} {:8} {:>12} {:>12} {:>7}", head[0], head[1], head[2], head[3], head[4])?;
+    writeln!(out, "{:12} {:8} {:>12} {:>12} {:>7}", head[0], head[1], head[2], head[3], head[4])?;
     let inputs = inputs();
-    for (entry, call) in CALLS {
+    for (entry, call) in CALLS.into_iter().filter(|(entry, _)| entry.contains(part)) {
         for input in &inputs {
             let [library, baseline] = time(call, [library, &BASELINE], input, &mut lent);
             let baseline = baseline.expect("the baseline has all entries");
@@ -172,7 +179,7 @@ pub fn run(library: &Entries, out: &mut impl Write) -> io::Result<()> {
                 None => ("-".into(), "-".into()),
             };
             let (size, baseline) = (input.size, in_microseconds(baseline));
-            writeln!(out, "{entry:16} {size:8} {time:>12} {baseline:>12} {ratio:>7}")?;
+            writeln!(out, "{entry:12} {size:8} {time:>12} {baseline:>12} {ratio:>7}")?;
         }
     }
     Ok(())

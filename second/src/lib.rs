@@ -15,6 +15,7 @@ pub mod link;
 pub mod listing;
 pub mod prepared;
 pub mod print;
+pub mod program;
 pub mod reply;
 pub mod run;
 pub mod table;

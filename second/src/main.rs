@@ -1,16 +1,18 @@
 //! The commands of the second explainer.
 
+use std::collections::BTreeMap;
 use std::io::{self, Write};
 use std::path::Path;
 use std::process::ExitCode;
 use std::time::Instant;
 
 use second::entries::SECOND;
-use second::{bench, fuzz, link, print};
+use second::{bench, fuzz, link, print, program};
 
 const USAGE: &str = "second explain FOLDER
+second program FILE --seed NUMBER --count NUMBER
 second fuzz --seed NUMBER --count NUMBER
-second bench";
+second bench [ENTRY]";
 
 fn main() -> ExitCode {
     let words: Vec<String> = std::env::args().skip(1).collect();
@@ -19,13 +21,21 @@ fn main() -> ExitCode {
         ["explain", folder] => {
             wrote(io::stdout().write_all(&print::explain_folder(Path::new(folder))))
         }
+        ["program", file, "--seed", seed, "--count", count]
+        | ["program", file, "--count", count, "--seed", seed] => {
+            match (seed.parse(), count.parse()) {
+                (Ok(seed), Ok(count)) => program(Path::new(file), seed, count),
+                _ => usage(),
+            }
+        }
         ["fuzz", "--seed", seed, "--count", count] | ["fuzz", "--count", count, "--seed", seed] => {
             match (seed.parse(), count.parse()) {
                 (Ok(seed), Ok(count)) => fuzz(seed, count),
                 _ => usage(),
             }
         }
-        ["bench"] => wrote(bench::run(&link::library(), &mut io::stdout())),
+        ["bench"] => bench(""),
+        ["bench", part] if bench::has(part) => bench(part),
         _ => usage(),
     }
 }
@@ -45,19 +55,37 @@ fn wrote(written: io::Result<()>) -> ExitCode {
     }
 }
 
+fn bench(part: &str) -> ExitCode {
+    wrote(bench::run(&link::library(), part, &mut io::stdout()))
+}
+
+fn program(file: &Path, seed: u64, count: u64) -> ExitCode {
+    let Ok(file) = file.canonicalize() else {
+        eprintln!("second: there is no program {}", file.display());
+        return ExitCode::from(2);
+    };
+    let place = std::env::temp_dir().join(format!("second-program-{}", std::process::id()));
+    let begin = Instant::now();
+    match program::run(|folder| program::output_in(&file, folder), &place, seed, count) {
+        Err(told) => {
+            println!("{told}");
+            ExitCode::FAILURE
+        }
+        Ok(numbers) => {
+            let seconds = begin.elapsed().as_secs_f64();
+            println!("program: {count} folders agree, {seconds:.1} s ({})", listed(&numbers));
+            ExitCode::SUCCESS
+        }
+    }
+}
+
 fn fuzz(seed: u64, count: u64) -> ExitCode {
     let mut compared = 0;
     let mut begin = Instant::now();
     let outcome = fuzz::run(&SECOND, &link::library(), seed, count, |agreement| {
         let seconds = begin.elapsed().as_secs_f64();
-        let numbers = agreement.numbers.iter();
-        let numbers: Vec<String> =
-            numbers.map(|(number, times)| format!("{number}: {times}")).collect();
-        println!(
-            "{}: {count} inputs agree, {seconds:.1} s ({})",
-            agreement.entry,
-            numbers.join(", ")
-        );
+        let (entry, numbers) = (agreement.entry, listed(&agreement.numbers));
+        println!("{entry}: {count} inputs agree, {seconds:.1} s ({numbers})");
         compared += 1;
         begin = Instant::now();
     });
@@ -72,4 +100,11 @@ fn fuzz(seed: u64, count: u64) -> ExitCode {
         }
         Ok(()) => ExitCode::SUCCESS,
     }
+}
+
+/// How often each number was answered.
+fn listed(numbers: &BTreeMap<u32, u64>) -> String {
+    let numbers: Vec<String> =
+        numbers.iter().map(|(number, times)| format!("{number}: {times}")).collect();
+    numbers.join(", ")
 }

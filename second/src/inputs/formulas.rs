@@ -315,7 +315,7 @@ fn absent_name(rng: &mut Rng) -> Vec<u8> {
 }
 
 /// With blanks between tokens: none, some, or as many as lead to a length at the limit.
-fn spaced(rng: &mut Rng, tokens: &[Vec<u8>]) -> Vec<u8> {
+pub fn spaced(rng: &mut Rng, tokens: &[Vec<u8>]) -> Vec<u8> {
     let bytes: usize = tokens.iter().map(Vec::len).sum();
     let gaps = tokens.len().saturating_sub(1);
     let mut blanks = vec![0; gaps + 2];

@@ -1,5 +1,7 @@
 //! Random inputs: mostly small, some at every limit, valid and damaged.
 
+pub mod edits;
+pub mod folders;
 pub mod formulas;
 pub mod questions;
 pub mod rng;

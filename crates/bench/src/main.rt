@@ -1,0 +1,12 @@
+// The scope's bench sheet, run: for each line the table's name and the formula, the listing or the refusal, and the answers for some words.
+pub mod asking;
+pub mod sheet;
+pub mod writing;
+
+fn main() {
+    sheet::explained_on_m();
+    sheet::refused_on_m();
+    sheet::negations_on_m();
+    sheet::on_one_state();
+    sheet::on_loops();
+}

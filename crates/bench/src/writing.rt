@@ -1,0 +1,80 @@
+// Text to standard output; what `explain` answered, as text.
+use explainer::ExplainReply;
+use explainer::print::write_listing;
+use explainer::print::write_refusal;
+use libc::STDOUT_FILENO;
+
+pub fn say(text: &[u8]) {
+    io::write_all(STDOUT_FILENO, text);
+}
+
+fn say_start(text: &[u8], end: usize) {
+    if end <= text.len() {
+        say(&text[..end]);
+    }
+}
+
+// Counts above what was lent are no answer of `explain`; nothing is written of such.
+fn write_explained(
+    verdict: u64,
+    class: u64,
+    rowcount: u64,
+    edgecount: u64,
+    rows: &[u8; 3072],
+    edges: &[u8; 20480],
+    out: &mut [u8; 103586],
+) -> usize {
+    if verdict > 1 {
+        return 0;
+    }
+    if class > 2 {
+        return 0;
+    }
+    if rowcount > 1024 {
+        return 0;
+    }
+    if edgecount > 4096 {
+        return 0;
+    }
+    write_listing(
+        verdict as u8,
+        class as u8,
+        rowcount as usize,
+        edgecount as usize,
+        rows,
+        edges,
+        out,
+    )
+}
+
+fn write_refused(number: u32, figure: u64, out: &mut [u8; 103586]) -> usize {
+    if number > 14 {
+        return 0;
+    }
+    write_refusal(number as u8, figure as usize, out)
+}
+
+// Writes the listing or the refusal's line at the start of `out`, and answers its length.
+fn write_reply(
+    reply: ExplainReply,
+    rows: &[u8; 3072],
+    edges: &[u8; 20480],
+    out: &mut [u8; 103586],
+) -> usize {
+    match reply {
+        ExplainReply::Refused(number, figure) => write_refused(number, figure, out),
+        ExplainReply::Explained(verdict, class, rowcount, edgecount) => {
+            write_explained(verdict, class, rowcount, edgecount, rows, edges, out)
+        }
+    }
+}
+
+pub fn say_reply(
+    reply: ExplainReply,
+    rows: &[u8; 3072],
+    edges: &[u8; 20480],
+    out: &mut [u8; 103586],
+) {
+    let end = write_reply(reply, rows, edges, out);
+    say_start(out, end);
+}

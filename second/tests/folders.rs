@@ -1,0 +1,173 @@
+//! The folders that the program is run in: every kind is what its name says.
+
+use std::collections::BTreeMap;
+
+use second::formula::MAX_BYTES;
+use second::inputs::folders::{File, Files, KINDS, folder, largest_table};
+use second::inputs::rng::Rng;
+use second::print;
+
+/// Many folders of a kind.
+fn made(name: &str) -> Vec<Files> {
+    let kind = KINDS.iter().find(|kind| kind.name == name).expect("a kind");
+    (0..150).map(|index| (kind.files)(&mut Rng::of_input(5, name, index))).collect()
+}
+
+fn tables(name: &str) -> Vec<Vec<u8>> {
+    made(name).iter().map(|files| files.table.contents().to_vec()).collect()
+}
+
+fn formulas(name: &str) -> Vec<Vec<u8>> {
+    made(name).iter().map(|files| files.formula.contents().to_vec()).collect()
+}
+
+fn texts(name: &str) -> Vec<String> {
+    let printed =
+        |files: &Files| print::explain_files(files.table.contents(), files.formula.contents());
+    made(name).iter().map(|files| String::from_utf8(printed(files)).expect("ASCII")).collect()
+}
+
+/// Some folder of the kind is answered by a text that begins so.
+fn answers(name: &str, beginning: &str) {
+    assert!(texts(name).iter().any(|text| text.starts_with(beginning)), "{name}: {beginning}");
+}
+
+fn ends_in_line_end(text: &[u8]) -> bool {
+    text.ends_with(b"\n")
+}
+
+#[test]
+fn every_kind_appears() {
+    let mut times = BTreeMap::new();
+    for index in 0..300 {
+        *times.entry(folder(5, index).0.name).or_insert(0) += 1;
+    }
+    assert_eq!(times.len(), KINDS.len());
+    assert!(times.values().all(|&times| times >= 4));
+}
+
+#[test]
+fn files_are_missing_empty_or_folders() {
+    use File::{Folder, Holds, Missing};
+    let is = |kind: &str, wanted: fn(&Files) -> bool| {
+        assert!(made(kind).iter().all(wanted), "{kind}");
+    };
+    is("table missing", |of| matches!((&of.table, &of.formula), (Missing, Holds(_))));
+    is("formula missing", |of| matches!((&of.table, &of.formula), (Holds(_), Missing)));
+    is("both missing", |of| matches!((&of.table, &of.formula), (Missing, Missing)));
+    is("table a folder", |of| matches!((&of.table, &of.formula), (Folder, Holds(_))));
+    is("formula a folder", |of| matches!((&of.table, &of.formula), (Holds(_), Folder)));
+    is("both folders", |of| matches!((&of.table, &of.formula), (Folder, Folder)));
+    is("table empty", |of| matches!(&of.table, Holds(bytes) if bytes.is_empty()));
+    is("formula empty", |of| matches!(&of.formula, Holds(bytes) if bytes.is_empty()));
+}
+
+#[test]
+fn a_table_that_is_read_and_no_formula_is_refusal_6() {
+    for kind in ["formula missing", "formula empty", "formula a folder"] {
+        assert!(texts(kind).iter().all(|text| text == "     6     0\n"), "{kind}");
+    }
+}
+
+#[test]
+fn lines_end_by_nothing_or_by_two_bytes() {
+    for table in tables("table: no LF at the end") {
+        assert!(!ends_in_line_end(&table));
+    }
+    for formula in formulas("formula: no LF at the end") {
+        assert!(!ends_in_line_end(&formula));
+    }
+    for formula in formulas("formula: CRLF") {
+        assert!(formula.ends_with(b"\r\n"));
+    }
+    let returned = |table: &Vec<u8>| table.windows(2).any(|pair| pair == b"\r\n");
+    assert!(tables("table: CRLF").iter().all(returned));
+}
+
+#[test]
+fn formulas_of_about_512_bytes_have_each_length_with_and_without_line_end() {
+    let kind = "formula of about 512 bytes";
+    let formulas = formulas(kind);
+    for length in MAX_BYTES - 1..=MAX_BYTES + 3 {
+        let of = |end| {
+            formulas.iter().any(|text| {
+                text.strip_suffix(b"\n").unwrap_or(text).len() == length
+                    && ends_in_line_end(text) == end
+            })
+        };
+        assert!(of(false) && of(true), "{length}");
+    }
+    answers(kind, "     5   513\n");
+    answers(kind, "     5   515\n");
+    let longest_accepted = |files: &Files| {
+        let formula = files.formula.contents();
+        let text = print::explain_files(files.table.contents(), formula);
+        formula.len() == MAX_BYTES + 1 && text.starts_with(b"     1     1")
+    };
+    assert!(made(kind).iter().any(longest_accepted));
+}
+
+#[test]
+fn formulas_of_a_megabyte_have_a_line_end_or_none() {
+    let kind = "formula of a megabyte";
+    for text in formulas(kind) {
+        assert!((1_048_575..=1_048_578).contains(&text.len()));
+    }
+    answers(kind, "     51048575\n");
+    answers(kind, "     51048576\n");
+    answers(kind, "     51048577\n");
+    assert!(formulas(kind).iter().any(|text| ends_in_line_end(text)));
+    assert!(formulas(kind).iter().any(|text| !ends_in_line_end(text)));
+}
+
+#[test]
+fn the_largest_table_has_20281_bytes() {
+    assert_eq!(largest_table(&mut Rng::new(1)).text().len(), 20_281);
+    assert!(tables("largest table").iter().all(|table| table.len() == 20_281));
+}
+
+#[test]
+fn long_tables_have_each_length_from_20281_to_20300_and_a_megabyte() {
+    let kind = "table of 20,281 to 20,300 bytes";
+    for length in 20_281..=20_300 {
+        assert!(tables(kind).iter().any(|table| table.len() == length), "{length}");
+    }
+    // The line after the largest table's last.
+    answers(kind, "     1  1066\n");
+    assert!(tables("table of a megabyte").iter().all(|table| table.len() == 1 << 20));
+}
+
+#[test]
+fn listings_reach_the_limits_and_one_more() {
+    let kind = "rows and edges at the limits";
+    answers(kind, "     1     1  1024  4096\n");
+    answers(kind, "     1     1  1023  4095\n");
+    answers(kind, "    11  1025\n");
+    answers(kind, "    12  4097\n");
+    let line = |text: &String| text.lines().next().expect("a line").to_owned();
+    let lines: Vec<String> = texts(kind).iter().map(line).collect();
+    let of = |counts: &dyn Fn(&str, &str) -> bool| {
+        lines.iter().any(|line| line.len() == 24 && counts(&line[12..18], &line[18..]))
+    };
+    assert!(of(&|rows, edges| rows == "  1024" && edges != "  4096"));
+    assert!(of(&|rows, edges| rows != "  1024" && edges == "  4096"));
+}
+
+#[test]
+fn every_number_that_the_program_can_print_appears() {
+    for (kind, number) in [
+        ("whole texts", "     1     1"),
+        ("whole texts", "     0     2"),
+        ("table of any text", "     1 "),
+        ("table of any text", "     2 "),
+        ("name used twice", "     3 "),
+        ("table: line doubled", "     4 "),
+        ("formula of any text", "     6 "),
+        ("formula of any text", "     7 "),
+        ("formula of about 40 nodes", "     8    41\n"),
+        ("formula of about 40 nodes", "     8    42\n"),
+        ("formula of any text", "     9 "),
+    ] {
+        answers(kind, number);
+    }
+}

@@ -1,0 +1,67 @@
+//! The samples, and what the README shows of them.
+
+mod common;
+
+use std::fs;
+use std::path::{Path, PathBuf};
+
+use common::{M, question};
+use second::print::explain_folder;
+
+fn root() -> PathBuf {
+    Path::new(env!("CARGO_MANIFEST_DIR")).join("..")
+}
+
+fn read(path: &str) -> String {
+    fs::read_to_string(root().join(path)).expect(path)
+}
+
+fn listing(sample: &str) -> String {
+    String::from_utf8(explain_folder(&root().join(sample))).expect("ASCII")
+}
+
+/// The texts that stand in four columns, without these.
+fn shown(document: &str) -> Vec<String> {
+    let mut blocks = vec![String::new()];
+    for line in document.lines() {
+        match (line.strip_prefix("    "), blocks.last_mut()) {
+            (Some(text), Some(block)) => *block += &format!("{text}\n"),
+            _ => blocks.push(String::new()),
+        }
+    }
+    blocks.retain(|block| !block.is_empty());
+    blocks
+}
+
+#[test]
+fn the_readme_shows_the_changer_and_its_listing_byte_for_byte() {
+    let shown = shown(&read("README.md"));
+    let table = read("samples/changer/table.txt");
+    let formula = read("samples/changer/formula.txt");
+    assert_eq!(shown[1..], [table, formula, listing("samples/changer")]);
+}
+
+#[test]
+fn the_changer_comes_to_wait_in_the_three_ways_that_the_readme_tells() {
+    let (readme, table) = (read("README.md"), read("samples/changer/table.txt"));
+    let formula = read("samples/changer/formula.txt");
+    let question = question(&table, formula.trim_end());
+    let names = ["req", "send", "clamp", "ack", "drop", "retry", "done"];
+    for way in ["req send drop", "req send clamp drop", "req send drop retry drop"] {
+        assert!(readme.contains(&format!("`{way}`")), "{way}");
+        let label = |name| names.iter().position(|known| *known == name).expect("a name") as u8 + 1;
+        let into_the_wait: Vec<u8> = way.split(' ').map(label).collect();
+        assert!(question.accepts(&[into_the_wait.as_slice(), &[0]].concat()), "{way}");
+    }
+    for edge in ["2 5 5", "3 5 5", "2 5 4", "4 6 2", "5 0 7"] {
+        let columns: String = edge.split(' ').map(|number| format!("{number:>6}")).collect();
+        assert!(readme.contains(&format!("`{edge}`")), "{edge}");
+        assert!(listing("samples/changer").lines().any(|line| line == columns), "{edge}");
+    }
+}
+
+#[test]
+fn the_samples_have_table_m() {
+    assert_eq!(read("samples/m/table.txt"), M);
+    assert_eq!(read("samples/m/formula.txt"), "EU[*;ack] T\n");
+}
