@@ -1,10 +1,16 @@
-// The files of the program `explain`. They may be of any length: of the formula its first 513 bytes, its length and its last byte are kept.
+// What the program `explain` writes for its two files. They may be of any length: of the table 20,282 bytes are enough, of the formula
+// its first 513 bytes, its length and its last byte.
 ghost use mathlib.Core.Path.{_≡_};
 ghost use mathlib.Core.List.{List, [], _++_};
 ghost use Prim.Native.Nat.{ℕ, _+_, _^_, _<_, min};
 ghost use lib.ListN.{length};
-ghost use Rattle.explainer.specs.Files.{Heard, kept};
-ghost use Rattle.explainer.specs.Printed.{withoutEnd};
+ghost use Rattle.explainer.specs.Explanation.{explainReply};
+ghost use Rattle.explainer.specs.Files.{Begins, Heard, kept, replyText, Few, Counts};
+ghost use Rattle.explainer.specs.Printed.{withoutEnd, explainText, Written};
+use crate::ExplainReply;
+use crate::explain;
+use crate::print::write_listing;
+use crate::print::write_refusal;
 use bytes::copy;
 
 // How many bytes of a file were read, and the last of them.
@@ -75,4 +81,63 @@ fn text_length(seen: Seen) -> usize
         return n - 1;
     }
     n
+}
+
+fn write_reply(
+    reply: ExplainReply,
+    length: usize,
+    rows: &[u8; 3072],
+    edges: &[u8; 20480],
+    out: &mut [u8; 103586],
+) -> usize
+    requires { ⌜ Few (explainReply reply) ⌝ }
+    ensures { λ r. ⌜ Written (replyText (explainReply reply) length (now (rows .entry)) (now (edges .entry))) (now (out .entry)) (now (out .exit)) r ⌝ }
+    ensures { λ r. ⌜ Counts r (now (out .exit)) ⌝ }
+{
+    match reply {
+        ExplainReply::Explained(verdict, class, rowcount, edgecount) => write_listing(
+            verdict,
+            class,
+            rowcount as usize,
+            edgecount as usize,
+            rows,
+            edges,
+            out,
+        ),
+        ExplainReply::Refused(number, figure) => {
+            if number == 5 {
+                write_refusal(number, length as u64, out)
+            } else {
+                write_refusal(number, figure, out)
+            }
+        }
+    }
+}
+
+// Writes what the program writes at the start of `out`, and answers its length.
+pub fn explain_files(
+    tablefile: &[u8],
+    head: &[u8; 513],
+    seen: Seen,
+    out: &mut [u8; 103586],
+) -> usize
+    ensures { λ r. ⌜ ((table formula : List ℕ) → Begins (now (tablefile .entry)) table → Heard formula (now (head .entry)) seen → Written (explainText table formula) (now (out .entry)) (now (out .exit)) r) ⌝ }
+    ensures { λ r. ⌜ Counts r (now (out .exit)) ⌝ }
+{
+    let mut table = [0u8; 3718];
+    let mut formula = [0u8; 681];
+    let mut rows = [0u8; 3072];
+    let mut edges = [0u8; 20480];
+    let length = text_length(seen);
+    let n = least(length, 513);
+    let whole = &head[..];
+    let reply = explain(
+        tablefile,
+        &whole[..n],
+        &mut table,
+        &mut formula,
+        &mut rows,
+        &mut edges,
+    );
+    write_reply(reply, length, &rows, &edges, out)
 }

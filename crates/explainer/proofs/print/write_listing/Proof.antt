@@ -38,7 +38,7 @@ returns c =
     (x .write-numbers .ensures .1 .0) (x .write-numbers .ensures .0)
     (y .write-rows .ensures .1 .1) (y .write-rows .ensures .0)
     (z .write-edges .ensures .1 .1) (z .write-edges .ensures .0) in
-    record { text = h .0; ends = h .1 }
+    record { is = h .0; ends = h .1 }
 
 pub write-listing-spec : {M : Type 1} → statement M
 write-listing-spec =

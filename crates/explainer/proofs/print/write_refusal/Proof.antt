@@ -19,7 +19,7 @@ returns : tie.Need-returns
 returns c =
     let w = c .before .before .write-numbers in
     let a = c .before .before .before .before .before .args in
-    (w .ensures .0 ∙ zero-add _, w .ensures .1 .0 ∙ pasted-start (a .out .now) (refusalLine (a .number) (a .figure)))
+    record { is = w .ensures .1 .0 ∙ pasted-start (a .out .now) (refusalLine (a .number) (a .figure)); ends = w .ensures .0 ∙ zero-add _ }
 
 pub write-refusal-spec : {M : Type 1} → statement M
 write-refusal-spec = tie.close (tie.spec write-numbers-requires same-length returns)
