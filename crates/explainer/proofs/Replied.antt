@@ -13,7 +13,7 @@ use Rattle.actl.proofs.Laws.Accepted.{reading-leaves-form}
 use Rattle.automaton.specs.Listing.{Edge, Listing}
 use Rattle.automaton.specs.Bytes.{rowLength, edgeLength}
 use Rattle.automaton.proofs.Accepted.{formed-has-class}
-use Rattle.explainer.specs.Explanation.{Explanation, Summary, explainReply, explaining, explanation, explainReplied, rowsLeft, edgesLeft}
+use Rattle.explainer.specs.Explanation.{Explanation, explainReply, explaining, explanation, explainReplied, rowsLeft, edgesLeft}
 use Rattle.explainer.specs.Files.{Begins, replyText, Few, Counts}
 use Rattle.explainer.specs.Printed.{withoutEnd, printed, explainText, Written}
 use Rattle.explainer.specs.declared.ExplainReply.{ExplainReply}
