@@ -24,12 +24,6 @@ fn write_explained(
     edges: &[u8; 20480],
     out: &mut [u8; 103586],
 ) -> usize {
-    if verdict > 1 {
-        return 0;
-    }
-    if class > 2 {
-        return 0;
-    }
     if rowcount > 1024 {
         return 0;
     }
@@ -37,21 +31,14 @@ fn write_explained(
         return 0;
     }
     write_listing(
-        verdict as u8,
-        class as u8,
+        verdict,
+        class,
         rowcount as usize,
         edgecount as usize,
         rows,
         edges,
         out,
     )
-}
-
-fn write_refused(number: u32, figure: u64, out: &mut [u8; 103586]) -> usize {
-    if number > 14 {
-        return 0;
-    }
-    write_refusal(number as u8, figure as usize, out)
 }
 
 // Writes the listing or the refusal's line at the start of `out`, and answers its length.
@@ -62,7 +49,7 @@ fn write_reply(
     out: &mut [u8; 103586],
 ) -> usize {
     match reply {
-        ExplainReply::Refused(number, figure) => write_refused(number, figure, out),
+        ExplainReply::Refused(number, figure) => write_refusal(number, figure, out),
         ExplainReply::Explained(verdict, class, rowcount, edgecount) => {
             write_explained(verdict, class, rowcount, edgecount, rows, edges, out)
         }

@@ -2,7 +2,7 @@
 use mathlib.Core.Path.{_≡_, refl, sym, ap, _∙_, subst}
 use mathlib.Core.List.{List, [], _∷_, _++_}
 use mathlib.Core.Option.{Option, none, some}
-use Prim.Native.Nat.{ℕ, _≤_}
+use Prim.Native.Nat.{ℕ, _/_, _≤_}
 use native.Mathlib.Omega.{arith}
 use lib.Dec.{leb}
 use lib.ListN.{length, take, drop}
@@ -24,7 +24,7 @@ use Rattle.actl.proofs.Classes.{HasClass}
 use Rattle.actl.proofs.Laws.Accepted.{reading-leaves-form}
 use Rattle.actl.proofs.Laws.Prepared as prepared-formula
 use Rattle.listing.specs.Listing.{Listing, listing}
-use Rattle.listing.specs.Bytes.{rowsBytes, edgesBytes}
+use Rattle.listing.specs.Bytes.{rowLength, edgeLength, rowsBytes, edgesBytes}
 use Rattle.automaton.specs.Replies.{Counts, counts, fitted, built, buildReplied, rowsLeft, edgesLeft}
 use Rattle.automaton.proofs.Accepted.{refusal-is-not-accepted, unless-accepted, long-enough-accepted, Prepared, on-prepared-accepted, prepared-in-range, formed-has-class, fitted-accepted}
 use Rattle.explainer.specs.Explained.{RunsTraced, FromTexts, FromPrepared}
@@ -110,29 +110,47 @@ module _ (tableText formulaText table formula rows edges : List ℕ) where
       let (F, b, h, g) = reading-leaves-formula table-left formulaText formula t c d in
       from-prepared (buildReplied table-left formula-left rows edges) (rowsLeft table-left formula-left rows edges) (edgesLeft table-left formula-left rows edges) t F a b c g (building-explains table-left formula-left rows edges)
 
--- The same of `explain`, which reads both texts and builds.
+-- The same of `explain`, which reads both texts and builds. What an accepted explanation says of its texts and of the lent places:
+pub record Accepted (tableText formulaText rows edges : List ℕ) (e : explain.Explanation) : Type 0 where
+  pub read-table : readTable tableText ≡ accepted (e .table)
+  pub read-formula : readFormula (e .table .names) formulaText ≡ accepted (e .formula)
+  pub is-listing : e .list ≡ listing (e .table) (e .formula)
+  pub rows-fit : length (e .list .rows) ≤ length rows / rowLength
+  pub edges-fit : length (e .list .edges) ≤ length edges / edgeLength
+
+next-accepted : {A B : Type 0} (r : Reply A) (f : A → Reply B) {b : B} → explain.next r f ≡ accepted b → (a : A) × (r ≡ accepted a) × (f a ≡ accepted b)
+next-accepted (accepted a) f e = (a, refl, e)
+next-accepted (refusal n g) f e = absurd (refusal-is-not-accepted e)
+
+module _ (tableText formulaText rows edges : List ℕ) where
+  listed-accepted : (t : Table) (F : Formula) → readTable tableText ≡ accepted t → readFormula (t .names) formulaText ≡ accepted F
+      → (r : Reply Listing) → fitted (listing t F) rows edges ≡ r → (e : explain.Explanation) → answers (λ L. record { table = t; formula = F; list = L }) r ≡ accepted e
+      → Accepted tableText formulaText rows edges e
+  listed-accepted t F a b (refusal n g) d e h = absurd (refusal-is-not-accepted h)
+  listed-accepted t F a b (accepted L) d e h =
+      let (i, j, k) = fitted-accepted (listing t F) rows edges d in
+      let z : record { table = t; formula = F; list = L } ≡ e = cc in
+      subst (Accepted tableText formulaText rows edges) z
+      (record { read-table = a; read-formula = b; is-listing = k; rows-fit = subst (λ (K : Listing). length (K .rows) ≤ length rows / rowLength) (sym k) i; edges-fit = subst (λ (K : Listing). length (K .edges) ≤ length edges / edgeLength) (sym k) j })
+
+  pub explanation-accepted : (e : explain.Explanation) → explain.explanation tableText formulaText rows edges ≡ accepted e → Accepted tableText formulaText rows edges e
+  explanation-accepted e d =
+      let (t, a, g) = next-accepted (readTable tableText) (λ t. explain.next (readFormula (t .names) formulaText) (λ F. answers (λ L. record { table = t; formula = F; list = L }) (fitted (listing t F) rows edges))) d in
+      let (F, b, h) = next-accepted (readFormula (t .names) formulaText) (λ F. answers (λ L. record { table = t; formula = F; list = L }) (fitted (listing t F) rows edges)) g in
+      listed-accepted t F a b (fitted (listing t F) rows edges) refl e h
+
 module _ (tableText formulaText table formula rows edges : List ℕ) where
   abbrev explained : Reply explain.Explanation → Type 0
   explained r = FromTexts tableText formulaText (answers explain.countsOf (explain.explainReplied r)) (explain.rowsLeft r rows) (explain.edgesLeft r edges)
-
-  next-accepted : {A B : Type 0} (r : Reply A) (f : A → Reply B) {b : B} → explain.next r f ≡ accepted b → (a : A) × (r ≡ accepted a) × (f a ≡ accepted b)
-  next-accepted (accepted a) f e = (a, refl, e)
-  next-accepted (refusal n g) f e = absurd (refusal-is-not-accepted e)
-
-  fitted-explanation : (t : Table) (F : Formula) (r : Reply Listing) {e : explain.Explanation} → answers (λ L. record { table = t; formula = F; list = L }) r ≡ accepted e
-      → (e .table ≡ t) × (e .formula ≡ F) × (r ≡ accepted (e .list))
-  fitted-explanation t F (accepted L) e = ((cc), (cc), (cc))
-  fitted-explanation t F (refusal n g) e = absurd (refusal-is-not-accepted e)
 
   explanation-explains : (r : Reply explain.Explanation) → explain.explaining tableText formulaText table formula rows edges ≡ r → explained r
   unfolding explain.explaining
   explanation-explains (refusal n f) e = tt
   explanation-explains (accepted x) e =
       let d = long-enough-accepted table formula (explain.explanation tableText formulaText rows edges) e in
-      let (t, a, g) = next-accepted (readTable tableText) (λ t. explain.next (readFormula (t .names) formulaText) (λ F. answers (λ L. record { table = t; formula = F; list = L }) (fitted (listing t F) rows edges))) d in
-      let (F, b, h) = next-accepted (readFormula (t .names) formulaText) (λ F. answers (λ L. record { table = t; formula = F; list = L }) (fitted (listing t F) rows edges)) g in
-      let (u, v, z) = fitted-explanation t F (fitted (listing t F) rows edges) h in
-      (t, F, a, b, listing-explained (text-of-read tableText t a .1) (reading-leaves-form (t .names) formulaText [] b) (fitted-accepted (listing t F) rows edges z .2) rows edges)
+      let h = explanation-accepted tableText formulaText rows edges x d in
+      let form = reading-leaves-form (x .table .names) formulaText [] (h .read-formula) in
+      (x .table, x .formula, h .read-table, h .read-formula, listing-explained (text-of-read tableText (x .table) (h .read-table) .1) form (h .is-listing) rows edges)
 
   pub explain-explains : explained (explain.explaining tableText formulaText table formula rows edges)
   explain-explains = explanation-explains (explain.explaining tableText formulaText table formula rows edges) refl

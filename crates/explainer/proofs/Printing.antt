@@ -54,12 +54,6 @@ lines-more {line} {width} {buffer} {at} {out} {end} {i} l out′ end′ e d w h 
 pub pasted-start : (buffer text : List ℕ) → pasted buffer 0 text ≡ overwritten text buffer
 pasted-start buffer text = ap (λ k. text ++ drop k buffer) (zero-add (length text))
 
-pub two : {a b : ℕ} (n m k : ℕ) → a ≡ b → a ∷ n ∷ m ∷ k ∷ [] ≡ b ∷ n ∷ m ∷ k ∷ []
-two n m k x = λ i. x i ∷ n ∷ m ∷ k ∷ []
-
-pub front-two : {a b c d : ℕ} (m n : ℕ) → a ≡ b → c ≡ d → a ∷ c ∷ m ∷ n ∷ [] ≡ b ∷ d ∷ m ∷ n ∷ []
-front-two m n x y = λ i. x i ∷ y i ∷ m ∷ n ∷ []
-
 -- Three texts, each behind the one before.
 pub three-texts : (buffer a b c : List ℕ) {out₁ out₂ out₃ : List ℕ} {e₁ e₂ e₃ : ℕ} → e₃ ≤ length buffer → e₁ ≤ e₂ → e₂ ≤ e₃
     → out₁ ≡ pasted buffer 0 a → e₁ ≡ 0 + length a → out₂ ≡ pasted out₁ e₁ b → e₂ ≡ e₁ + length b → out₃ ≡ pasted out₂ e₂ c → e₃ ≡ e₂ + length c

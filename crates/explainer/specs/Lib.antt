@@ -4,6 +4,7 @@ pub mod Positions
 pub mod Explained
 pub mod Explanation
 pub mod Printed
+pub mod Files
 pub mod BenchSheet
 pub mod Interface
 pub mod Readings

@@ -50,10 +50,10 @@ edgesText edges n = bind (edgeText edges) (upFrom 0 n)
 abbrev pub listingText : Summary → List ℕ → List ℕ → List ℕ
 listingText s rows edges = summaryLine s ++ (rowsText rows (s .rows) ++ edgesText edges (s .edges))
 
--- What `write_listing` leaves: the listing's text at the start of the buffer, which held `before`, and its length.
-pub record Listed (s : Summary) (rows edges before out : List ℕ) (end : ℕ) : Type 0 where
-  pub text : out ≡ overwritten (listingText s rows edges) before
-  pub ends : end ≡ length (listingText s rows edges)
+-- What a writer leaves: a text at the start of a buffer, which held `before`, and the text's length.
+pub record Written (text before out : List ℕ) (end : ℕ) : Type 0 where
+  pub is : out ≡ overwritten text before
+  pub ends : end ≡ length text
 
 -- "One LF at the end of `formula.txt` is dropped."
 abbrev pub withoutEnd : List ℕ → List ℕ

@@ -5,6 +5,7 @@ use crate::readings::Readiness;
 use crate::readings::read_both;
 
 pub mod exports;
+pub mod files;
 pub mod finishing;
 mod interface;
 pub mod print;

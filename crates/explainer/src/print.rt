@@ -3,8 +3,7 @@ ghost use mathlib.Core.Path.{_≡_};
 ghost use Prim.Native.Nat.{ℕ, _+_, _*_, _≤_, _<_};
 ghost use lib.ListN.{length, getD};
 ghost use Rattle.columns.specs.Write.{pasted};
-ghost use Rattle.explainer.specs.Printed.{rowText, edgeText, rowsText, edgesText, refusalLine, Listed};
-ghost use Rattle.lts.specs.Reply.{overwritten};
+ghost use Rattle.explainer.specs.Printed.{rowText, edgeText, rowsText, edgesText, refusalLine, listingText, Written};
 use columns::write::write_numbers;
 
 fn wide(b: u8) -> u64
@@ -81,8 +80,8 @@ fn write_edges(edges: &[u8], count: usize, out: &mut [u8], at: usize) -> usize
 
 // Writes the whole listing at the start of `out`, and answers its length.
 pub fn write_listing(
-    verdict: u8,
-    class: u8,
+    verdict: u64,
+    class: u64,
     rowcount: usize,
     edgecount: usize,
     rows: &[u8],
@@ -91,24 +90,18 @@ pub fn write_listing(
 ) -> usize
     requires { ⌜ (rowcount * 3 ≤ length (now rows)) × (edgecount * 5 ≤ length (now edges)) × (rowcount ≤ 65536) ⌝ }
     requires { ⌜ rowcount * 25 + edgecount * 19 + 162 ≤ length (now out) ⌝ }
-    ensures { λ r. ⌜ Listed (record { verdict = verdict; class = class; rows = rowcount; edges = edgecount }) (now (rows .entry)) (now (edges .entry)) (now (out .entry)) (now (out .exit)) r ⌝ }
+    ensures { λ r. ⌜ Written (listingText (record { verdict = verdict; class = class; rows = rowcount; edges = edgecount }) (now (rows .entry)) (now (edges .entry))) (now (out .entry)) (now (out .exit)) r ⌝ }
 {
-    let values = [
-        wide(verdict),
-        wide(class),
-        rowcount as u64,
-        edgecount as u64,
-    ];
+    let values = [verdict, class, rowcount as u64, edgecount as u64];
     let first = write_numbers(values, 4, out, 0);
     let second = write_rows(rows, rowcount, out, first);
     write_edges(edges, edgecount, out, second)
 }
 
 // Writes a refusal's line at the start of `out`, and answers its length.
-pub fn write_refusal(number: u8, figure: usize, out: &mut [u8]) -> usize
+pub fn write_refusal(number: u32, figure: u64, out: &mut [u8]) -> usize
     requires { ⌜ 81 ≤ length (now out) ⌝ }
-    ensures { λ r. ⌜ r ≡ length (refusalLine number figure) ⌝ }
-    ensures { λ _. ⌜ now (out .exit) ≡ overwritten (refusalLine number figure) (now (out .entry)) ⌝ }
+    ensures { λ r. ⌜ Written (refusalLine number figure) (now (out .entry)) (now (out .exit)) r ⌝ }
 {
-    write_numbers([wide(number), figure as u64, 0, 0], 2, out, 0)
+    write_numbers([number as u64, figure, 0, 0], 2, out, 0)
 }
