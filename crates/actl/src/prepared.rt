@@ -2,6 +2,7 @@
 use crate::node::mask;
 use crate::node::node_count;
 use crate::walk::spelled;
+use lts::check::zeros;
 ghost use mathlib.Core.Path.{_≡_};
 ghost use mathlib.Core.Bool.{_&&_, _||_};
 ghost use Prim.Native.Nat.{_+_, _*_, _<_, _≤_};
@@ -80,14 +81,7 @@ fn zeros_from(formula: &[u8], from: usize) -> bool
     requires { ⌜ (681 ≤ length (now formula)) × (from ≤ 681) ⌝ }
     ensures { λ r. ⌜ r ≡ zerosFrom (now (formula .entry)) from ⌝ }
 {
-    let mut i = from;
-    while i < 681 {
-        if formula[i] != 0 {
-            return false;
-        }
-        i += 1;
-    }
-    true
+    zeros(formula, from, 681)
 }
 
 // 01: "formula bytes that aren't the one form, given in docs/, of 1 to 40 nodes in order, each with a class, sets within this table's labels"

@@ -41,18 +41,18 @@ pub fn is_prepared(table: &[u8]) -> bool
     zeros(table, 646 + transition_count(table) * 3, 3718)
 }
 
-fn zeros(table: &[u8], from: usize, to: usize) -> bool
-    requires { ⌜ to ≤ length (now table) ⌝ }
-    ensures { λ r. ⌜ Decides (ZerosFrom (now (table .entry)) from to) r ⌝ }
+// Whether the bytes from `from` to before `to` are zero: they are taken together and tested once.
+pub fn zeros(bytes: &[u8], from: usize, to: usize) -> bool
+    requires { ⌜ to ≤ length (now bytes) ⌝ }
+    ensures { λ r. ⌜ Decides (ZerosFrom (now (bytes .entry)) from to) r ⌝ }
 {
+    let mut all = 0u8;
     let mut i = from;
     while i < to {
-        if table[i] != 0 {
-            return false;
-        }
+        all = all | bytes[i];
         i += 1;
     }
-    true
+    all == 0
 }
 
 fn counts_held(table: &[u8]) -> bool

@@ -5,6 +5,9 @@ use mathlib.Core.Bool.{Bool, true, false, true≢false, false≢true}
 use Prim.Native.Nat.{ℕ, _+_, _≤_, _<_}
 use native.Mathlib.Nat.{eq-or-lt-of-le}
 use native.Mathlib.Omega.{arith}
+use lib.Bits.{bitOr, or-add-and, and-le-l, and-le-r}
+use lib.Dec.{eqb}
+use borrow.Author.Tests.{eqb-true, eqb-false}
 use Rattle.lts.specs.Access.{Decides}
 
 pub decided-yes : {P : Type 0} → P → Decides P true
@@ -20,6 +23,17 @@ pub decided-test : {P : Type 0} (r t : Bool) → r ≡ t → (t ≡ true → P) 
 decided-test r t e f g = record { yes = λ d. f (sym e ∙ d); no = λ d p. true≢false (sym (g p) ∙ (sym e ∙ d)) }
 
 -- One number more.
+-- Bytes taken together by `|` are zero exactly if both are.
+pub together : (a b : ℕ) → ((bitOr a b ≡ 0) → (a ≡ 0) × (b ≡ 0)) × (a ≡ 0 → b ≡ 0 → bitOr a b ≡ 0)
+together a b =
+    let sum = or-add-and a b in
+    let l = and-le-l a b in
+    let r = and-le-r a b in
+    ((λ e. (omega arith, omega arith)), λ e f. omega arith)
+
+pub decided-zero : {P : Type 0} (n : ℕ) → (n ≡ 0 → P) → (P → n ≡ 0) → Decides P (eqb n 0)
+decided-zero n f g = record { yes = λ e. f (eqb-true n 0 e); no = λ e p. eqb-false n 0 e (g p) }
+
 pub from-more : (P : ℕ → Type 0) (i j : ℕ) → ((k : ℕ) → i ≤ k → k < j → P k) → P j → (k : ℕ) → i ≤ k → k < j + 1 → P k
 from-more P i j all here k l m = step (eq-or-lt-of-le (omega arith))
   where

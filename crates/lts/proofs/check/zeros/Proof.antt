@@ -1,27 +1,24 @@
--- `zeros` meets its contract: the bytes before i are zero.
-use mathlib.Core.Path.{_≡_}
-use Prim.Native.Nat.{_-_, _≤_}
+-- `zeros` meets its contract: the bytes before i, taken together, are zero exactly if each of them is.
+use mathlib.Core.Path.{_≡_, refl}
+use Prim.Native.Nat.{_-_, _≤_, _<_}
 use native.Mathlib.Omega.{arith}
 use Rattle.lts.specs.Prepared.{byteAt}
 use Rattle.lts.specs.Check.{ZerosFrom}
-use Rattle.lts.proofs.Laws.Decides.{decided-yes, decided-no, from-more}
+use Rattle.lts.proofs.Laws.Decides.{decided-zero, together, from-more}
 use Rattle.lts.proofs.check.zeros.Statement.{statement}
 use Rattle.lts.proofs.check.zeros.Tie as tie
 
 abbrev Inv-loop : tie.InvT-loop
-Inv-loop table from to i₀ i = (from ≤ i) × ZerosFrom table from i
+Inv-loop bytes from to all₀ i₀ all i = ((from ≤ i) × (from < i → i ≤ to)) × ((all ≡ 0 → ZerosFrom bytes from i) × (ZerosFrom bytes from i → all ≡ 0))
 
 abbrev μ-loop : tie.MeasureT-loop
-μ-loop table from to i₀ i = to - i
+μ-loop bytes from to all₀ i₀ all i = to - i
 
 loop-holds : tie.Need-loop-holds Inv-loop μ-loop
-loop-holds c = (omega arith, λ k l m. absurd (omega arith))
+loop-holds c = ((omega arith, λ l. omega arith), ((λ e k l m. absurd (omega arith)), λ z. refl))
 
-shared-slice-read-if1 : tie.Need-shared-slice-read-if1 Inv-loop μ-loop
-shared-slice-read-if1 c = omega arith
-
-returns : tie.Need-returns Inv-loop μ-loop
-returns c = decided-no (λ h. c .if1 .taken (h (c .before .before .before .loop .i) (c .before .before .before .loop .inv .0) (c .before .before .loop-test .taken)))
+shared-slice-read-all : tie.Need-shared-slice-read-all Inv-loop μ-loop
+shared-slice-read-all c = omega arith
 
 add-i : tie.Need-add-i Inv-loop μ-loop
 add-i c = omega arith
@@ -31,23 +28,22 @@ loop-less c = omega arith
 
 loop-again : tie.Need-loop-again Inv-loop μ-loop
 loop-again c =
-    let start = c .before .before .before .before in
-    let inv = c .before .before .before .loop .inv in
-    (omega arith, from-more (λ k. byteAt (start .args .table .now) k ≡ 0) (start .args .from) (c .before .before .before .loop .i) (inv .1) (c .if1 .left))
+    let a = c .before .before .before .args in
+    let l = c .before .before .loop in
+    let both = together (l .all) (byteAt (a .bytes .now) (l .i)) in (
+      (omega arith, λ m. omega arith),
+      (
+        (λ e. from-more (λ k. byteAt (a .bytes .now) k ≡ 0) (a .from) (l .i) (l .inv .1 .0 (both .0 e .0)) (both .0 e .1)),
+        λ z. both .1 (l .inv .1 .1 (λ k f m. z k f (omega arith))) (z (l .i) (l .inv .0 .0) (omega arith)),
+      ),
+    )
 
-returns-2 : tie.Need-returns-2 Inv-loop μ-loop
-returns-2 c = decided-yes (λ k l m. c .before .loop .inv .1 k l (omega arith))
+returns : tie.Need-returns Inv-loop μ-loop
+returns c =
+    let l = c .before .loop in
+    decided-zero (l .all) (λ e k f m. l .inv .1 .0 e k f (omega arith)) (λ z. l .inv .1 .1 (λ k f m. let h = l .inv .0 .1 (omega arith) in z k f (omega arith)))
 
 pub zeros-spec : {M : Type 1} → statement M
 zeros-spec =
     tie.close
-    (tie.spec
-    Inv-loop
-    μ-loop
-    loop-holds
-    shared-slice-read-if1
-    returns
-    add-i
-    loop-less
-    loop-again
-    returns-2)
+    (tie.spec Inv-loop μ-loop loop-holds shared-slice-read-all add-i loop-less loop-again returns)
