@@ -5,7 +5,6 @@ ghost use Prim.Native.Nat.{_+_, _*_, _<_, _≤_};
 ghost use lib.Dec.{eqb};
 ghost use lib.ListN.{length, getD, drop, replicate};
 ghost use Rattle.columns.specs.Bytes.{sameBytes};
-ghost use Rattle.lts.specs.Names.{isLower, isNameByte};
 ghost use Rattle.lts.specs.Reading.{headerInRange, stepInRange, stepBelow, used};
 ghost use Rattle.lts.specs.Prepared.{transitionSlot};
 ghost use Rattle.lts.specs.Replies.{tableReply, tableReplied, tableLeft};
@@ -15,6 +14,8 @@ ghost use Rattle.lts.specs.Turns.{LabelTurn, LabelsRead, TransitionTurn,
 ghost use Rattle.lts.specs.Reply.{overwritten};
 ghost use mathlib.Core.List.{_++_};
 use crate::TableReply;
+use crate::names::is_lower;
+use crate::names::is_name_byte;
 use columns::Column;
 
 // What line 1 says.
@@ -63,30 +64,6 @@ fn stands(text: &[u8], at: usize, byte: u8) -> bool
     text[at] == byte
 }
 
-fn is_lower(b: u8) -> bool
-    ensures { λ r. ⌜ r ≡ isLower b ⌝ }
-{
-    if b < 97 {
-        return false;
-    }
-    b <= 122
-}
-
-fn is_name_byte(b: u8) -> bool
-    ensures { λ r. ⌜ r ≡ isNameByte b ⌝ }
-{
-    if is_lower(b) {
-        return true;
-    }
-    if b == 95 {
-        return true;
-    }
-    if b < 48 {
-        return false;
-    }
-    b <= 57
-}
-
 // How many bytes of a name stand at `at`, the longest way, up to 12.
 fn name_length(text: &[u8], at: usize) -> usize
     requires { ⌜ at ≤ length (now text) ⌝ }
@@ -95,7 +72,7 @@ fn name_length(text: &[u8], at: usize) -> usize
     if text.len() <= at {
         return 0;
     }
-    if !is_lower(text[at]) {
+    if !is_lower(text[at] as usize) {
         return 0;
     }
     let mut n: usize = 1;
@@ -103,7 +80,7 @@ fn name_length(text: &[u8], at: usize) -> usize
         if text.len() <= at + n {
             return n;
         }
-        if !is_name_byte(text[at + n]) {
+        if !is_name_byte(text[at + n] as usize) {
             return n;
         }
         n += 1;

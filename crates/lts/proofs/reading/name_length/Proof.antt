@@ -1,7 +1,7 @@
 -- `name_length` answers `nameLength`: the invariant is `NameSoFar`, what is left of the run.
 use borrow.Author.Tests.{not-true, not-false}
 use mathlib.Core.Path.{sym, _∙_}
-use Prim.Native.Nat.{_-_}
+use Prim.Native.Nat.{_+_, _-_}
 use borrow.Author.Needs.{needs}
 use native.Mathlib.Omega.{arith}
 use Rattle.lts.proofs.Laws.NameRuns.{NameSoFar, no-text, no-letter, run-starts, run-at-end, run-stops, run-goes-on, run-full}
@@ -19,6 +19,9 @@ returns c = no-text (c .before .before .args .text .now) (c .before .before .arg
 
 shared-slice-read-is-lower : tie.Need-shared-slice-read-is-lower Inv-loop μ-loop
 shared-slice-read-is-lower c = omega arith
+
+cast-is-lower : tie.Need-cast-is-lower Inv-loop μ-loop
+cast-is-lower c = record { fits = omega (arith, c .shared-slice-known2 .given (c .before .before .before .args .at) .fits) }
 
 is-lower-requires : tie.Need-is-lower-requires Inv-loop μ-loop
 is-lower-requires c κs = search needs
@@ -40,6 +43,9 @@ add-is-name-byte c = omega arith
 
 shared-slice-read-is-name-byte : tie.Need-shared-slice-read-is-name-byte Inv-loop μ-loop
 shared-slice-read-is-name-byte c = omega arith
+
+cast-is-name-byte : tie.Need-cast-is-name-byte Inv-loop μ-loop
+cast-is-name-byte c = record { fits = omega (arith, c .shared-slice-known3 .given (c .before .before .before .before .before .before .before .before .before .args .at + c .before .before .before .loop .n) .fits) }
 
 is-name-byte-requires : tie.Need-is-name-byte-requires Inv-loop μ-loop
 is-name-byte-requires c κs = search needs
@@ -67,6 +73,7 @@ name-length-spec =
     μ-loop
     returns
     shared-slice-read-is-lower
+    cast-is-lower
     is-lower-requires
     returns-2
     loop-holds
@@ -74,6 +81,7 @@ name-length-spec =
     returns-3
     add-is-name-byte
     shared-slice-read-is-name-byte
+    cast-is-name-byte
     is-name-byte-requires
     returns-4
     add-n
