@@ -12,7 +12,7 @@ use lib.ListN.{length, getD, set}
 use lib.Seq.{getD-set-other}
 use borrow.Author.Tests.{eq-eqb, ne-eqb}
 use Rattle.automaton.specs.Hops.{closed, stateIn}
-use Rattle.automaton.specs.Finding.{Found, foundOf, isOpen, enterOne, enterSteps, enterPlace, enterPlaces}
+use Rattle.automaton.specs.Finding.{Found, foundOf, isOpen, Live, enterOne, enterSteps, enterPlace, enterPlaces}
 
 -- Not 0: a row, or closed.
 abbrev pub Filled : Found → ℕ → Type 0
@@ -119,3 +119,19 @@ places-grow hops a b (suc n) m q f = omega (arith, case (eqb (m % 2) 1), places-
     case : (z : Bool) → f .rows ≤ cond z (enterSteps hops (q * 256) a (b - a) f) f .rows
     case true = steps-grow hops (q * 256) (b - a) a f
     case false = omega arith
+
+-- The root's slot before the search.
+pub root-live : (slots live : List ℕ) (start : ℕ) {after : List ℕ} → after ≡ cond (eqb (getD slots start 0) 0) (set slots start 1) slots → Live slots live → Live after live
+unfolding enterOne
+root-live slots live start e l p h = l p h ∙ sym (ap (λ s. isOpen s p) (e ∙ sym (same (eqb (getD slots start 0) 0))) ∙ enter-open start none (few (eqb (getD slots start 0) 0)) p)
+  where
+    none : Found
+    none = foundOf [] slots 0
+
+    same : (b : Bool) → cond b (grown start none) none .slots ≡ cond b (set slots start 1) slots
+    same true = refl
+    same false = refl
+
+    few : (b : Bool) → cond b (grown start none) none .rows ≤ 10496
+    few true = omega arith
+    few false = omega arith
