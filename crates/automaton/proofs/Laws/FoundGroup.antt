@@ -1,13 +1,13 @@
 -- The steps with one label from a row: entering at the places that may have new rows, and adding up the bits of the open places, is taking every hop.
 use mathlib.Core.Path.{_≡_, refl, sym, ap, _∙_, subst}
-use mathlib.Core.Bool.{Bool, true, false}
-use mathlib.Core.List.{List, []}
-use Prim.Native.Nat.{ℕ, _+_, _-_, _*_, _^_, _<_, _≤_}
+use mathlib.Core.Bool.{false}
+use mathlib.Core.List.{List}
+use Prim.Native.Nat.{ℕ, _-_, _^_, _<_, _≤_}
 use native.Mathlib.Omega.{arith}
-use Rattle.automaton.specs.Hops.{Hop, Book, bookOf, hopsTaken, Room, placeHops}
-use Rattle.automaton.specs.Finding.{finding, Found, foundOf, counted, isOpen, Live, Unseen, enterPlaces, edgesWith, freshWith}
+use Rattle.automaton.specs.Hops.{Hop, Book, hopsTaken, Room, placeHops}
+use Rattle.automaton.specs.Finding.{finding, Found, counted, isOpen, Live, Unseen, enterPlaces, edgesWith, freshWith}
 use Rattle.automaton.proofs.Laws.Labels.{RowLeft}
-use Rattle.automaton.proofs.Laws.FoundHops.{Counted, enterAll, opens, hops-count, enters-places}
+use Rattle.automaton.proofs.Laws.FoundHops.{HopsCounted, enterAll, hops-count, enters-places}
 use Rattle.automaton.proofs.Laws.FoundEdges.{edges-open}
 use Rattle.automaton.proofs.Laws.FoundFresh.{fresh-few, fresh-leads}
 
@@ -22,7 +22,7 @@ module _ (hops live : List ℕ) {unseen : List ℕ} (f : Found) (l : Live (f .sl
   edges = edgesWith hops live m a (b - a) e
 
   module _ (room : Room false 0 (hopsTaken finding all (counted f e))) where
-    taken : Counted (isOpen (f .slots)) all f e
+    taken : HopsCounted (isOpen (f .slots)) all f e
     taken = hops-count (isOpen (f .slots)) all f e (λ p. refl) (room .few-rows)
 
     group-is : hopsTaken finding all (counted f e) ≡ counted (enterPlaces hops a b fresh 0 41 f) edges

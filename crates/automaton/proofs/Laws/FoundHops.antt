@@ -2,14 +2,14 @@
 use mathlib.Core.Path.{_≡_, refl, sym, ap, _∙_, subst}
 use mathlib.Core.Bool.{Bool, true, false, cond, not}
 use mathlib.Core.List.{List, [], _∷_, _++_}
-use Prim.Native.Nat.{ℕ, zero, suc, _+_, _-_, _*_, _/_, _%_, _<_, _≤_}
+use Prim.Native.Nat.{ℕ, zero, suc, _+_, _-_, _*_, _/_, _%_, _≤_}
 use native.Mathlib.Nat.{add-zero, add-assoc}
 use native.Mathlib.Decide.{ℕ-discrete}
 use native.Mathlib.Omega.{arith}
 use lib.Dec.{eqb}
 use lib.ListN.{getD}
 use borrow.Author.Tests.{eq-eqb, ne-eqb}
-use Rattle.automaton.specs.Hops.{Hop, hop, Book, closed, hopped, hopsTaken, stateIn, stepHops, placeHop, placeHops}
+use Rattle.automaton.specs.Hops.{Hop, closed, hopped, hopsTaken, stateIn, stepHops, placeHop, placeHops}
 use Rattle.automaton.specs.Finding.{finding, Found, counted, isOpen, enterOne, enterSteps, enterPlace, enterPlaces}
 use Rattle.automaton.proofs.Laws.Hops.{hopped-closed, hopped-new, hopped-old, hops-grow}
 use Rattle.automaton.proofs.Laws.FoundEntered.{enter-new, enter-old, enter-open}
@@ -42,11 +42,11 @@ hop-counts h f e = pick (ℕ-discrete slot closed) (ℕ-discrete slot 0)
     pick (no c) (no d) = hopped-old finding h (counted f e) c d ∙ sym (with (enter-old (h .goal) f d) (ne-eqb slot closed c))
 
 -- All of them, with `op` the positions that are open.
-pub record Counted (op : ℕ → Bool) (l : List Hop) (f : Found) (e : ℕ) : Type 0 where
+pub record HopsCounted (op : ℕ → Bool) (l : List Hop) (f : Found) (e : ℕ) : Type 0 where
   pub counts : hopsTaken finding l (counted f e) ≡ counted (enterAll l f) (e + opens op l)
   pub opened : (p : ℕ) → isOpen (enterAll l f .slots) p ≡ op p
 
-pub hops-count : (op : ℕ → Bool) (l : List Hop) (f : Found) (e : ℕ) → ((p : ℕ) → isOpen (f .slots) p ≡ op p) → hopsTaken finding l (counted f e) .rows ≤ 10496 → Counted op l f e
+pub hops-count : (op : ℕ → Bool) (l : List Hop) (f : Found) (e : ℕ) → ((p : ℕ) → isOpen (f .slots) p ≡ op p) → hopsTaken finding l (counted f e) .rows ≤ 10496 → HopsCounted op l f e
 unfolding hopsTaken
 hops-count op [] f e agree few = record { counts = ap (counted f) (sym (add-zero e)); opened = agree }
 hops-count op (h ∷ l) f e agree few =

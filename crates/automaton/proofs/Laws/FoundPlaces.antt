@@ -1,15 +1,14 @@
 -- The loop over the places of a mask: the zeros below the lowest bit are passed over at once.
 use mathlib.Core.Path.{_≡_, refl, sym, ap, _∙_, subst}
-use mathlib.Core.Bool.{Bool, true, false, cond}
+use mathlib.Core.Bool.{cond}
 use mathlib.Core.List.{List}
 use Prim.Native.Nat.{ℕ, zero, suc, _+_, _-_, _*_, _/_, _%_, _^_, _<_, _≤_}
 use native.Mathlib.Nat.{pow-suc, div-one}
 use native.Mathlib.Omega.{arith}
 use lib.Count.{trailingZeros, under}
-use lib.Dec.{eqb}
 use lib.Pow.{shr-shr}
 use borrow.Author.Tests.{eq-eqb, ne-eqb}
-use Rattle.automaton.specs.Finding.{Found, enterSteps, enterPlace, enterPlaces}
+use Rattle.automaton.specs.Finding.{Found, enterSteps, enterPlaces}
 use Rattle.automaton.proofs.Laws.FoundEntered.{places-grow}
 
 module _ (hops : List ℕ) (a b : ℕ) where
