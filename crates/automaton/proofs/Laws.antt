@@ -18,3 +18,13 @@ pub mod Building
 pub mod LayOut
 pub mod Readied
 pub mod Entries
+pub mod FoundBits
+pub mod FoundLive
+pub mod FoundEntered
+pub mod FoundPlaces
+pub mod FoundHops
+pub mod FoundEdges
+pub mod FoundFresh
+pub mod FoundCount
+pub mod FoundGroup
+pub mod FoundOut

@@ -3,6 +3,8 @@ use labelling::formula_prepared;
 use lts::check::is_prepared;
 
 mod building;
+mod entering;
+mod finding;
 mod hops;
 mod slots;
 mod steps;
