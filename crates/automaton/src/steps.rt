@@ -2,7 +2,7 @@
 use lts::prepared::transition_at;
 ghost use mathlib.Core.Path.{_≡_};
 ghost use mathlib.Core.List.{map};
-ghost use Prim.Native.Nat.{_+_, _-_, _≤_, _<_};
+ghost use Prim.Native.Nat.{_+_, _-_, _/_, _%_, _≤_, _<_};
 ghost use lib.ListN.{length, getD};
 ghost use lib.Seq.{slice};
 ghost use Rattle.lts.specs.Steps.{stepsFrom};
@@ -16,10 +16,23 @@ pub struct Steps {
     pub firsts: [u16; 257],
 }
 
-fn wide(begin: u16) -> usize
-    ensures { λ r. ⌜ r ≡ begin ⌝ }
+pub fn wide(n: u16) -> usize
+    ensures { λ r. ⌜ r ≡ n ⌝ }
 {
-    begin as usize
+    n as usize
+}
+
+pub fn state_of(hop: u16) -> usize
+    ensures { λ r. ⌜ r ≡ hop % 256 ⌝ }
+    ensures { λ r. ⌜ r < 256 ⌝ }
+{
+    (hop % 256) as usize
+}
+
+pub fn label_of(hop: u16) -> usize
+    ensures { λ r. ⌜ r ≡ hop / 256 ⌝ }
+{
+    (hop / 256) as usize
 }
 
 // The transitions from a to before b are put at `at`; where they end.
