@@ -3,7 +3,7 @@ use mathlib.Core.Path.{_≡_}
 use mathlib.Core.Bool.{Bool, cond, _&&_}
 use mathlib.Core.List.{List, [], _∷_}
 use mathlib.Core.Option.{some}
-use Prim.Native.Nat.{ℕ, zero, suc, _≤_, _<_}
+use Prim.Native.Nat.{ℕ, zero, suc, _+_, _*_, _≤_, _<_}
 use lib.Bits.{bitOr}
 use lib.Dec.{eqb}
 use lib.ListN.{length, getD, set, replicate}
@@ -16,11 +16,15 @@ use Rattle.actl.specs.Prepared.{preparedFormula}
 use Rattle.actl.specs.Reading.{unlessFound}
 use Rattle.labelling.specs.Flags.{flagAt}
 use Rattle.listing.specs.Listing.{onLabel}
-use Rattle.words.specs.Targets.{placeIn, maskAt}
+use Rattle.listing.specs.Masks.{bitAt}
 use Rattle.listing.specs.Words.{accepts}
 use Rattle.listing.specs.Bytes.{bitOf}
 use Rattle.words.specs.Replies.{wordReply, badLetter}
 use Rattle.words.specs.declared.WordReply.{WordReply}
+
+-- The target places of place k on label l, as `target_masks` leaves them.
+abbrev pub maskAt : List ℕ → ℕ → ℕ → ℕ
+maskAt masks k l = getD masks (k * 41 + l) 0
 
 -- The places of a state.
 abbrev pub placesAt : List ℕ → ℕ → ℕ
@@ -28,7 +32,7 @@ placesAt reached s = getD reached s 0
 
 -- The target places on l of place k, if it is in a mask, and of the n places from k on that are; with those that are found already.
 abbrev pub targetsAdded : List ℕ → ℕ → ℕ → ℕ → ℕ → ℕ
-targetsAdded masks places l k found = cond (placeIn places k) (bitOr found (maskAt masks k l)) found
+targetsAdded masks places l k found = cond (bitAt places k) (bitOr found (maskAt masks k l)) found
 
 unfoldable pub targetsOf : List ℕ → ℕ → ℕ → ℕ → ℕ → ℕ → ℕ
 targetsOf masks places l zero k found = found
@@ -66,7 +70,7 @@ rootReached t = set nowhere (t .start) 1
 
 -- Some place of a mask is marked; some place of some state is.
 abbrev pub marked : List Bool → ℕ → ℕ → Bool
-marked marks places k = placeIn places k && flagAt marks k
+marked marks places k = bitAt places k && flagAt marks k
 
 abbrev pub someMarked : List Bool → ℕ → Bool
 someMarked marks places = any (marked marks places) (upFrom 0 41)

@@ -1,8 +1,8 @@
 // Whether the automaton accepts a word: the positions that its letters reach, as a mask of places for each state. No rows are built.
-use crate::targets::final_marks;
-use crate::targets::target_masks;
 use actl::walk::shape_of;
 use labelling::formula_prepared;
+use listing::masks::final_places;
+use listing::masks::target_masks;
 use lts::check::is_prepared;
 use lts::names::Found;
 use lts::prepared::first_exits;
@@ -10,9 +10,6 @@ use lts::prepared::label_count;
 use lts::prepared::start_state;
 use lts::prepared::state_count;
 use lts::prepared::transition_at;
-
-mod targets;
-
 ghost use mathlib.Core.Path.{_≡_};
 ghost use Prim.Native.Nat.{_<_, _≤_};
 ghost use lib.ListN.{length, replicate};
@@ -22,8 +19,8 @@ ghost use Rattle.lts.specs.Prepared.{tableLength, tableIn, transitionAt};
 ghost use Rattle.lts.specs.Access.{HoldsTable, ExitsFound, foundIn};
 ghost use Rattle.labelling.specs.Nodes.{HoldsFormula};
 ghost use Rattle.listing.specs.Bytes.{bitOf};
+ghost use Rattle.listing.specs.Masks.{bitAt};
 ghost use Rattle.words.specs.Replies.{badLetter, wordReply, wordReplied};
-ghost use Rattle.words.specs.Targets.{placeIn};
 ghost use Rattle.words.specs.Reached.{targetsAdded, targetsOf, stepTaken, stepsTaken, stateRead, letterRead, wordRead, rootReached, marked, someMarked, someFinal, Letters, Answers, Answered};
 
 // What `accepts` answers. specs/Replies.antt lists the number and the figure of each case.
@@ -61,7 +58,7 @@ fn bad_letter(labels: usize, word: &[u8]) -> Found
 
 fn has(places: u64, k: usize) -> bool
     requires { ⌜ k < 64 ⌝ }
-    ensures { λ r. ⌜ r ≡ placeIn places k ⌝ }
+    ensures { λ r. ⌜ r ≡ bitAt places k ⌝ }
 {
     (places >> k) % 2 == 1
 }
@@ -238,7 +235,7 @@ fn is_accepted(table: &[u8], formula: &[u8], word: &[u8]) -> bool
     let shape = shape_of(formula);
     let ends = shape.ends;
     let masks = target_masks(formula, &ends);
-    let marks = final_marks(formula, &ends);
+    let marks = final_places(formula, &ends);
     let reached = read_word(table, &begins, &masks, word);
     some_final(table, &marks, &reached)
 }

@@ -2,7 +2,7 @@
 use mathlib.Core.Path.{_≡_, refl, sym, ap, _∙_, subst}
 use mathlib.Core.Bool.{cond}
 use lib.Bits.{bitOr}
-use Rattle.words.specs.Targets.{maskAt}
+use Rattle.words.specs.Reached.{maskAt}
 use borrow.Author.Needs.{needs}
 use Rattle.words.proofs.add_targets.Statement.{statement}
 use Rattle.words.proofs.add_targets.Tie as tie
