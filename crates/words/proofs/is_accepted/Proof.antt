@@ -35,18 +35,16 @@ some-final-requires c κs = search needs
 
 returns : tie.Need-returns
 returns c =
-    let start = c .before .before .before .before .before .before .before .before .before .before .before .before .before .before .before .before in
-    let t = tableIn (start .args .table .now) in
-    let masks = c .before .before .before .before .before .before .before .before .target-masks in
-    let marks = c .before .before .before .before .before .before .final-places in
-    let reached = c .before .before .before .read-word in
-    let shape = c .before .before .before .before .before .before .before .before .before .before .before .shape-of in
+    let start = c .before .before .before .before .before .before .before .before .before .before .before .before .before .before .before in
+    let shape = c .before .before .before .before .before .before .before .before .before .before .shape-of in
+    let masks = c .before .before .before .before .before .before .before .target-masks in
+    let finals = c .before .before .before .before .before .final-places in
     record {
       answer = λ F e.
           let p = spells _ _ e (shape .result) (shape .ensures _ F e) in
           c .some-final .ensures
-          ∙ (ap (someFinal t (marks .result)) (reached .ensures)
-          ∙ found-as-accepted t (start .pre .0 .in-range) F (p .few) (masks .result) (masks .ensures F p .0) (marks .result) (marks .ensures F p) (start .args .word .now) (start .pre .1 .1));
+          ∙ (ap (someFinal (finals .result)) (c .before .read-word .ensures)
+          ∙ found-as-accepted (tableIn (start .args .table .now)) (start .pre .0 .in-range) F (p .few) (masks .result) (masks .ensures F p .0) (finals .result) (finals .ensures F p) (start .args .word .now) (start .pre .1 .1));
     }
 
 pub is-accepted-spec : {M : Type 1} → statement M

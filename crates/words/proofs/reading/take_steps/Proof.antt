@@ -1,4 +1,4 @@
--- `take_steps` meets its contract: the steps below k are taken, or the idle step is.
+-- `reading::take_steps` meets its contract: the steps below k are taken, or the idle step is.
 use mathlib.Core.Path.{_≡_, refl, sym, ap, _∙_, subst}
 use Prim.Native.Nat.{ℕ, _≤_, _<_, _+_, _-_, _*_}
 use native.Mathlib.Omega.{arith}
@@ -11,8 +11,8 @@ use Rattle.lts.proofs.Laws.Contents.{transition-in}
 use Rattle.labelling.proofs.Laws.Transitions.{Exits, exits-of, few-transitions}
 use Rattle.words.specs.Reached.{stepTaken, stepsTaken}
 use Rattle.words.proofs.Laws.Left.{step-taken, step-not-taken, steps-one, steps-next, steps-over}
-use Rattle.words.proofs.take_steps.Statement.{statement}
-use Rattle.words.proofs.take_steps.Tie as tie
+use Rattle.words.proofs.reading.take_steps.Statement.{statement}
+use Rattle.words.proofs.reading.take_steps.Tie as tie
 
 abbrev Inv-loop : tie.InvT-loop
 Inv-loop table begins s label places next₀ end k₀ next k = (k ≤ end) × (end ≤ length (tableIn table .transitions)) × (stepsTaken label places (stepsFrom (tableIn table) s) next₀ ≡ stepsTaken label places (slice k end (tableIn table .transitions)) next)
@@ -47,23 +47,15 @@ element-copy-out-k c = search needs
 cast-k : tie.Need-cast-k Inv-loop μ-loop
 cast-k c = let start = c .before .before .before in omega (arith, exits start .ordered, exits start .few, few-transitions _ (start .pre .0))
 
-mul-next : tie.Need-mul-next Inv-loop μ-loop
-mul-next c = search needs
-
-element-copy-out-next : tie.Need-element-copy-out-next Inv-loop μ-loop
-element-copy-out-next c = search needs
-
-mul-next-2 : tie.Need-mul-next-2 Inv-loop μ-loop
-mul-next-2 c = search needs
-
-element-write-next : tie.Need-element-write-next Inv-loop μ-loop
-element-write-next c = search needs
+bring-requires : tie.Need-bring-requires Inv-loop μ-loop
+bring-requires c κs = search needs
 
 returns : tie.Need-returns Inv-loop μ-loop
 returns c =
-    let start = c .before .before .before .before .before .before in
-    step-taken (start .args .label) (start .args .places) (idleAt (start .args .s)) (start .args .next .now) (sym (c .before .if2 .taken))
-    ∙ sym (ap (λ l. stepsTaken (start .args .label) (start .args .places) l (start .args .next .now)) (exits start .idle (c .before .before .if1 .taken)) ∙ steps-one _ _ _ _)
+    let start = c .before .before .before .before .before .before .before in
+    c .bring .ensures
+    ∙ (step-taken (start .args .label) (start .args .places) (idleAt (start .args .s)) (start .args .next .now) (sym (c .before .before .if2 .taken))
+    ∙ sym (ap (λ l. stepsTaken (start .args .label) (start .args .places) l (start .args .next .now)) (exits start .idle (c .before .before .before .if1 .taken)) ∙ steps-one _ _ _ _))
 
 returns-2 : tie.Need-returns-2 Inv-loop μ-loop
 returns-2 c =
@@ -121,10 +113,7 @@ take-steps-spec =
     mul-k
     element-copy-out-k
     cast-k
-    mul-next
-    element-copy-out-next
-    mul-next-2
-    element-write-next
+    bring-requires
     returns
     returns-2
     loop-holds
