@@ -27,10 +27,12 @@ fn targets_of(masks: &[u64; 1681], places: u64, label: usize) -> u64
     ensures { λ r. ⌜ r ≡ targetsOf (now (masks .entry)) places label ⌝ }
 {
     let mut found = 0u64;
-    let mut k = next_bit(places, 0);
+    let mut rest = places;
+    let mut k = next_bit(rest, 0);
     while k < 41 {
         found = found | masks[k * 41 + label];
-        k = next_bit(places, k + 1);
+        rest = rest & (rest - 1);
+        k = next_bit(rest, 0);
     }
     found
 }

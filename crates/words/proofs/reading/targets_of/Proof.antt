@@ -7,15 +7,17 @@ use native.Mathlib.Omega.{arith}
 use lib.Bits.{bitOr}
 use Rattle.listing.specs.Masks.{bitAt}
 use Rattle.words.specs.Reached.{maskAt, targetsAdded, targetsOf}
+use Rattle.words.proofs.Laws.Bits.{BitsFrom, bits-all, bits-some, bits-first, bits-rest}
 use Rattle.words.proofs.Laws.Through.{left, left-over, left-skip, left-turn}
 use Rattle.words.proofs.reading.targets_of.Statement.{statement}
 use Rattle.words.proofs.reading.targets_of.Tie as tie
 
 abbrev Inv-loop : tie.InvT-loop
-Inv-loop masks places label found₀ k₀ found k = (k < 64 → bitAt places k ≡ true) × (targetsOf masks places label ≡ left (targetsAdded masks places label) 41 k found)
+Inv-loop masks places label found₀ rest₀ k₀ found rest k =
+    BitsFrom places k rest × (k < 64 → bitAt places k ≡ true) × (targetsOf masks places label ≡ left (targetsAdded masks places label) 41 k found)
 
 abbrev μ-loop : tie.MeasureT-loop
-μ-loop masks places label found₀ k₀ found k = 41 - k
+μ-loop masks places label found₀ rest₀ k₀ found rest k = 41 - k
 
 idle : (masks : List ℕ) (places label k found : ℕ) → bitAt places k ≡ false → targetsAdded masks places label k found ≡ found
 idle masks places label k found e = ap (λ b. cond b (bitOr found (maskAt masks k label)) found) e
@@ -27,7 +29,7 @@ loop-holds : tie.Need-loop-holds Inv-loop μ-loop
 loop-holds c =
     let a = c .before .args in
     let first = c .next-bit .ensures in
-    (first .found, left-skip (targetsAdded (a .masks .now) (a .places) (a .label)) 41 (bitAt (a .places)) (idle (a .masks .now) (a .places) (a .label)) 0 first)
+    (bits-all (a .places) first, first .found, left-skip (targetsAdded (a .masks .now) (a .places) (a .label)) 41 (bitAt (a .places)) (idle (a .masks .now) (a .places) (a .label)) 0 first)
 
 mul-found : tie.Need-mul-found Inv-loop μ-loop
 mul-found c = omega arith
@@ -41,32 +43,42 @@ mul-found-2 c = omega arith
 element-copy-out-found : tie.Need-element-copy-out-found Inv-loop μ-loop
 element-copy-out-found c = omega arith
 
-add-next-bit : tie.Need-add-next-bit Inv-loop μ-loop
-add-next-bit c = omega arith
+sub-rest : tie.Need-sub-rest Inv-loop μ-loop
+sub-rest c =
+    let loop = c .before .before .loop in
+    let few : loop .k < 64 = omega (arith, c .before .loop-test .taken) in
+    omega (arith, bits-some (loop .inv .0) few (loop .inv .1 few))
 
 next-bit-requires-2 : tie.Need-next-bit-requires-2 Inv-loop μ-loop
 next-bit-requires-2 c κs = omega arith
 
 loop-less : tie.Need-loop-less Inv-loop μ-loop
-loop-less c = omega (arith, c .next-bit2 .ensures .from)
+loop-less c =
+    let loop = c .before .before .before .loop in
+    let few : loop .k < 64 = omega (arith, c .before .before .loop-test .taken) in
+    omega (arith, bits-first (loop .inv .0) few (loop .inv .1 few) (c .next-bit2 .ensures) .from, c .before .before .loop-test .taken)
 
 loop-again : tie.Need-loop-again Inv-loop μ-loop
 loop-again c =
     let a = c .before .before .before .before .before .args in
     let loop = c .before .before .before .loop in
     let taken = c .before .before .loop-test .taken in
-    let first = c .next-bit2 .ensures in
+    let few : loop .k < 64 = omega (arith, taken) in
+    let set = loop .inv .1 few in
+    let next = c .next-bit2 .ensures in
+    let first = bits-first (loop .inv .0) few set next in
     let more = bitOr (loop .found) (maskAt (a .masks .now) (loop .k) (a .label)) in (
+      bits-rest (loop .inv .0) few set next,
       first .found,
-      loop .inv .1
+      loop .inv .2
           ∙ left-turn (targetsAdded (a .masks .now) (a .places) (a .label)) 41 (bitAt (a .places)) (idle (a .masks .now) (a .places) (a .label)) (loop .found) more taken
-          (ap (λ b. cond b more (loop .found)) (loop .inv .0 (omega arith))) first,
+          (ap (λ b. cond b more (loop .found)) set) first,
     )
 
 returns : tie.Need-returns Inv-loop μ-loop
 returns c =
     let a = c .before .before .before .args in
-    sym (c .before .loop .inv .1 ∙ left-over (targetsAdded (a .masks .now) (a .places) (a .label)) 41 (c .before .loop .k) (c .before .loop .found) (c .loop-test .left))
+    sym (c .before .loop .inv .2 ∙ left-over (targetsAdded (a .masks .now) (a .places) (a .label)) 41 (c .before .loop .k) (c .before .loop .found) (c .loop-test .left))
 
 pub targets-of-spec : {M : Type 1} → statement M
 targets-of-spec =
@@ -80,7 +92,7 @@ targets-of-spec =
     add-found
     mul-found-2
     element-copy-out-found
-    add-next-bit
+    sub-rest
     next-bit-requires-2
     loop-less
     loop-again
