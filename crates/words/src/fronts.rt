@@ -59,10 +59,10 @@ pub fn clear(front: &mut [u64; 260])
     front[259] = 0;
 }
 
-fn kept(has: bool, places: u64) -> u64
-    ensures { λ r. ⌜ r ≡ cond has places 0 ⌝ }
+fn kept(marked: bool, places: u64) -> u64
+    ensures { λ r. ⌜ r ≡ cond marked places 0 ⌝ }
 {
-    if has { places } else { 0 }
+    if marked { places } else { 0 }
 }
 
 // Brings places to state s. What its mask says from an earlier letter is no place of it.

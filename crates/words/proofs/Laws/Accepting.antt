@@ -2,15 +2,15 @@
 use mathlib.Core.Path.{_≡_, refl, sym, ap, _∙_, subst}
 use mathlib.Core.Bool.{Bool, true, false, _&&_, _||_}
 use mathlib.Core.List.{List, [], _∷_}
-use Prim.Native.Nat.{ℕ, zero, suc, _≤_, _<_}
+use Prim.Native.Nat.{ℕ, suc, _≤_, _<_}
 use native.Mathlib.Omega.{arith}
 use lib.Dec.{eqb}
-use lib.ListN.{length, getD, length-replicate}
+use lib.ListN.{length, length-replicate}
 use borrow.Author.Tests.{eqb-true, eq-eqb}
-use Rattle.lts.specs.Lists.{upFrom, some}
+use Rattle.lts.specs.Lists.{upFrom}
 use Rattle.lts.specs.Steps.{Table}
 use Rattle.lts.specs.Range.{InRange}
-use Rattle.lts.proofs.Lists.{some-of, some-to, and-true-of, and-true-to, or-true-right, upFrom-of, upFrom-to}
+use Rattle.lts.proofs.Lists.{some-of, some-to, and-true-of, and-true-to, upFrom-of, upFrom-to}
 use Rattle.actl.specs.Formulas.{Formula, size}
 use Rattle.labelling.specs.Flags.{flagAt}
 use Rattle.listing.specs.Places.{Final}

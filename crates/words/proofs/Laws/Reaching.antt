@@ -1,9 +1,9 @@
 -- What a letter reaches: exactly the positions to which the automaton's steps with this label lead.
 use mathlib.Core.Path.{_≡_, refl, sym, ap, _∙_, subst}
-use mathlib.Core.Logic.{_⊎_, inl, inr}
+use mathlib.Core.Logic.{inl, inr}
 use mathlib.Core.Bool.{Bool, true, false, cond, _&&_, _||_}
 use mathlib.Core.List.{List, [], _∷_, List·Memᴰ, List·Memᴰ·head, List·Memᴰ·tail}
-use Prim.Native.Nat.{ℕ, zero, suc, _+_, _≤_, _<_}
+use Prim.Native.Nat.{ℕ, _≤_, _<_}
 use native.Mathlib.Omega.{arith}
 use lib.Bits.{bitOr}
 use lib.Dec.{eqb}
@@ -17,7 +17,7 @@ use Rattle.lts.proofs.Steps.{steps-are}
 use Rattle.actl.specs.Formulas.{Formula, size}
 use Rattle.listing.specs.Listing.{leads, onLabel}
 use Rattle.listing.specs.Masks.{bitAt, MasksOf}
-use Rattle.listing.specs.Positions.{Position, at, Joins}
+use Rattle.listing.specs.Positions.{at, Joins}
 use Rattle.listing.proofs.Laws.MasksFound.{bit-or, bit-zero, target-bit}
 use Rattle.listing.proofs.Moves.{leaving}
 use Rattle.listing.proofs.Tests.{leads-of, leads-to}

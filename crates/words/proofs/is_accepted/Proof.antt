@@ -1,5 +1,5 @@
 -- `is_accepted` meets its contract: what the word reaches has a final place exactly if the word is accepted.
-use mathlib.Core.Path.{_≡_, refl, sym, ap, _∙_, subst}
+use mathlib.Core.Path.{ap, _∙_}
 use Rattle.lts.specs.Prepared.{tableIn}
 use Rattle.labelling.proofs.Laws.Prepared.{formula-long}
 use Rattle.listing.proofs.Laws.Places.{spells}

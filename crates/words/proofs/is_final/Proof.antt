@@ -1,6 +1,6 @@
 -- `is_final` meets its contract, by whether k is among the places.
-use mathlib.Core.Path.{_≡_, refl, sym, ap, _∙_, subst}
-use mathlib.Core.Bool.{false, _&&_}
+use mathlib.Core.Path.{sym, ap, _∙_}
+use mathlib.Core.Bool.{_&&_}
 use Rattle.labelling.specs.Flags.{flagAt}
 use borrow.Author.Needs.{needs}
 use Rattle.words.proofs.is_final.Statement.{statement}

@@ -1,6 +1,6 @@
 -- `some_final` meets its contract: no place below k is final.
-use mathlib.Core.Path.{_≡_, refl, sym, ap, _∙_, subst}
-use Prim.Native.Nat.{ℕ, _≤_, _<_, _+_, _-_, _*_}
+use mathlib.Core.Path.{_≡_, sym, _∙_}
+use Prim.Native.Nat.{_≤_, _-_}
 use native.Mathlib.Omega.{arith}
 use Rattle.words.specs.Reached.{finalIn, someFinal}
 use Rattle.words.proofs.Laws.Left.{anyLeft, any-start, any-found, any-later, any-over}

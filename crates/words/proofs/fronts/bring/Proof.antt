@@ -1,5 +1,5 @@
 -- `fronts::bring` meets its contract: both masks are as they are brought.
-use mathlib.Core.Path.{_≡_, refl, sym, ap, _∙_}
+use mathlib.Core.Path.{_≡_, ap, _∙_}
 use mathlib.Core.Bool.{cond}
 use Prim.Native.Nat.{_+_, _/_, _%_, _^_}
 use lib.Bits.{bitOr}

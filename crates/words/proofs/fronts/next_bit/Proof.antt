@@ -1,5 +1,4 @@
 -- `fronts::next_bit` meets its contract: the zeros below the first bit of what is left after a shift.
-use mathlib.Core.Path.{_≡_}
 use Prim.Native.Nat.{_/_, _^_}
 use native.Mathlib.Omega.{arith}
 use lib.Count.{trailing-le}

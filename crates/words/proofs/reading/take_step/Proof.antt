@@ -1,5 +1,5 @@
 -- `reading::take_step` meets its contract, by whether the step has the label.
-use mathlib.Core.Path.{_≡_, refl, sym, ap, _∙_, subst}
+use mathlib.Core.Path.{_≡_, _∙_, subst}
 use Rattle.lts.specs.Access.{stepIn}
 use Rattle.words.specs.Fronts.{brought}
 use Rattle.words.specs.Reached.{stepTaken}
