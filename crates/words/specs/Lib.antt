@@ -1,3 +1,3 @@
-pub mod Targets
 pub mod Replies
+pub mod Fronts
 pub mod Reached

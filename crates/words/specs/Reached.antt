@@ -1,12 +1,12 @@
--- Reading a word without a listing: the positions reached by its letters, as a mask of places for each state.
+-- Reading a word without a listing: the front that its letters reach.
 use mathlib.Core.Path.{_≡_}
 use mathlib.Core.Bool.{Bool, cond, _&&_}
 use mathlib.Core.List.{List, [], _∷_}
 use mathlib.Core.Option.{some}
-use Prim.Native.Nat.{ℕ, zero, suc, _≤_, _<_}
+use Prim.Native.Nat.{ℕ, _+_, _*_, _≤_, _<_}
 use lib.Bits.{bitOr}
 use lib.Dec.{eqb}
-use lib.ListN.{length, getD, set, replicate}
+use lib.ListN.{length, getD}
 use Rattle.lts.specs.Reply.{Reply, accepted}
 use Rattle.lts.specs.Lists.{upFrom, some as any}
 use Rattle.lts.specs.Steps.{Step, Table, labels, stepsFrom}
@@ -16,63 +16,57 @@ use Rattle.actl.specs.Prepared.{preparedFormula}
 use Rattle.actl.specs.Reading.{unlessFound}
 use Rattle.labelling.specs.Flags.{flagAt}
 use Rattle.listing.specs.Listing.{onLabel}
-use Rattle.words.specs.Targets.{placeIn, maskAt}
+use Rattle.listing.specs.Masks.{bitAt}
 use Rattle.listing.specs.Words.{accepts}
 use Rattle.listing.specs.Bytes.{bitOf}
+use Rattle.words.specs.Fronts.{stateIn, nowhere, emptied, brought, through}
 use Rattle.words.specs.Replies.{wordReply, badLetter}
 use Rattle.words.specs.declared.WordReply.{WordReply}
 
--- The places of a state.
-abbrev pub placesAt : List ℕ → ℕ → ℕ
-placesAt reached s = getD reached s 0
+-- The target places of place k on label l, as `target_masks` leaves them.
+abbrev pub maskAt : List ℕ → ℕ → ℕ → ℕ
+maskAt masks k l = getD masks (k * 41 + l) 0
 
--- The target places on l of place k, if it is in a mask, and of the n places from k on that are; with those that are found already.
+-- The target places of a set of places: with those of place k, if it is in the set; and of all of them.
 abbrev pub targetsAdded : List ℕ → ℕ → ℕ → ℕ → ℕ → ℕ
-targetsAdded masks places l k found = cond (placeIn places k) (bitOr found (maskAt masks k l)) found
+targetsAdded masks places l k found = cond (bitAt places k) (bitOr found (maskAt masks k l)) found
 
-unfoldable pub targetsOf : List ℕ → ℕ → ℕ → ℕ → ℕ → ℕ → ℕ
-targetsOf masks places l zero k found = found
-targetsOf masks places l (suc n) k found = targetsOf masks places l n (suc k) (targetsAdded masks places l k found)
+abbrev pub targetsOf : List ℕ → ℕ → ℕ → ℕ
+targetsOf masks places l = through (targetsAdded masks places l) 41 0 0
 
 -- A step with the label l brings places to the state that it leads to.
 abbrev pub stepTaken : ℕ → ℕ → Step → List ℕ → List ℕ
-stepTaken l places st next = cond (onLabel l st) (set next (st .to) (bitOr (placesAt next (st .to)) places)) next
+stepTaken l places st next = cond (onLabel l st) (brought (st .to) places next) next
 
 unfoldable pub stepsTaken : ℕ → ℕ → List Step → List ℕ → List ℕ
 stepsTaken l places [] next = next
 stepsTaken l places (st ∷ steps) next = stepsTaken l places steps (stepTaken l places st next)
 
--- What a letter brings from the places of state s; and from the n states from s on.
-abbrev pub stateRead : Table → List ℕ → ℕ → ℕ → ℕ → List ℕ → List ℕ
-stateRead t masks places l s next = cond (eqb places 0) next (stepsTaken l (targetsOf masks places l 41 0 0) (stepsFrom t s) next)
+-- What a letter brings from the places of state s; from s, if it has places; and from all states.
+abbrev pub placesRead : Table → List ℕ → ℕ → ℕ → ℕ → List ℕ → List ℕ
+placesRead t masks places l s next = cond (eqb (targetsOf masks places l) 0) next (stepsTaken l (targetsOf masks places l) (stepsFrom t s) next)
 
-unfoldable pub statesRead : Table → List ℕ → List ℕ → ℕ → ℕ → ℕ → List ℕ → List ℕ
-statesRead t masks reached l zero s next = next
-statesRead t masks reached l (suc n) s next = statesRead t masks reached l n (suc s) (stateRead t masks (placesAt reached s) l s next)
+abbrev pub stateRead : Table → List ℕ → List ℕ → ℕ → ℕ → List ℕ → List ℕ
+stateRead t masks reached l s next = cond (stateIn reached s) (placesRead t masks (getD reached s 0) l s next) next
 
-abbrev pub nowhere : List ℕ
-nowhere = replicate 256 0
+abbrev pub letterRead : Table → List ℕ → ℕ → List ℕ → List ℕ → List ℕ
+letterRead t masks l reached next = through (stateRead t masks reached l) 256 0 (emptied next)
 
-abbrev pub letterRead : Table → List ℕ → ℕ → List ℕ → List ℕ
-letterRead t masks l reached = statesRead t masks reached l (t .states) 0 nowhere
-
-unfoldable pub wordRead : Table → List ℕ → List ℕ → List ℕ → List ℕ
-wordRead t masks [] reached = reached
-wordRead t masks (l ∷ w) reached = wordRead t masks w (letterRead t masks l reached)
+-- Two fronts take turns.
+unfoldable pub wordRead : Table → List ℕ → List ℕ → List ℕ → List ℕ → List ℕ
+wordRead t masks [] reached next = reached
+wordRead t masks (l ∷ w) reached next = wordRead t masks w (letterRead t masks l reached next) reached
 
 -- The root at the start state alone.
 abbrev pub rootReached : Table → List ℕ
-rootReached t = set nowhere (t .start) 1
+rootReached t = brought (t .start) 1 nowhere
 
--- Some place of a mask is marked; some place of some state is.
-abbrev pub marked : List Bool → ℕ → ℕ → Bool
-marked marks places k = placeIn places k && flagAt marks k
+-- Some place of a set is final.
+abbrev pub finalIn : List Bool → ℕ → ℕ → Bool
+finalIn finals places k = bitAt places k && flagAt finals k
 
-abbrev pub someMarked : List Bool → ℕ → Bool
-someMarked marks places = any (marked marks places) (upFrom 0 41)
-
-abbrev pub someFinal : Table → List Bool → List ℕ → Bool
-someFinal t marks reached = any (λ s. someMarked marks (placesAt reached s)) (upFrom 0 (t .states))
+abbrev pub someFinal : List Bool → ℕ → Bool
+someFinal finals places = any (finalIn finals places) (upFrom 0 41)
 
 -- Letters that have a mask.
 pub record Letters (w : List ℕ) : Type 0 where

@@ -2,6 +2,7 @@
 use mathlib.Core.Path.{_≡_, refl, sym, ap, _∙_, subst}
 use mathlib.Core.Bool.{Bool, true, false}
 use mathlib.Core.List.{List, [], _∷_}
+use mathlib.Core.Option.{some}
 use Prim.Native.Nat.{ℕ, zero, suc, _+_, _-_, _*_, _^_, _<_, _≤_}
 use native.Mathlib.Numerals.{add-one}
 use native.Mathlib.Decide.{decLt, ℕ-discrete}
@@ -11,15 +12,22 @@ use lib.ListN.{length, getD, set, length-set, replicate}
 use lib.Seq.{getD-set-same, getD-set-other}
 use Rattle.actl.specs.Actions.{silent, labels}
 use Rattle.actl.specs.Formulas.{Formula, tru, not, or, ex, ax, eu, euThen, size, isT, At}
-use Rattle.actl.specs.Prepared.{slotOf, slotAt}
+use Rattle.actl.specs.Prepared.{slotOf, slotAt, preparedFormula}
 use Rattle.actl.specs.Access.{slotOfNode, shaped}
+use Rattle.actl.specs.Walk.{ShapeOf}
+use Rattle.actl.specs.declared.walk.Shape.{Shape}
 use Rattle.actl.specs.declared.node.Node.{Node}
 use Rattle.actl.proofs.Subformulas.{at-node, at-lt}
 use Rattle.actl.proofs.Nodes.{size-pos}
 use Rattle.actl.proofs.Laws.Slots.{node-shaped}
+use Rattle.actl.proofs.Laws.Prepared.{prepared-few, prepared-count, prepared-slot}
 use Rattle.listing.specs.Listing.{nodeAt, final}
 use Rattle.listing.specs.Masks.{targetMask, maskOfNode, finalOfNode, Spells, MasksFit, MasksOf, MasksOn, FinalsOf}
 use Rattle.listing.proofs.Laws.MasksFound.{mask-past, target-fits, node-mask-is, final-past, node-final-is}
+
+-- A prepared formula, with the shape that was found of it.
+pub spells : (n : ℕ) (b : List ℕ) {F : Formula} (e : preparedFormula n b ≡ some F) (s : Shape) → ShapeOf s F → Spells b (s .ends) F
+spells n b e s h = record { count = prepared-count n b e; few = prepared-few n b e; slot = prepared-slot n b e; end = h .ends }
 
 T-by-kind : (f : Formula) → eqb (slotOf f .kind) 1 ≡ isT f
 T-by-kind tru = refl

@@ -1,20 +1,20 @@
--- Loops over letters, places, steps and states, by what is left: a turn takes one away.
-use mathlib.Core.Path.{_≡_, refl, sym, ap, _∙_, subst}
+-- Loops over letters, steps and places, by what is left: a turn takes one away.
+use mathlib.Core.Path.{_≡_, refl, sym, ap, _∙_}
 use mathlib.Core.Bool.{Bool, true, false, cond, _||_}
 use mathlib.Core.List.{List, [], _∷_}
 use mathlib.Core.Option.{Option, none, some}
 use Prim.Native.Nat.{ℕ, zero, suc, _+_, _-_, _≤_, _<_}
 use native.Mathlib.Numerals.{add-one}
 use native.Mathlib.Omega.{arith}
-use lib.Bits.{bitOr}
-use lib.Dec.{eqb, ltb}
-use lib.ListN.{length, getD, set, drop, length-drop}
+use lib.Dec.{ltb}
+use lib.ListN.{length, getD, drop, length-drop}
 use lib.Seq.{drop-cons, slice, slice-cons, slice-empty}
 use borrow.Author.Tests.{lt-ltb, le-ltb, ltb-false, eq-eqb, ne-eqb}
 use Rattle.lts.specs.Lists.{upFrom, some as any}
-use Rattle.lts.specs.Steps.{Step, Table, stepsFrom}
+use Rattle.lts.specs.Steps.{Step, Table}
 use Rattle.words.specs.Replies.{badFrom, badLetter}
-use Rattle.words.specs.Reached.{placesAt, targetsAdded, targetsOf, stepTaken, stepsTaken, stateRead, statesRead, letterRead, wordRead, Letters}
+use Rattle.words.specs.Fronts.{brought}
+use Rattle.words.specs.Reached.{stepTaken, stepsTaken, letterRead, wordRead, Letters}
 
 over : (w : List ℕ) (i : ℕ) → length w ≤ i → drop i w ≡ []
 over w i h = empty (drop i w) (omega (arith, length-drop i w))
@@ -66,25 +66,13 @@ pub letters-few : (labels : ℕ) (w : List ℕ) → labels ≤ 40 → badLetter 
 unfolding badLetter
 letters-few labels w h e = record { few = λ i l. omega (arith, none-bad 1024 0 labels w e i l) }
 
--- Places whose targets are not added yet.
-pub targets-next : (masks : List ℕ) (places l k found : ℕ) → k < 41
-    → targetsOf masks places l (41 - k) k found ≡ targetsOf masks places l (41 - (k + 1)) (k + 1) (targetsAdded masks places l k found)
-unfolding targetsOf
-targets-next masks places l k found h =
-    let more : 41 - k ≡ suc (41 - (k + 1)) = omega arith in
-    ap (λ n. targetsOf masks places l n k found) more ∙ ap (λ j. targetsOf masks places l (41 - (k + 1)) j (targetsAdded masks places l k found)) (sym (add-one k))
-
-pub targets-over : (masks : List ℕ) (places l k found : ℕ) → 41 ≤ k → targetsOf masks places l (41 - k) k found ≡ found
-unfolding targetsOf
-targets-over masks places l k found h = let none-left : 41 - k ≡ 0 = omega arith in ap (λ n. targetsOf masks places l n k found) none-left
-
 -- A step with the label, and one without.
 module _ (l places : ℕ) (st : Step) (next : List ℕ) where
-  pub step-taken : st .label ≡ l → set next (st .to) (bitOr (placesAt next (st .to)) places) ≡ stepTaken l places st next
-  step-taken e = sym (ap (λ b. cond b (set next (st .to) (bitOr (placesAt next (st .to)) places)) next) (eq-eqb (st .label) l e))
+  pub step-taken : st .label ≡ l → brought (st .to) places next ≡ stepTaken l places st next
+  step-taken e = sym (ap (λ b. cond b (brought (st .to) places next) next) (eq-eqb (st .label) l e))
 
   pub step-not-taken : (st .label ≡ l → ⊥) → next ≡ stepTaken l places st next
-  step-not-taken e = sym (ap (λ b. cond b (set next (st .to) (bitOr (placesAt next (st .to)) places)) next) (ne-eqb (st .label) l e))
+  step-not-taken e = sym (ap (λ b. cond b (brought (st .to) places next) next) (ne-eqb (st .label) l e))
 
 pub steps-one : (l places : ℕ) (st : Step) (next : List ℕ) → stepsTaken l places (st ∷ []) next ≡ stepTaken l places st next
 unfolding stepsTaken
@@ -103,35 +91,26 @@ module _ (l places : ℕ) (steps : List Step) (d : Step) (end : ℕ) (few : end 
   unfolding stepsTaken
   steps-over k next e = ap (λ j. stepsTaken l places (slice j end steps) next) e ∙ ap (λ z. stepsTaken l places z next) (slice-empty end steps)
 
--- States that are not read yet.
-module _ (t : Table) (masks reached : List ℕ) (l : ℕ) where
-  abbrev pub statesLeft : ℕ → List ℕ → List ℕ
-  statesLeft s next = statesRead t masks reached l (t .states - s) s next
-
-  pub states-start : (next : List ℕ) → statesRead t masks reached l (t .states) 0 next ≡ statesLeft 0 next
-  states-start next = let same : t .states ≡ t .states - 0 = omega arith in ap (λ n. statesRead t masks reached l n 0 next) same
-
-  pub states-next : (s : ℕ) (next : List ℕ) → s < t .states → statesLeft s next ≡ statesLeft (s + 1) (stateRead t masks (placesAt reached s) l s next)
-  unfolding statesRead
-  states-next s next h =
-      let more : t .states - s ≡ suc (t .states - (s + 1)) = omega arith in
-      ap (λ n. statesRead t masks reached l n s next) more
-      ∙ ap (λ j. statesRead t masks reached l (t .states - (s + 1)) j (stateRead t masks (placesAt reached s) l s next)) (sym (add-one s))
-
-  pub states-over : (s : ℕ) (next : List ℕ) → t .states ≤ s → statesLeft s next ≡ next
-  unfolding statesRead
-  states-over s next h = let none-left : t .states - s ≡ 0 = omega arith in ap (λ n. statesRead t masks reached l n s next) none-left
-
 -- Letters that are not read yet.
-module _ (t : Table) (masks w : List ℕ) (i : ℕ) (reached : List ℕ) where
-  pub word-next : i < length w → wordRead t masks (drop i w) reached ≡ wordRead t masks (drop (i + 1) w) (letterRead t masks (getD w i 0) reached)
+module _ (t : Table) (masks w : List ℕ) (i : ℕ) (reached next : List ℕ) where
+  word-next : i < length w → wordRead t masks (drop i w) reached next ≡ wordRead t masks (drop (i + 1) w) (letterRead t masks (getD w i 0) reached next) reached
   unfolding wordRead
   word-next h =
-      ap (λ v. wordRead t masks v reached) (drop-cons w i 0 h) ∙ ap (λ j. wordRead t masks (drop j w) (letterRead t masks (getD w i 0) reached)) (sym (add-one i))
+      ap (λ v. wordRead t masks v reached next) (drop-cons w i 0 h)
+      ∙ ap (λ j. wordRead t masks (drop j w) (letterRead t masks (getD w i 0) reached next) reached) (sym (add-one i))
 
-  pub word-over : length w ≤ i → wordRead t masks (drop i w) reached ≡ reached
+  pub word-turn : i < length w → (x : List ℕ) → x ≡ letterRead t masks (getD w i 0) reached next → wordRead t masks (drop i w) reached next ≡ wordRead t masks (drop (i + 1) w) x reached
+  word-turn h x e = word-next h ∙ ap (λ y. wordRead t masks (drop (i + 1) w) y reached) (sym e)
+
+  pub word-over : length w ≤ i → wordRead t masks (drop i w) reached next ≡ reached
   unfolding wordRead
-  word-over h = ap (λ v. wordRead t masks v reached) (over w i h)
+  word-over h = ap (λ v. wordRead t masks v reached next) (over w i h)
+
+pub word-turns : (t : Table) (masks w : List ℕ) (i : ℕ) (reached next : List ℕ) → i + 1 < length w → (x y : List ℕ) → x ≡ letterRead t masks (getD w i 0) reached next
+    → y ≡ letterRead t masks (getD w (i + 1) 0) x reached → wordRead t masks (drop i w) reached next ≡ wordRead t masks (drop (i + 2) w) y x
+word-turns t masks w i reached next h x y e d =
+    let two : i + 1 + 1 ≡ i + 2 = omega arith in
+    word-turn t masks w i reached next (omega arith) x e ∙ (word-turn t masks w (i + 1) x reached h y d ∙ ap (λ j. wordRead t masks (drop j w) y x) two)
 
 -- Numbers that are not tested yet.
 abbrev pub anyLeft : (ℕ → Bool) → ℕ → ℕ → Bool
@@ -157,14 +136,3 @@ any-start p n = let same : n ≡ n - 0 = omega arith in ap (λ m. any p (upFrom 
 pub bad-start : (labels : ℕ) (w : List ℕ) → badLetter labels w ≡ badLeft labels w 0
 unfolding badLetter
 bad-start labels w = refl
-
--- A state with places, and one without.
-module _ (t : Table) (masks : List ℕ) (places l s : ℕ) (next : List ℕ) where
-  abbrev brought : List ℕ
-  brought = stepsTaken l (targetsOf masks places l 41 0 0) (stepsFrom t s) next
-
-  pub state-read : (places ≡ 0 → ⊥) → stepsTaken l (targetsOf masks places l 41 0 0) (stepsFrom t s) next ≡ stateRead t masks places l s next
-  state-read h = sym (ap (λ b. cond b next brought) (ne-eqb places 0 h))
-
-  pub state-empty : places ≡ 0 → next ≡ stateRead t masks places l s next
-  state-empty h = sym (ap (λ b. cond b next brought) (eq-eqb places 0 h))

@@ -1,281 +1,182 @@
--- What a letter and a word reach: exactly the positions to which the automaton's steps with these labels lead.
+-- What a letter reaches: exactly the positions to which the automaton's steps with this label lead.
 use mathlib.Core.Path.{_≡_, refl, sym, ap, _∙_, subst}
-use mathlib.Core.Logic.{_⊎_, inl, inr}
-use mathlib.Core.Bool.{Bool, true, false, cond, true≢false, false≢true, _&&_, _||_}
-use mathlib.Core.List.{List, [], _∷_, List·Memᴰ, List·Memᴰ·not-nil, List·Memᴰ·cases-cons, List·Memᴰ·head, List·Memᴰ·tail}
-use Prim.Native.Nat.{ℕ, zero, suc, _+_, _≤_, _<_}
-use native.Mathlib.Decide.{ℕ-discrete}
+use mathlib.Core.Logic.{inl, inr}
+use mathlib.Core.Bool.{Bool, true, false, cond, _&&_, _||_}
+use mathlib.Core.List.{List, [], _∷_, List·Memᴰ, List·Memᴰ·head, List·Memᴰ·tail}
+use Prim.Native.Nat.{ℕ, _≤_, _<_}
 use native.Mathlib.Omega.{arith}
 use lib.Bits.{bitOr}
 use lib.Dec.{eqb}
-use lib.ListN.{length, getD, set, replicate, length-set, length-replicate}
-use lib.Seq.{getD-set-same, getD-set-other}
+use lib.ListN.{length, getD}
 use borrow.Author.Tests.{eqb-true, eq-eqb}
+use Rattle.lts.specs.Lists.{upFrom, some}
 use Rattle.lts.specs.Steps.{Step, Table, IsStep, stepsFrom}
 use Rattle.lts.specs.Range.{InRange}
-use Rattle.lts.proofs.Lists.{or-true-of, or-true-left, or-true-right}
+use Rattle.lts.proofs.Lists.{some-of, some-to, and-true-of, and-true-to, upFrom-of, upFrom-to}
 use Rattle.lts.proofs.Steps.{steps-are}
 use Rattle.actl.specs.Formulas.{Formula, size}
 use Rattle.listing.specs.Listing.{leads, onLabel}
-use Rattle.listing.specs.Positions.{Position, at, Joins}
-use Rattle.words.specs.Targets.{placeIn, maskAt, TargetsFrom}
-use Rattle.words.specs.Reached.{placesAt, targetsAdded, targetsOf, stepTaken, stepsTaken, stateRead, statesRead, nowhere, letterRead}
-use Rattle.listing.proofs.Inside.{step-stays}
+use Rattle.listing.specs.Masks.{bitAt, MasksOf}
+use Rattle.listing.specs.Positions.{at, Joins}
+use Rattle.listing.proofs.Laws.MasksFound.{bit-or, bit-zero, target-bit}
 use Rattle.listing.proofs.Moves.{leaving}
 use Rattle.listing.proofs.Tests.{leads-of, leads-to}
-use Rattle.words.proofs.Laws.Masks.{place-or, place-none}
+use Rattle.words.specs.Fronts.{stateIn, emptied, brought, placesAdded, allPlaces}
+use Rattle.words.specs.Reached.{maskAt, targetsAdded, targetsOf, stepTaken, stepsTaken, placesRead, stateRead, letterRead}
+use Rattle.words.proofs.Laws.Through.{or-none, through-adds, through-good}
+use Rattle.words.proofs.Laws.Fronts.{reachedAt, reached-of, reached-to, and-no, emptied-reached, length-emptied, length-brought, brought-reached}
 
--- A place is in a set; a place of a state is reached.
-abbrev pub Has : ℕ → ℕ → Type 0
-Has m q = placeIn m q ≡ true
-
-abbrev pub ReachedAt : List ℕ → ℕ → ℕ → Type 0
-ReachedAt reached s k = Has (placesAt reached s) k
-
-has-or : (a b q : ℕ) → Has (bitOr a b) q → Has a q ⊎ Has b q
-has-or a b q h = or-true-of (placeIn a q) (placeIn b q) (sym (place-or a b q) ∙ h)
-
-has-left : (a b q : ℕ) → Has a q → Has (bitOr a b) q
-has-left a b q h = place-or a b q ∙ or-true-left (placeIn a q) (placeIn b q) h
-
-has-right : (a b q : ℕ) → Has b q → Has (bitOr a b) q
-has-right a b q h = place-or a b q ∙ or-true-right (placeIn a q) (placeIn b q) h
-
-zeros : (n v : ℕ) → _≡_ {A = ℕ} (getD (replicate n 0) v 0) 0
-zeros zero v = refl
-zeros (suc n) zero = refl
-zeros (suc n) (suc v) = zeros n v
-
-pub not-nowhere : (v q : ℕ) → ReachedAt nowhere v q → ⊥
-not-nowhere v q x = false≢true (sym (place-none q) ∙ (ap (λ m. placeIn m q) (sym (zeros 256 v)) ∙ x))
+-- The places of all states.
+pub all-reached : (front : List ℕ) (q : ℕ) → bitAt (allPlaces front) q ≡ some (λ s. reachedAt front s q) (upFrom 0 256)
+all-reached front q =
+    through-adds (placesAdded front) (λ m. bitAt m q) (λ s. reachedAt front s q) (λ m. Unit {0}) 256 (λ s m h u. tt) (λ s m h u. adds s m (stateIn front s)) 256 0 0 (omega arith) tt
+    ∙ ap (λ b. b || some (λ s. reachedAt front s q) (upFrom 0 256)) (bit-zero q)
+  where
+    adds : (s m : ℕ) (b : Bool) → bitAt (cond b (bitOr m (getD front s 0)) m) q ≡ (bitAt m q || bitAt (cond b (getD front s 0) 0) q)
+    adds s m true = bit-or m (getD front s 0) q
+    adds s m false = or-none (bitAt m q) ∙ ap (λ b. bitAt m q || b) (sym (bit-zero q))
 
 -- The target places of a set of places.
-module _ (F : Formula) (masks : List ℕ) (d : TargetsFrom F 0 masks) (places l : ℕ) (few : l ≤ 40) (q : ℕ) where
-  abbrev Led : Type 0
-  Led = (j : ℕ) × Has places j × (leads F j l q ≡ true)
+module _ (masks : List ℕ) (places l q : ℕ) where
+  abbrev led : ℕ → Bool
+  led k = bitAt places k && bitAt (maskAt masks k l) q
 
-  added-of : (k found : ℕ) → k ≤ 40 → Has (targetsAdded masks places l k found) q → Has found q ⊎ Led
-  added-of k found h = case (placeIn places k) refl
+  targets-led : bitAt (targetsOf masks places l) q ≡ some (λ k. bitAt places k && bitAt (maskAt masks k l) q) (upFrom 0 41)
+  targets-led =
+      through-adds (targetsAdded masks places l) (λ m. bitAt m q) led (λ m. Unit {0}) 41 (λ k m h u. tt) (λ k m h u. adds k m (bitAt places k)) 41 0 0 (omega arith) tt
+      ∙ ap (λ b. b || some led (upFrom 0 41)) (bit-zero q)
     where
-      case : (b : Bool) → placeIn places k ≡ b → Has (cond b (bitOr found (maskAt masks k l)) found) q → Has found q ⊎ Led
-      case false e z = inl z
-      case true e z = elim (has-or found (maskAt masks k l) q z) [ inl x ↦ inl x | inr x ↦ inr (k, e, sym (d .places k l (omega arith) h few .place q) ∙ x) ]
+      adds : (k m : ℕ) (b : Bool) → bitAt (cond b (bitOr m (maskAt masks k l)) m) q ≡ (bitAt m q || (b && bitAt (maskAt masks k l) q))
+      adds k m true = bit-or m (maskAt masks k l) q
+      adds k m false = or-none (bitAt m q)
 
-  added-keep : (k found : ℕ) → Has found q → Has (targetsAdded masks places l k found) q
-  added-keep k found h = case (placeIn places k)
-    where
-      case : (b : Bool) → Has (cond b (bitOr found (maskAt masks k l)) found) q
-      case false = h
-      case true = has-left found (maskAt masks k l) q h
+-- A step with label l enters v.
+abbrev enters : ℕ → ℕ → Step → Bool
+enters l v st = onLabel l st && eqb v (st .to)
 
-  added-new : (k found : ℕ) → k ≤ 40 → Has places k → leads F k l q ≡ true → Has (targetsAdded masks places l k found) q
-  added-new k found h e z =
-      subst (λ b. Has (cond b (bitOr found (maskAt masks k l)) found) q) (sym e)
-      (has-right found (maskAt masks k l) q (d .places k l (omega arith) h few .place q ∙ z))
-
-  targets-of : (n k found : ℕ) → k + n ≤ 41 → Has (targetsOf masks places l n k found) q → Has found q ⊎ Led
-  unfolding targetsOf
-  targets-of zero k found h z = inl z
-  targets-of (suc n) k found h z =
-      elim (targets-of n (suc k) (targetsAdded masks places l k found) (omega arith) z) [ inl x ↦ added-of k found (omega arith) x | inr x ↦ inr x ]
-
-  targets-keep : (n k found : ℕ) → Has found q → Has (targetsOf masks places l n k found) q
-  unfolding targetsOf
-  targets-keep zero k found h = h
-  targets-keep (suc n) k found h = targets-keep n (suc k) (targetsAdded masks places l k found) (added-keep k found h)
-
-  targets-new : (n k found j : ℕ) → k + n ≤ 41 → k ≤ j → j < k + n → Has places j → leads F j l q ≡ true → Has (targetsOf masks places l n k found) q
-  unfolding targetsOf
-  targets-new zero k found j b h i e z = absurd (omega arith)
-  targets-new (suc n) k found j b h i e z = case (ℕ-discrete j k) (λ c. targets-new n (suc k) (targetsAdded masks places l k found) j (omega arith) c (omega arith) e z)
-    where
-      case : Dec (j ≡ k) → (suc k ≤ j → Has (targetsOf masks places l n (suc k) (targetsAdded masks places l k found)) q)
-          → Has (targetsOf masks places l n (suc k) (targetsAdded masks places l k found)) q
-      case (yes c) more =
-          targets-keep n (suc k) (targetsAdded masks places l k found)
-          (added-new k found (omega arith) (subst (λ x. Has places x) c e) (subst (λ x. leads F x l q ≡ true) c z))
-      case (no c) more = more (omega arith)
+spread : (x b c d : Bool) → (x || b && c || b && d) ≡ (x || b && (c || d))
+spread true b c d = refl
+spread false true c d = refl
+spread false false c d = refl
 
 -- What steps bring.
-module _ (l places : ℕ) where
-  length-taken : (st : Step) (next : List ℕ) → length (stepTaken l places st next) ≡ length next
+module _ (l m : ℕ) where
+  length-taken : (st : Step) (next : List ℕ) → length (stepTaken l m st next) ≡ length next
   length-taken st next = case (onLabel l st)
     where
-      case : (b : Bool) → length (cond b (set next (st .to) (bitOr (placesAt next (st .to)) places)) next) ≡ length next
-      case true = length-set next (st .to) (bitOr (placesAt next (st .to)) places)
+      case : (b : Bool) → length (cond b (brought (st .to) m next) next) ≡ length next
+      case true = length-brought (st .to) m next
       case false = refl
 
-  pub length-steps : (steps : List Step) (next : List ℕ) → length (stepsTaken l places steps next) ≡ length next
+  length-steps : (steps : List Step) (next : List ℕ) → length (stepsTaken l m steps next) ≡ length next
   unfolding stepsTaken
   length-steps [] next = refl
-  length-steps (st ∷ steps) next = length-steps steps (stepTaken l places st next) ∙ length-taken st next
+  length-steps (st ∷ steps) next = length-steps steps (stepTaken l m st next) ∙ length-taken st next
 
-  -- A step leads to v and brings place q.
-  pub record Brings (st : Step) (v q : ℕ) : Type 0 where
-    pub labelled : st .label ≡ l
-    pub enters : st .to ≡ v
-    pub brought : Has places q
-
-  module _ (v q : ℕ) where
-    step-of : (st : Step) (next : List ℕ) → st .to < length next → ReachedAt (stepTaken l places st next) v q → ReachedAt next v q ⊎ Brings st v q
-    step-of st next h = case (onLabel l st) refl (ℕ-discrete v (st .to))
+  module _ (v q : ℕ) (few : v < 256) where
+    step-adds : (st : Step) (next : List ℕ) → st .to < 256 → length next ≡ 260 → reachedAt (stepTaken l m st next) v q ≡ (reachedAt next v q || bitAt m q && enters l v st)
+    step-adds st next h e = case (onLabel l st)
       where
-        case : (b : Bool) → onLabel l st ≡ b → Dec (v ≡ st .to) → ReachedAt (cond b (set next (st .to) (bitOr (placesAt next (st .to)) places)) next) v q → ReachedAt next v q ⊎ Brings st v q
-        case false e c z = inl z
-        case true e (no c) z = inl (subst (λ m. Has m q) (getD-set-other next (st .to) v (bitOr (placesAt next (st .to)) places) 0 c) z)
-        case true e (yes c) z =
-            let here : Has (bitOr (placesAt next (st .to)) places) q =
-            subst (λ m. Has m q) (ap (λ x. placesAt (set next (st .to) (bitOr (placesAt next (st .to)) places)) x) c ∙ getD-set-same next (st .to) (bitOr (placesAt next (st .to)) places) 0 h) z in
-            elim (has-or (placesAt next (st .to)) places q here) [
-              | inl x ↦ inl (subst (λ y. ReachedAt next y q) (sym c) x)
-              | inr x ↦ inr (record { labelled = eqb-true (st .label) l e; enters = sym c; brought = x })
-            ]
+        case : (b : Bool) → reachedAt (cond b (brought (st .to) m next) next) v q ≡ (reachedAt next v q || bitAt m q && (b && eqb v (st .to)))
+        case true = brought-reached (st .to) m next h e v q few
+        case false = or-none (reachedAt next v q) ∙ ap (λ b. reachedAt next v q || b) (and-no (bitAt m q))
 
-    step-keep : (st : Step) (next : List ℕ) → st .to < length next → ReachedAt next v q → ReachedAt (stepTaken l places st next) v q
-    step-keep st next h z = case (onLabel l st) (ℕ-discrete v (st .to))
-      where
-        case : (b : Bool) → Dec (v ≡ st .to) → ReachedAt (cond b (set next (st .to) (bitOr (placesAt next (st .to)) places)) next) v q
-        case false c = z
-        case true (no c) = subst (λ m. Has m q) (sym (getD-set-other next (st .to) v (bitOr (placesAt next (st .to)) places) 0 c)) z
-        case true (yes c) =
-            subst (λ m. Has m q) (sym (ap (λ x. placesAt (set next (st .to) (bitOr (placesAt next (st .to)) places)) x) c ∙ getD-set-same next (st .to) (bitOr (placesAt next (st .to)) places) 0 h))
-            (has-left (placesAt next (st .to)) places q (subst (λ y. ReachedAt next y q) c z))
-
-    step-new : (st : Step) (next : List ℕ) → st .to < length next → Brings st v q → ReachedAt (stepTaken l places st next) v q
-    step-new st next h r =
-        subst (λ b. ReachedAt (cond b (set next (st .to) (bitOr (placesAt next (st .to)) places)) next) v q) (sym (eq-eqb (st .label) l (r .labelled)))
-        (subst (λ x. ReachedAt (set next (st .to) (bitOr (placesAt next (st .to)) places)) x q) (r .enters)
-        (subst (λ m. Has m q) (sym (getD-set-same next (st .to) (bitOr (placesAt next (st .to)) places) 0 h)) (has-right (placesAt next (st .to)) places q (r .brought))))
-
-    abbrev Enter : List Step → ℕ → Type 0
-    Enter steps n = (st : Step) → List·Memᴰ st steps → st .to < n
-
-    enter-more : (st : Step) (steps : List Step) (next : List ℕ) → Enter (st ∷ steps) (length next) → Enter steps (length (stepTaken l places st next))
-    enter-more st steps next h x m = omega (arith, h x (List·Memᴰ·tail m), length-taken st next)
-
-    steps-of : (steps : List Step) (next : List ℕ) → Enter steps (length next) → ReachedAt (stepsTaken l places steps next) v q
-        → ReachedAt next v q ⊎ ((st : Step) × List·Memᴰ st steps × Brings st v q)
+    steps-add : (steps : List Step) (next : List ℕ) → ((st : Step) → List·Memᴰ st steps → st .to < 256) → length next ≡ 260
+        → reachedAt (stepsTaken l m steps next) v q ≡ (reachedAt next v q || bitAt m q && some (enters l v) steps)
     unfolding stepsTaken
-    steps-of [] next h z = inl z
-    steps-of (st ∷ steps) next h z = elim (steps-of steps (stepTaken l places st next) (enter-more st steps next h) z) [
-      | inl x ↦ elim (step-of st next (h st (List·Memᴰ·head refl)) x) [ inl y ↦ inl y | inr y ↦ inr (st, List·Memᴰ·head refl, y) ]
-      | inr x ↦ inr (x .0, List·Memᴰ·tail (x .1), x .2)
-    ]
-
-    steps-keep : (steps : List Step) (next : List ℕ) → Enter steps (length next) → ReachedAt next v q → ReachedAt (stepsTaken l places steps next) v q
-    unfolding stepsTaken
-    steps-keep [] next h z = z
-    steps-keep (st ∷ steps) next h z = steps-keep steps (stepTaken l places st next) (enter-more st steps next h) (step-keep st next (h st (List·Memᴰ·head refl)) z)
-
-    steps-new : (steps : List Step) (next : List ℕ) → Enter steps (length next) → (st : Step) → List·Memᴰ st steps → Brings st v q → ReachedAt (stepsTaken l places steps next) v q
-    unfolding stepsTaken
-    steps-new [] next h st m r = absurd (List·Memᴰ·not-nil m)
-    steps-new (x ∷ steps) next h st m r = case (List·Memᴰ·cases-cons m) (λ i. steps-new steps (stepTaken l places x next) (enter-more x steps next h) st i r)
-      where
-        case : (st ≡ x) ⊎ List·Memᴰ st steps → (List·Memᴰ st steps → ReachedAt (stepsTaken l places steps (stepTaken l places x next)) v q) → ReachedAt (stepsTaken l places steps (stepTaken l places x next)) v q
-        case (inl e) more = steps-keep steps (stepTaken l places x next) (enter-more x steps next h) (step-new x next (h x (List·Memᴰ·head refl)) (subst (λ (y : Step). Brings y v q) e r))
-        case (inr i) more = more i
+    steps-add [] next h e = or-none (reachedAt next v q) ∙ ap (λ b. reachedAt next v q || b) (and-no (bitAt m q))
+    steps-add (st ∷ steps) next h e =
+        steps-add steps (stepTaken l m st next) (λ x i. h x (List·Memᴰ·tail i)) (length-taken st next ∙ e)
+        ∙ (ap (λ b. b || bitAt m q && some (enters l v) steps) (step-adds st next (h st (List·Memᴰ·head refl)) e)
+        ∙ spread (reachedAt next v q) (bitAt m q) (enters l v st) (some (enters l v) steps))
 
 -- What a state brings, and all states.
-module _ (t : Table) (w : InRange t) (F : Formula) (masks : List ℕ) (d : TargetsFrom F 0 masks) (l : ℕ) (few : l ≤ 40) where
+module _ (t : Table) (w : InRange t) (masks : List ℕ) (l : ℕ) where
+  step-stays : {st : Step} → IsStep t st → st .from < 256 → st .to < 256
+  step-stays {st} (inl m) h = omega (arith, w .steps-in-range st m .enters, w .few-states)
+  step-stays (inr (e, x)) h = omega (arith, ap (λ (s : Step). s .to) e)
+
+  stay : (s : ℕ) → s < 256 → (st : Step) → List·Memᴰ st (stepsFrom t s) → st .to < 256
+  stay s h st m = let (a, b) = steps-are t s st .0 m in step-stays b (omega (arith, a))
+
   abbrev targetsOn : ℕ → ℕ
-  targetsOn places = targetsOf masks places l 41 0 0
+  targetsOn places = targetsOf masks places l
 
-  length-state : (places s : ℕ) (next : List ℕ) → length (stateRead t masks places l s next) ≡ length next
-  length-state places s next = case (eqb places 0)
+  length-state : (reached : List ℕ) (s : ℕ) (next : List ℕ) → length (stateRead t masks reached l s next) ≡ length next
+  length-state reached s next = let places = getD reached s 0 in case places (stateIn reached s) (eqb (targetsOn places) 0)
     where
-      case : (b : Bool) → length (cond b next (stepsTaken l (targetsOn places) (stepsFrom t s) next)) ≡ length next
-      case true = refl
-      case false = length-steps l (targetsOn places) (stepsFrom t s) next
+      case : (places : ℕ) (b c : Bool) → length (cond b (cond c next (stepsTaken l (targetsOn places) (stepsFrom t s) next)) next) ≡ length next
+      case places false c = refl
+      case places true true = refl
+      case places true false = length-steps l (targetsOn places) (stepsFrom t s) next
 
-  enter : (s : ℕ) (next : List ℕ) → s < t .states → length next ≡ 256 → (st : Step) → List·Memᴰ st (stepsFrom t s) → st .to < length next
-  enter s next h e st m =
-      let (a, b) = steps-are t s st .0 m in
-      omega (arith, step-stays w b (omega (arith, a)), w .few-states)
+  pub length-letter : (reached next : List ℕ) → length next ≡ 260 → length (letterRead t masks l reached next) ≡ 260
+  length-letter reached next e =
+      through-good (stateRead t masks reached l) (λ x. length x ≡ 260) 256 (λ s x h i. length-state reached s x ∙ i) 256 0 (emptied next) (omega arith) (length-emptied next ∙ e)
 
-  module _ (v q : ℕ) where
-    -- Some place of the state leads to the position.
-    abbrev Source : ℕ → ℕ → Type 0
-    Source places s = (j : ℕ) × Has places j × Joins t F (at j s) l (at q v)
+  module _ (v q : ℕ) (few : v < 256) where
+    abbrev brings : List ℕ → ℕ → Bool
+    brings reached s = stateIn reached s && (bitAt (targetsOn (getD reached s 0)) q && some (enters l v) (stepsFrom t s))
 
-    joined : (places s : ℕ) (st : Step) → List·Memᴰ st (stepsFrom t s) → Brings l (targetsOn places) st v q → Source places s
-    joined places s st m r =
-        let (a, b) = steps-are t s st .0 m in
-        let step : IsStep t (record { from = s; label = l; to = v }) =
-        subst (λ (x : ℕ). IsStep t (record { from = s; label = l; to = x })) (r .enters) (subst (λ (y : ℕ). IsStep t (record { from = s; label = y; to = st .to })) (r .labelled) (leaving t a b)) in
-        elim (targets-of F masks d places l few q 41 0 0 (omega arith) (r .brought)) [
-          | inl x ↦ absurd (false≢true (sym (place-none q) ∙ x))
-          | inr x ↦ (x .0, x .1, (step, leads-of F (x .0) l q (x .2)))
-        ]
-
-    brings : (places s : ℕ) (j : ℕ) → j ≤ 40 → Has places j → Joins t F (at j s) l (at q v) → Brings l (targetsOn places) (record { from = s; label = l; to = v }) v q
-    brings places s j h e z = record {
-      labelled = refl;
-      enters = refl;
-      brought = targets-new F masks d places l few q 41 0 0 j (omega arith) (omega arith) (omega arith) e (leads-to F j l q (z .1));
-    }
-
-    state-of : (places s : ℕ) (next : List ℕ) → s < t .states → length next ≡ 256 → ReachedAt (stateRead t masks places l s next) v q → ReachedAt next v q ⊎ Source places s
-    state-of places s next h e = case (eqb places 0)
+    places-add : (places s : ℕ) (next : List ℕ) → s < 256 → length next ≡ 260
+        → reachedAt (placesRead t masks places l s next) v q ≡ (reachedAt next v q || bitAt (targetsOn places) q && some (enters l v) (stepsFrom t s))
+    places-add places s next h e = case (eqb (targetsOn places) 0) refl
       where
-        case : (b : Bool) → ReachedAt (cond b next (stepsTaken l (targetsOn places) (stepsFrom t s) next)) v q → ReachedAt next v q ⊎ Source places s
-        case true z = inl z
-        case false z = elim (steps-of l (targetsOn places) v q (stepsFrom t s) next (enter s next h e) z) [ inl x ↦ inl x | inr x ↦ inr (joined places s (x .0) (x .1) (x .2)) ]
+        case : (b : Bool) → eqb (targetsOn places) 0 ≡ b
+            → reachedAt (cond b next (stepsTaken l (targetsOn places) (stepsFrom t s) next)) v q ≡ (reachedAt next v q || bitAt (targetsOn places) q && some (enters l v) (stepsFrom t s))
+        case true d =
+            let none : bitAt (targetsOn places) q ≡ false = ap (λ m. bitAt m q) (eqb-true (targetsOn places) 0 d) ∙ bit-zero q in
+            or-none (reachedAt next v q) ∙ ap (λ b. reachedAt next v q || b && some (enters l v) (stepsFrom t s)) (sym none)
+        case false d = steps-add l (targetsOn places) v q few (stepsFrom t s) next (stay s h) e
 
-    state-keep : (places s : ℕ) (next : List ℕ) → s < t .states → length next ≡ 256 → ReachedAt next v q → ReachedAt (stateRead t masks places l s next) v q
-    state-keep places s next h e z = case (eqb places 0)
+    state-adds : (reached : List ℕ) (s : ℕ) (next : List ℕ) → s < 256 → length next ≡ 260
+        → reachedAt (stateRead t masks reached l s next) v q ≡ (reachedAt next v q || brings reached s)
+    state-adds reached s next h e = case (stateIn reached s)
       where
-        case : (b : Bool) → ReachedAt (cond b next (stepsTaken l (targetsOn places) (stepsFrom t s) next)) v q
-        case true = z
-        case false = steps-keep l (targetsOn places) v q (stepsFrom t s) next (enter s next h e) z
+        case : (b : Bool) → reachedAt (cond b (placesRead t masks (getD reached s 0) l s next) next) v q
+            ≡ (reachedAt next v q || b && (bitAt (targetsOn (getD reached s 0)) q && some (enters l v) (stepsFrom t s)))
+        case true = places-add (getD reached s 0) s next h e
+        case false = or-none (reachedAt next v q)
 
-    state-new : (places s j : ℕ) (next : List ℕ) → s < t .states → length next ≡ 256 → j ≤ 40 → Has places j → Joins t F (at j s) l (at q v)
-        → ReachedAt (stateRead t masks places l s next) v q
-    state-new places s j next h e i o z = case (eqb places 0) refl
-      where
-        case : (b : Bool) → eqb places 0 ≡ b → ReachedAt (cond b next (stepsTaken l (targetsOn places) (stepsFrom t s) next)) v q
-        case true c = absurd (false≢true (sym (place-none j) ∙ (ap (λ m. placeIn m j) (sym (eqb-true places 0 c)) ∙ o)))
-        case false c =
-            steps-new l (targetsOn places) v q (stepsFrom t s) next (enter s next h e) (record { from = s; label = l; to = v })
-            (steps-are t s (record { from = s; label = l; to = v }) .1 (refl, z .0)) (brings places s j i o z)
+    letter-reached : (reached next : List ℕ) → length next ≡ 260 → reachedAt (letterRead t masks l reached next) v q ≡ some (brings reached) (upFrom 0 256)
+    letter-reached reached next e =
+        through-adds (stateRead t masks reached l) (λ x. reachedAt x v q) (brings reached) (λ x. length x ≡ 260) 256 (λ s x h i. length-state reached s x ∙ i) (λ s x h i. state-adds reached s x h i)
+        256 0 (emptied next) (omega arith) (length-emptied next ∙ e)
+        ∙ ap (λ b. b || some (brings reached) (upFrom 0 256)) (emptied-reached next v q few)
 
-    module _ (reached : List ℕ) where
-      states-of : (n s : ℕ) (next : List ℕ) → s + n ≤ t .states → length next ≡ 256 → ReachedAt (statesRead t masks reached l n s next) v q
-          → ReachedAt next v q ⊎ ((x : ℕ) × (x < t .states) × Source (placesAt reached x) x)
-      unfolding statesRead
-      states-of zero s next h e z = inl z
-      states-of (suc n) s next h e z =
-          elim (states-of n (suc s) (stateRead t masks (placesAt reached s) l s next) (omega arith) (length-state (placesAt reached s) s next ∙ e) z) [
-            | inl x ↦ elim (state-of (placesAt reached s) s next (omega arith) e x) [ inl y ↦ inl y | inr y ↦ inr (s, omega arith, y) ]
-            | inr x ↦ inr x
-          ]
+    -- The same as moves of the automaton, where only places of F are reached.
+    module _ (F : Formula) (small : size F ≤ 40) (d : MasksOf F 0 masks) (few-labels : l ≤ 40) (reached next : List ℕ) (long : length next ≡ 260)
+        (within : (s k : ℕ) → s < 256 → reachedAt reached s k ≡ true → k ≤ size F) where
+      mask-leads : (k : ℕ) → k ≤ size F → bitAt (maskAt masks k l) q ≡ leads F k l q
+      mask-leads k h = ap (λ m. bitAt m q) (d .mask k l (omega arith) h few-labels) ∙ target-bit F k l q
 
-      states-keep : (n s : ℕ) (next : List ℕ) → s + n ≤ t .states → length next ≡ 256 → ReachedAt next v q → ReachedAt (statesRead t masks reached l n s next) v q
-      unfolding statesRead
-      states-keep zero s next h e z = z
-      states-keep (suc n) s next h e z =
-          states-keep n (suc s) (stateRead t masks (placesAt reached s) l s next) (omega arith) (length-state (placesAt reached s) s next ∙ e)
-          (state-keep (placesAt reached s) s next (omega arith) e z)
+      pub letter-of : reachedAt (letterRead t masks l reached next) v q ≡ true → (x : ℕ) × (x < 256) × ((j : ℕ) × (reachedAt reached x j ≡ true) × Joins t F (at j x) l (at q v))
+      letter-of z =
+          let (s, m, a) = some-of (brings reached) (upFrom 0 256) (sym (letter-reached reached next long) ∙ z) in
+          let below : s < 256 = omega (arith, upFrom-of 0 256 m) in
+          let (i, b) = and-true-of (stateIn reached s) _ a in
+          let (g, c) = and-true-of (bitAt (targetsOn (getD reached s 0)) q) _ b in
+          let (st, n, y) = some-of (enters l v) (stepsFrom t s) c in
+          let (e, o) = and-true-of (onLabel l st) (eqb v (st .to)) y in
+          let (k, x, u) = some-of (led masks (getD reached s 0) l q) (upFrom 0 41) (sym (targets-led masks (getD reached s 0) l q) ∙ g) in
+          let (has, goes) = and-true-of (bitAt (getD reached s 0) k) (bitAt (maskAt masks k l) q) u in
+          let from-here = reached-to reached s k i has in
+          let (f, p) = steps-are t s st .0 n in
+          let step : IsStep t (record { from = s; label = l; to = v }) =
+          subst (λ (x : ℕ). IsStep t (record { from = s; label = l; to = x })) (sym (eqb-true v (st .to) o)) (subst (λ (y : ℕ). IsStep t (record { from = s; label = y; to = st .to })) (eqb-true (st .label) l e) (leaving t f p)) in
+          (s, below, (k, from-here, (step, leads-of F k l q (sym (mask-leads k (within s k below from-here)) ∙ goes))))
 
-      states-new : (n s : ℕ) (next : List ℕ) → s + n ≤ t .states → length next ≡ 256 → (x j : ℕ) → s ≤ x → x < s + n → j ≤ 40 → ReachedAt reached x j
-          → Joins t F (at j x) l (at q v) → ReachedAt (statesRead t masks reached l n s next) v q
-      unfolding statesRead
-      states-new zero s next h e x j a b i o z = absurd (omega arith)
-      states-new (suc n) s next h e x j a b i o z =
-          case (ℕ-discrete x s) (λ c. states-new n (suc s) (stateRead t masks (placesAt reached s) l s next) (omega arith) (length-state (placesAt reached s) s next ∙ e) x j c (omega arith) i o z)
-        where
-          case : Dec (x ≡ s) → (suc s ≤ x → ReachedAt (statesRead t masks reached l n (suc s) (stateRead t masks (placesAt reached s) l s next)) v q)
-              → ReachedAt (statesRead t masks reached l n (suc s) (stateRead t masks (placesAt reached s) l s next)) v q
-          case (yes c) more =
-              states-keep n (suc s) (stateRead t masks (placesAt reached s) l s next) (omega arith) (length-state (placesAt reached s) s next ∙ e)
-              (state-new (placesAt reached s) s j next (omega arith) e i (subst (λ y. ReachedAt reached y j) c o) (subst (λ (y : ℕ). Joins t F (at j y) l (at q v)) c z))
-          case (no c) more = more (omega arith)
-
-      pub letter-of : ReachedAt (letterRead t masks l reached) v q → (x : ℕ) × (x < t .states) × ((j : ℕ) × ReachedAt reached x j × Joins t F (at j x) l (at q v))
-      letter-of z = elim (states-of (t .states) 0 nowhere (omega arith) (length-replicate {A = ℕ} 256 0) z) [
-        | inl x ↦ absurd (not-nowhere v q x)
-        | inr x ↦ x
-      ]
-
-      pub letter-to : (x j : ℕ) → x < t .states → j ≤ 40 → ReachedAt reached x j → Joins t F (at j x) l (at q v) → ReachedAt (letterRead t masks l reached) v q
-      letter-to x j h i o z = states-new (t .states) 0 nowhere (omega arith) (length-replicate {A = ℕ} 256 0) x j (omega arith) (omega arith) i o z
+      pub letter-to : (x j : ℕ) → x < 256 → reachedAt reached x j ≡ true → Joins t F (at j x) l (at q v) → reachedAt (letterRead t masks l reached next) v q ≡ true
+      letter-to x j h z (step, moves) =
+          let (i, has) = reached-of reached x j z in
+          let inside = within x j h z in
+          let st : Step = record { from = x; label = l; to = v } in
+          let enter : some (enters l v) (stepsFrom t x) ≡ true =
+          some-to (enters l v) (stepsFrom t x) (steps-are t x st .1 (refl, step)) (and-true-to (onLabel l st) (eqb v v) (eq-eqb l l refl) (eq-eqb v v refl)) in
+          let goes : bitAt (targetsOn (getD reached x 0)) q ≡ true =
+          targets-led masks (getD reached x 0) l q
+          ∙ some-to (led masks (getD reached x 0) l q) (upFrom 0 41) (upFrom-to 0 41 j (omega arith) (omega arith))
+          (and-true-to (bitAt (getD reached x 0) j) (bitAt (maskAt masks j l) q) has (mask-leads j inside ∙ leads-to F j l q moves)) in
+          letter-reached reached next long
+          ∙ some-to (brings reached) (upFrom 0 256) (upFrom-to 0 256 x (omega arith) (omega arith))
+          (and-true-to (stateIn reached x) _ i (and-true-to (bitAt (targetsOn (getD reached x 0)) q) _ goes enter))

@@ -1,5 +1,5 @@
 -- `answer` meets its contract: 13, and else what the word's reading says.
-use mathlib.Core.Path.{_≡_, refl, sym, ap, _∙_, subst}
+use mathlib.Core.Path.{_≡_, sym, ap, _∙_}
 use Rattle.lts.specs.Reply.{accepted}
 use Rattle.lts.specs.Steps.{labels}
 use Rattle.lts.specs.Prepared.{tableIn}

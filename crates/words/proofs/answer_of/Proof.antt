@@ -1,5 +1,5 @@
 -- `answer_of` meets its contract: 1 or 0.
-use mathlib.Core.Path.{_≡_, refl, sym, ap, _∙_, subst}
+use mathlib.Core.Path.{sym, ap}
 use Rattle.lts.specs.Reply.{accepted}
 use Rattle.listing.specs.Bytes.{bitOf}
 use Rattle.words.proofs.answer_of.Statement.{statement}

@@ -1,9 +1,9 @@
 -- `bad_letter` meets its contract: the letters below i are labels.
-use mathlib.Core.Path.{_≡_, refl, sym, ap, _∙_, subst}
-use Prim.Native.Nat.{ℕ, _≤_, _<_, _+_, _-_, _*_}
+use mathlib.Core.Path.{_≡_, sym, _∙_}
+use Prim.Native.Nat.{_≤_, _<_, _-_}
 use native.Mathlib.Omega.{arith}
 use borrow.Author.Needs.{needs}
-use lib.ListN.{length, getD}
+use lib.ListN.{length}
 use Rattle.words.specs.Replies.{badLetter}
 use Rattle.words.proofs.Laws.Left.{badLeft, bad-start, bad-over, bad-full, bad-here, bad-later}
 use Rattle.words.proofs.bad_letter.Statement.{statement}

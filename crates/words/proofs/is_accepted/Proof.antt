@@ -1,8 +1,8 @@
 -- `is_accepted` meets its contract: what the word reaches has a final place exactly if the word is accepted.
-use mathlib.Core.Path.{_≡_, refl, sym, ap, _∙_, subst}
+use mathlib.Core.Path.{ap, _∙_}
 use Rattle.lts.specs.Prepared.{tableIn}
-use Rattle.actl.proofs.Laws.Prepared.{prepared-few}
 use Rattle.labelling.proofs.Laws.Prepared.{formula-long}
+use Rattle.listing.proofs.Laws.Places.{spells}
 use Rattle.words.specs.Reached.{someFinal}
 use Rattle.words.proofs.Laws.Accepting.{found-as-accepted}
 use borrow.Author.Needs.{needs}
@@ -17,13 +17,15 @@ shape-of-requires c κs = formula-long _ _ (c .before .before .before .before .p
 
 target-masks-requires : tie.Need-target-masks-requires
 target-masks-requires c κs =
-    let start = c .before .before .before .before .before .before .before in
-    (record { labels = _; holds = start .pre .1 .0 }, record { arms = λ n. record { arms-end = λ F e. c .before .before .shape-of .ensures n F e .ends } })
+    let H = c .before .before .before .before .before .before .before .pre .1 .0 in
+    let shape = c .before .before .shape-of in
+    (formula-long _ _ H, (H .formula, spells _ _ (H .prepared) (shape .result) (shape .ensures _ _ (H .prepared))))
 
-final-marks-requires : tie.Need-final-marks-requires
-final-marks-requires c κs =
-    let start = c .before .before .before .before .before .before .before .before .before in
-    (record { labels = _; holds = start .pre .1 .0 }, record { arms = λ n. record { arms-end = λ F e. c .before .before .before .before .shape-of .ensures n F e .ends } })
+final-places-requires : tie.Need-final-places-requires
+final-places-requires c κs =
+    let H = c .before .before .before .before .before .before .before .before .before .pre .1 .0 in
+    let shape = c .before .before .before .before .shape-of in
+    (formula-long _ _ H, (H .formula, spells _ _ (H .prepared) (shape .result) (shape .ensures _ _ (H .prepared))))
 
 read-word-requires : tie.Need-read-word-requires
 read-word-requires c κs = search needs
@@ -33,16 +35,16 @@ some-final-requires c κs = search needs
 
 returns : tie.Need-returns
 returns c =
-    let start = c .before .before .before .before .before .before .before .before .before .before .before .before .before .before .before .before in
-    let t = tableIn (start .args .table .now) in
-    let masks = c .before .before .before .before .before .before .before .before .target-masks in
-    let marks = c .before .before .before .before .before .before .final-marks in
-    let reached = c .before .before .before .read-word in
+    let start = c .before .before .before .before .before .before .before .before .before .before .before .before .before .before .before in
+    let shape = c .before .before .before .before .before .before .before .before .before .before .shape-of in
+    let masks = c .before .before .before .before .before .before .before .target-masks in
+    let finals = c .before .before .before .before .before .final-places in
     record {
       answer = λ F e.
+          let p = spells _ _ e (shape .result) (shape .ensures _ F e) in
           c .some-final .ensures
-          ∙ (ap (someFinal t (marks .result)) (reached .ensures)
-          ∙ found-as-accepted t (start .pre .0 .in-range) F (prepared-few _ _ e) (masks .result) (masks .ensures .targets _ F e) (marks .result) (marks .ensures .finals _ F e) (start .args .word .now) (start .pre .1 .1));
+          ∙ (ap (someFinal (finals .result)) (c .before .read-word .ensures)
+          ∙ found-as-accepted (tableIn (start .args .table .now)) (start .pre .0 .in-range) F (p .few) (masks .result) (masks .ensures F p .0) (finals .result) (finals .ensures F p) (start .args .word .now) (start .pre .1 .1));
     }
 
 pub is-accepted-spec : {M : Type 1} → statement M
@@ -52,7 +54,7 @@ is-accepted-spec =
     first-exits-requires
     shape-of-requires
     target-masks-requires
-    final-marks-requires
+    final-places-requires
     read-word-requires
     some-final-requires
     returns)
