@@ -6,6 +6,7 @@ use actl::node::node_count;
 use labelling::conditions::in_set;
 use labelling::conditions::meets;
 use labelling::conditions::passes;
+use labelling::nodes::right_arm;
 ghost use mathlib.Core.Path.{_≡_};
 ghost use Prim.Native.Nat.{_+_, _^_, _<_, _≤_};
 ghost use lib.Dec.{eqb};
@@ -67,25 +68,14 @@ fn node_final(node: Node, arm: bool, other: bool) -> bool
     }
 }
 
-fn wide(byte: u8) -> usize
-    ensures { λ r. ⌜ r ≡ byte ⌝ }
-{
-    byte as usize
-}
-
-// The right arm of node k, if it has one: it stands behind the whole left arm.
-fn right_arm(ends: &[u8; 40], k: usize) -> usize
+// The right arm of node k, if it has one and the number is a place.
+fn other_arm(ends: &[u8; 40], k: usize) -> usize
     requires { ⌜ k < 40 ⌝ }
     ensures { λ r. ⌜ r ≤ 40 ⌝ }
     ensures { λ r. ⌜ (k + 1 < 40 → getD (now (ends .entry)) (k + 1) 0 ≤ 40 → r ≡ getD (now (ends .entry)) (k + 1) 0) ⌝ }
 {
-    if k + 1 < 40 {
-        let r = wide(ends[k + 1]);
-        if r <= 40 {
-            return r;
-        }
-    }
-    40
+    let r = right_arm(ends, k);
+    if r <= 40 { r } else { 40 }
 }
 
 // Whether node k is T.
@@ -110,7 +100,7 @@ fn mask_place(formula: &[u8], ends: &[u8; 40], masks: &mut [u64; 1681], k: usize
     let end = node_count(formula);
     let node = node_at(formula, k);
     let last = is_true(formula, k + 1);
-    let right = right_arm(ends, k);
+    let right = other_arm(ends, k);
     let mut l: usize = 0;
     while l < 41 {
         let arm = masks[(k + 1) * 41 + l];
@@ -146,7 +136,7 @@ pub fn final_places(formula: &[u8], ends: &[u8; 40]) -> [bool; 41]
     while 0 < k {
         k -= 1;
         let arm = finals[k + 1];
-        let other = finals[right_arm(ends, k)];
+        let other = finals[other_arm(ends, k)];
         finals[k] = node_final(node_at(formula, k), arm, other);
     }
     finals

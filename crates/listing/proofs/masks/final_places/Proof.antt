@@ -35,11 +35,11 @@ add-arm c = let d = c .before .before .before .before in omega (arith, place-few
 array-read-arm : tie.Need-array-read-arm Inv-loop μ-loop
 array-read-arm c = let d = c .before .before .before .before in omega (arith, place-few (d .pre .1 .1) (c .before .loop .k - 1) (omega arith))
 
-right-arm-requires : tie.Need-right-arm-requires Inv-loop μ-loop
-right-arm-requires c κs = let d = c .before .before .before .before in place-few (d .pre .1 .1) (c .before .loop .k - 1) (omega arith)
+other-arm-requires : tie.Need-other-arm-requires Inv-loop μ-loop
+other-arm-requires c κs = let d = c .before .before .before .before in place-few (d .pre .1 .1) (c .before .loop .k - 1) (omega arith)
 
 array-read-other : tie.Need-array-read-other Inv-loop μ-loop
-array-read-other c = omega (arith, c .right-arm .ensures .0)
+array-read-other c = omega (arith, c .other-arm .ensures .0)
 
 node-at-requires : tie.Need-node-at-requires Inv-loop μ-loop
 node-at-requires c κs = let d = c .before .before .before .before .before in (d .pre .0, (place-few (d .pre .1 .1) (c .before .before .loop .k - 1) (omega arith), place-shaped (d .pre .1 .1) (c .before .before .loop .k - 1) (omega arith)))
@@ -55,7 +55,7 @@ loop-less c = omega arith
 
 loop-again : tie.Need-loop-again Inv-loop μ-loop
 loop-again c = let l = c .before .before .before .before .loop in
-    (omega arith, λ F p. finals-turn p (l .k - 1) (omega arith) (c .before .before .right-arm .result) (c .before .before .right-arm .ensures .1) (l .finals) (finals-from (c .before .before .before .loop-test .taken) (l .inv .1 F p)) (c .before .node-at .result) (c .before .node-at .ensures) _ (c .node-final .ensures))
+    (omega arith, λ F p. finals-turn p (l .k - 1) (omega arith) (c .before .before .other-arm .result) (c .before .before .other-arm .ensures .1) (l .finals) (finals-from (c .before .before .before .loop-test .taken) (l .inv .1 F p)) (c .before .node-at .result) (c .before .node-at .ensures) _ (c .node-final .ensures))
 
 returns : tie.Need-returns Inv-loop μ-loop
 returns c = let l = c .before .loop in
@@ -73,7 +73,7 @@ final-places-spec =
     sub-k
     add-arm
     array-read-arm
-    right-arm-requires
+    other-arm-requires
     array-read-other
     node-at-requires
     node-final-requires

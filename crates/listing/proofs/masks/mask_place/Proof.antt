@@ -28,8 +28,8 @@ add-is-true c = let d = c .before .before .before in let f = place-few (d .pre .
 is-true-requires : tie.Need-is-true-requires Inv-loop μ-loop
 is-true-requires c κs = c .before .before .before .pre .0 .0
 
-right-arm-requires : tie.Need-right-arm-requires Inv-loop μ-loop
-right-arm-requires c κs = let d = c .before .before .before .before in place-few (d .pre .1 .0 .1) (d .args .k) (d .pre .0 .1)
+other-arm-requires : tie.Need-other-arm-requires Inv-loop μ-loop
+other-arm-requires c κs = let d = c .before .before .before .before in place-few (d .pre .1 .0 .1) (d .args .k) (d .pre .0 .1)
 
 loop-holds : tie.Need-loop-holds Inv-loop μ-loop
 loop-holds c = (omega arith, c .before .before .before .before .before .pre .1 .1)
@@ -50,16 +50,16 @@ element-copy-out-arm : tie.Need-element-copy-out-arm Inv-loop μ-loop
 element-copy-out-arm c = let d = c .before .before .before .before .before .before .before in let f = place-few (d .pre .1 .0 .1) (d .args .k) (d .pre .0 .1) in omega arith
 
 mul-other : tie.Need-mul-other Inv-loop μ-loop
-mul-other c = omega (arith, c .before .before .before .right-arm .ensures .0)
+mul-other c = omega (arith, c .before .before .before .other-arm .ensures .0)
 
 add-other : tie.Need-add-other Inv-loop μ-loop
-add-other c = omega (arith, c .before .before .before .right-arm .ensures .0)
+add-other c = omega (arith, c .before .before .before .other-arm .ensures .0)
 
 mul-other-2 : tie.Need-mul-other-2 Inv-loop μ-loop
-mul-other-2 c = omega (arith, c .before .before .before .right-arm .ensures .0)
+mul-other-2 c = omega (arith, c .before .before .before .other-arm .ensures .0)
 
 element-copy-out-other : tie.Need-element-copy-out-other Inv-loop μ-loop
-element-copy-out-other c = omega (arith, c .before .before .before .right-arm .ensures .0)
+element-copy-out-other c = omega (arith, c .before .before .before .other-arm .ensures .0)
 
 node-mask-requires : tie.Need-node-mask-requires Inv-loop μ-loop
 node-mask-requires c κs = let d = c .before .before .before .before .before .before .before .before .before in let f = place-few (d .pre .1 .0 .1) (d .args .k) (d .pre .0 .1) in (f, (omega (arith, c .before .before .before .before .before .before .before .node-count .ensures, d .pre .1 .0 .1 .count, d .pre .1 .0 .1 .few), omega arith))
@@ -87,7 +87,7 @@ loop-again c = let d = c .before .before .before .before .before .before .before
     let a = d .args in
     let i = c .before .before .before .before .loop in (
       omega arith,
-      λ F p. masks-turn p (a .k) (d .pre .0 .1) (c .before .before .before .before .before .right-arm .result) (c .before .before .before .before .before .right-arm .ensures .1) (i .masks) (i .l) (i .inv .1 F p) (c .before .before .before .loop-test .taken)
+      λ F p. masks-turn p (a .k) (d .pre .0 .1) (c .before .before .before .before .before .other-arm .result) (c .before .before .before .before .before .other-arm .ensures .1) (i .masks) (i .l) (i .inv .1 F p) (c .before .before .before .loop-test .taken)
           (c .before .before .before .before .before .before .before .node-at .result) (c .before .before .before .before .before .before .before .node-at .ensures) (c .before .before .before .before .before .before .before .before .node-count .result) (c .before .before .before .before .before .before .before .before .node-count .ensures) (c .before .before .before .before .before .before .is-true .result) (c .before .before .before .before .before .before .is-true .ensures) _ (c .node-mask .ensures),
     )
 
@@ -106,7 +106,7 @@ mask-place-spec =
     node-at-requires
     add-is-true
     is-true-requires
-    right-arm-requires
+    other-arm-requires
     loop-holds
     add-arm
     mul-arm
