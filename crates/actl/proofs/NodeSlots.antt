@@ -29,7 +29,7 @@ condition-of silent = refl
 condition-of (labels m) = refl
 
 -- The node in a slot, by its kind (docs/FORMATS.md).
-nodeIn : Slot → Node
+unfoldable pub nodeIn : Slot → Node
 nodeIn s =
     cond (eqb (s .kind) 1) True (
     cond (eqb (s .kind) 2) Not (
@@ -40,7 +40,7 @@ nodeIn s =
     cond (eqb (s .kind) 7) (Ax (Labels (s .first))) (
     cond (eqb (s .kind) 8) (Until (s .first)) (UntilThen (s .first) (s .second)))))))))
 
-node-in-slot : (n : Node) → nodeIn (slotOfNode n) ≡ n
+pub node-in-slot : (n : Node) → nodeIn (slotOfNode n) ≡ n
 unfolding nodeIn
 node-in-slot True = refl
 node-in-slot Not = refl

@@ -71,9 +71,9 @@ digits-are (suc k) n b m = step (ltb n 10) refl (digits-are k (n / 10) b) m
         both (inl d) = f d
         both (inr d) = single (n % 10) (omega arith) d
 
-pub column-value : (n : ℕ) → valueFrom 0 (column n) ≡ n
+pub value-column : (n : ℕ) → valueFrom 0 (column n) ≡ n
 unfolding column
-column-value n = value-blanks (6 - length (decimal n)) (decimal n) ∙ digits-value (suc n) n (omega arith)
+value-column n = value-blanks (6 - length (decimal n)) (decimal n) ∙ digits-value (suc n) n (omega arith)
 
 pub column-length : (n : ℕ) → n < 1000000 → length (column n) ≡ 6
 unfolding column
@@ -90,14 +90,14 @@ column-are n b m = both (List·Memᴰ·append-cases (replicate (6 - length (deci
 
 -- Columns that differ hold different numbers.
 pub column-unique : (m n : ℕ) → column m ≡ column n → m ≡ n
-column-unique m n e = sym (column-value m) ∙ (ap (valueFrom 0) e ∙ column-value n)
+column-unique m n e = sym (value-column m) ∙ (ap (valueFrom 0) e ∙ value-column n)
 
 -- A column in a line.
 pub value-here : (n : ℕ) (r : List ℕ) → n < 1000000 → valueAt 0 (column n ++ r) ≡ n
-value-here n r h = ap (valueFrom 0) (take-at (column n) r 6 (column-length n h)) ∙ column-value n
+value-here n r h = ap (valueFrom 0) (take-at (column n) r 6 (column-length n h)) ∙ value-column n
 
 pub value-last : (n : ℕ) → n < 1000000 → valueAt 0 (column n) ≡ n
-value-last n h = ap (valueFrom 0) (take-all 6 (column n) (omega (arith, column-length n h))) ∙ column-value n
+value-last n h = ap (valueFrom 0) (take-all 6 (column n) (omega (arith, column-length n h))) ∙ value-column n
 
 pub value-past : (i n : ℕ) (r : List ℕ) → n < 1000000 → valueAt (6 + i) (column n ++ r) ≡ valueAt i r
 value-past i n r h =

@@ -14,6 +14,7 @@ use Rattle.columns.specs.Bytes.{sameBytes}
 use Rattle.columns.specs.Columns.{digitsWithin, decimal, column, valueFrom, valueAt}
 use Rattle.columns.specs.Read.{columnAt, columnIf, lead}
 use Rattle.columns.specs.declared.Column.the-variants.{Number, Bad}
+pub use Rattle.columns.proofs.Laws.Columns.{column-length, value-column}
 use Rattle.columns.proofs.Laws.Compared.{same-equal, same-of-unequal, unequal-of-same, Each, each-append, each-take}
 
 -- A byte of a column: a blank or a digit.
@@ -42,30 +43,6 @@ unfolding column
 column-wide v = simp (length-append, length-replicate) (omega arith)
 
 -- The number that a column holds.
-value-append : (n : ℕ) (l m : List ℕ) → valueFrom n (l ++ m) ≡ valueFrom (valueFrom n l) m
-value-append n [] m = refl
-value-append n (b ∷ l) m = value-append (n * 10 + (b - 48)) l m
-
-value-blanks : (k : ℕ) → valueFrom 0 (replicate k 32) ≡ 0
-value-blanks zero = refl
-value-blanks (suc k) = value-blanks k
-
-value-digits : (k n : ℕ) → n < k → valueFrom 0 (digitsWithin k n) ≡ n
-unfolding digitsWithin
-value-digits zero n h = absurd (omega arith)
-value-digits (suc k) n h = step (ltb n 10) refl (value-digits k (n / 10))
-  where
-    step : (t : Bool) → ltb n 10 ≡ t → (n / 10 < k → valueFrom 0 (digitsWithin k (n / 10)) ≡ n / 10) → valueFrom 0 (cond t ((48 + n) ∷ []) (digitsWithin k (n / 10) ++ ((48 + n % 10) ∷ []))) ≡ n
-    step true e f = omega arith
-    step false e f =
-        let big = ltb-false n 10 e in
-        let before = f (omega arith) in
-        value-append 0 (digitsWithin k (n / 10)) ((48 + n % 10) ∷ []) ∙ omega arith
-
-pub value-column : (v : ℕ) → valueFrom 0 (column v) ≡ v
-unfolding column
-value-column v = value-append 0 (replicate (6 - length (decimal v)) 32) (decimal v) ∙ rw (value-blanks (6 - length (decimal v))) (value-digits (suc v) v (omega arith))
-
 value-bound : (n : ℕ) (l : List ℕ) → Each Figure l → suc (valueFrom n l) ≤ suc n * 10 ^ length l
 value-bound n [] h = omega arith
 value-bound n (b ∷ l) h =
@@ -131,16 +108,13 @@ pub leads-length : (w n : ℕ) → length (leads w n) ≡ w
 leads-length zero n = refl
 leads-length (suc w) n = length-append (leads w (n / 10)) (lead n ∷ []) ∙ omega (arith, leads-length w (n / 10))
 
-pub column-length : (v : ℕ) → v < 1000000 → length (column v) ≡ 6
-column-length v h = ap length (column-leads v h) ∙ length-append (leads 5 (v / 10)) ((48 + v % 10) ∷ [])
-
 -- What `columnAt` says.
 pub record ColumnAt (s : List ℕ) (at v : ℕ) : Type 0 where
   pub bytes : take 6 (drop at s) ≡ column v
   pub small : v < 1000000
 
-column-value : (s : List ℕ) (at v : ℕ) → take 6 (drop at s) ≡ column v → valueAt at s ≡ v
-column-value s at v e = ap (valueFrom 0) e ∙ value-column v
+value-there : (s : List ℕ) (at v : ℕ) → take 6 (drop at s) ≡ column v → valueAt at s ≡ v
+value-there s at v e = ap (valueFrom 0) e ∙ value-column v
 
 pub column-is-narrow : (l : List ℕ) (v : ℕ) → take 6 l ≡ column v → v < 1000000
 column-is-narrow l v e =
@@ -164,7 +138,7 @@ column-lacking s at v e b = step (sameBytes (take 6 (drop at s)) (column (valueA
   where
     step : (t : Bool) → sameBytes (take 6 (drop at s)) (column (valueAt at s)) ≡ t → columnIf t (valueAt at s) ≡ Bad → ⊥
     step true d h = let z : _≡_ {A = ℕ} 0 1 = cc in omega arith
-    step false d h = unequal-of-same (take 6 (drop at s)) (column (valueAt at s)) d (b ∙ ap column (sym (column-value s at v b)))
+    step false d h = unequal-of-same (take 6 (drop at s)) (column (valueAt at s)) d (b ∙ ap column (sym (value-there s at v b)))
 
 -- When `columnAt` is which.
 column-if-lacking : (s : List ℕ) (at : ℕ) → (take 6 (drop at s) ≡ column (valueAt at s) → ⊥) → Bad ≡ columnAt s at

@@ -19,35 +19,12 @@ use Rattle.actl.specs.declared.node.Condition.{Condition}
 use Rattle.actl.specs.declared.node.Condition.the-variants.{Silent, Labels}
 use Rattle.actl.specs.declared.node.Node.{Node}
 use Rattle.actl.specs.declared.node.Node.the-variants.{True, Not, Or, Ex, Ax, Until, UntilThen}
+use Rattle.actl.proofs.NodeSlots.{nodeIn, node-in-slot}
 use Rattle.actl.proofs.Subformulas.{node-at, at-node, at-lt}
 use Rattle.labelling.specs.Holds.{within, enters, holds}
 use Rattle.labelling.specs.Flags.{flagAt, nodeHolds, Flags}
 use Rattle.labelling.specs.Nodes.{RowRead, RowPut, LabelledFrom}
 use Rattle.labelling.proofs.Laws.Agree.{Agree, some-agree, every-agree, within-agree}
-
--- The node in a slot, by its kind (docs/FORMATS.md).
-unfoldable pub nodeIn : Slot → Node
-nodeIn s =
-    cond (eqb (s .kind) 1) True (
-    cond (eqb (s .kind) 2) Not (
-    cond (eqb (s .kind) 3) Or (
-    cond (eqb (s .kind) 4) (Ex Silent) (
-    cond (eqb (s .kind) 5) (Ex (Labels (s .first))) (
-    cond (eqb (s .kind) 6) (Ax Silent) (
-    cond (eqb (s .kind) 7) (Ax (Labels (s .first))) (
-    cond (eqb (s .kind) 8) (Until (s .first)) (UntilThen (s .first) (s .second)))))))))
-
-pub node-in-slot : (n : Node) → nodeIn (slotOfNode n) ≡ n
-unfolding nodeIn
-node-in-slot True = refl
-node-in-slot Not = refl
-node-in-slot Or = refl
-node-in-slot (Ex Silent) = refl
-node-in-slot (Ex (Labels m)) = refl
-node-in-slot (Ax Silent) = refl
-node-in-slot (Ax (Labels m)) = refl
-node-in-slot (Until a) = refl
-node-in-slot (UntilThen a b) = refl
 
 -- The rows of f's arms say where they hold.
 abbrev pub ArmsAgree : Table → Formula → (ℕ → Bool) → (ℕ → Bool) → Type 0
