@@ -5,6 +5,8 @@ pub mod baseline;
 pub mod bench;
 pub mod columns;
 pub mod compare;
+pub mod corpus;
+pub mod digests;
 pub mod entries;
 pub mod formula;
 pub mod fuzz;

@@ -1,17 +1,20 @@
 //! The commands of the second explainer.
 
 use std::collections::BTreeMap;
+use std::fs;
 use std::io::{self, Write};
 use std::path::Path;
 use std::process::ExitCode;
 use std::time::Instant;
 
+use second::digests::answers::Explainer;
 use second::entries::SECOND;
-use second::{bench, fuzz, link, print, program};
+use second::{bench, corpus, digests, fuzz, link, print, program};
 
 const USAGE: &str = "second explain FOLDER
 second program FILE --seed NUMBER --count NUMBER
 second fuzz --seed NUMBER --count NUMBER
+second digests FILE [--compare STORED | --each ENTRY KIND]
 second bench [ENTRY]";
 
 fn main() -> ExitCode {
@@ -33,6 +36,16 @@ fn main() -> ExitCode {
                 (Ok(seed), Ok(count)) => fuzz(seed, count),
                 _ => usage(),
             }
+        }
+        ["digests", file] => digests(file, |explainer| {
+            print!("{}", digests::file(explainer)?);
+            Ok(ExitCode::SUCCESS)
+        }),
+        ["digests", file, "--compare", stored] => {
+            digests(file, |explainer| compare_digests(explainer, stored))
+        }
+        ["digests", file, "--each", entry, kind] => {
+            digests(file, |explainer| each_digest(explainer, entry, kind))
         }
         ["bench"] => bench(""),
         ["bench", part] if bench::has(part) => bench(part),
@@ -100,6 +113,43 @@ fn fuzz(seed: u64, count: u64) -> ExitCode {
         }
         Ok(()) => ExitCode::SUCCESS,
     }
+}
+
+/// With all of the library and this program; whatever is missing is told and never passed over.
+fn digests(file: &str, work: impl Fn(&Explainer) -> Result<ExitCode, String>) -> ExitCode {
+    let place = std::env::temp_dir().join(format!("second-digests-{}", std::process::id()));
+    let outcome = match Path::new(file).canonicalize() {
+        Err(error) => Err(format!("{file}: {error}")),
+        Ok(program) => work(&Explainer { entries: link::library(), program, place }),
+    };
+    outcome.unwrap_or_else(|told| {
+        eprintln!("second: {told}");
+        ExitCode::from(2)
+    })
+}
+
+fn compare_digests(explainer: &Explainer, stored: &str) -> Result<ExitCode, String> {
+    let begin = Instant::now();
+    let text = fs::read_to_string(stored).map_err(|error| format!("{stored}: {error}"))?;
+    let new = digests::file(explainer)?;
+    Ok(match digests::difference(&text, &new) {
+        Some(told) => {
+            println!("{told}\ndigests: not those of {stored}");
+            ExitCode::FAILURE
+        }
+        None => {
+            let seconds = begin.elapsed().as_secs_f64();
+            println!("digests: those of {stored}, {seconds:.1} s");
+            ExitCode::SUCCESS
+        }
+    })
+}
+
+fn each_digest(explainer: &Explainer, entry: &str, name: &str) -> Result<ExitCode, String> {
+    let kind = corpus::kinds().find(|kind| (kind.entry, kind.name) == (entry, name));
+    let kind = kind.ok_or_else(|| format!("{entry} has no kind {name}"))?;
+    digests::each(explainer, &kind, |line| println!("{line}"))?;
+    Ok(ExitCode::SUCCESS)
 }
 
 /// How often each number was answered.

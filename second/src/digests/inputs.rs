@@ -1,0 +1,67 @@
+//! The digest of the inputs themselves, a buffer by its length and the number that fills it.
+
+use super::line;
+use super::sha256::Sha256;
+use crate::corpus::{File, Input, Kind, Lent};
+
+#[derive(Default)]
+pub struct Inputs {
+    sha: Sha256,
+    count: u64,
+}
+
+impl Inputs {
+    pub fn begin(&mut self, kind: &Kind) {
+        self.bytes(&[kind.entry.as_bytes(), kind.name.as_bytes()]);
+    }
+
+    pub fn add(&mut self, input: &Input) {
+        self.count += 1;
+        match input {
+            Input::ReadTable { text, table } => {
+                self.bytes(&[text]);
+                self.lent(&[table]);
+            }
+            Input::ReadFormula { table, text, formula } => {
+                self.bytes(&[table, text]);
+                self.lent(&[formula]);
+            }
+            Input::Verdict { table, formula } => self.bytes(&[table, formula]),
+            Input::Build { table, formula, rows, edges } => {
+                self.bytes(&[table, formula]);
+                self.lent(&[rows, edges]);
+            }
+            Input::Accepts { table, formula, word } => self.bytes(&[table, formula, word]),
+            Input::Texts { table, formula, rows, edges, word } => {
+                self.bytes(&[table, formula, word]);
+                self.lent(&[rows, edges]);
+            }
+            Input::Program { table, formula } => {
+                self.file(table);
+                self.file(formula);
+            }
+        }
+    }
+
+    pub fn line(self) -> String {
+        line("inputs", "all", self.count, self.sha.digest(), "")
+    }
+
+    fn bytes(&mut self, parts: &[&[u8]]) {
+        parts.iter().for_each(|part| self.sha.part(part));
+    }
+
+    fn lent(&mut self, buffers: &[&Lent]) {
+        for Lent { length, fill } in buffers {
+            self.bytes(&[&(*length as u64).to_le_bytes(), &fill.to_le_bytes()]);
+        }
+    }
+
+    fn file(&mut self, file: &File) {
+        match file {
+            File::Holds(bytes) => self.bytes(&[b"holds", bytes]),
+            File::Missing => self.bytes(&[b"missing"]),
+            File::Folder => self.bytes(&[b"folder"]),
+        }
+    }
+}

@@ -1,0 +1,105 @@
+//! Digests of every reply and every lent byte over the corpus, one line for each kind of input, and
+//! their comparison with the stored ones.
+
+pub mod answers;
+mod inputs;
+pub mod sha256;
+
+use std::collections::BTreeMap;
+
+use crate::corpus::{Input, Kind, kinds};
+use answers::Explainer;
+use inputs::Inputs;
+use sha256::{Sha256, hex};
+
+pub const HEADING: &str = "\
+# The corpus base (second/src/corpus) and what is answered to it, one line for each kind of input.
+# Entry, kind, inputs, SHA-256 of their digests in turn, how often each number was answered.
+# An input's digest is over the reply, the count of edges and every lent byte after the call, or
+# over the program's outputs and exit code. The first line is over the inputs themselves.
+";
+
+fn line(entry: &str, kind: &str, count: u64, digest: [u8; 32], numbers: &str) -> String {
+    let line = format!("{entry:<12}  {kind:<30}  {count:>6}  {}  {numbers}", hex(&digest));
+    line.trim_end().to_owned()
+}
+
+/// Of one kind; each input is shown before it is answered.
+pub fn kind_line(
+    explainer: &Explainer,
+    kind: &Kind,
+    mut seen: impl FnMut(&Input),
+) -> Result<String, String> {
+    let mut sha = Sha256::default();
+    let mut numbers: BTreeMap<u32, u64> = BTreeMap::new();
+    for input in kind.inputs() {
+        seen(&input);
+        let answer = explainer.answer(&input)?;
+        sha.add(&answer.digest);
+        *numbers.entry(answer.number).or_default() += 1;
+    }
+    let numbers: Vec<String> =
+        numbers.iter().map(|(number, times)| format!("{number}:{times}")).collect();
+    Ok(line(kind.entry, kind.name, kind.count, sha.digest(), &numbers.join(" ")))
+}
+
+/// One line for each input: index, number, figure, digest.
+pub fn each(
+    explainer: &Explainer,
+    kind: &Kind,
+    mut tell: impl FnMut(String),
+) -> Result<(), String> {
+    for (index, input) in kind.inputs().enumerate() {
+        let answer = explainer.answer(&input)?;
+        let (number, figure, digest) = (answer.number, answer.figure, hex(&answer.digest));
+        tell(format!("{index:>6}  {number:>2}  {figure:>6}  {digest}"));
+    }
+    Ok(())
+}
+
+/// The whole file.
+pub fn file(explainer: &Explainer) -> Result<String, String> {
+    let mut inputs = Inputs::default();
+    let mut lines = Vec::new();
+    for kind in kinds() {
+        inputs.begin(&kind);
+        lines.push(kind_line(explainer, &kind, |input| inputs.add(input))?);
+    }
+    Ok(format!("{HEADING}{}\n{}\n", inputs.line(), lines.join("\n")))
+}
+
+/// The line of all inputs, whatever is answered to them: it changes only if the generator does.
+pub fn inputs_line() -> String {
+    let mut inputs = Inputs::default();
+    for kind in kinds() {
+        inputs.begin(&kind);
+        kind.inputs().for_each(|input| inputs.add(&input));
+    }
+    inputs.line()
+}
+
+/// The lines that differ, stored ones after `-`, new ones after `+`. None if both have the same
+/// lines in the same order, whatever the comments say.
+pub fn difference(stored: &str, new: &str) -> Option<String> {
+    let [stored, new] = [stored, new].map(digest_lines);
+    if stored == new {
+        return None;
+    }
+    let key = |line: &str| line.split_whitespace().take(2).collect::<Vec<_>>().join(" ");
+    let mut told = Vec::new();
+    for line in stored.iter().filter(|line| !new.contains(line)) {
+        told.push(format!("- {line}"));
+        let others = new.iter().filter(|other| key(other) == key(line));
+        told.extend(others.map(|other| format!("+ {other}")));
+    }
+    let is_stored = |line: &str| stored.iter().any(|other| key(other) == key(line));
+    told.extend(new.iter().filter(|line| !is_stored(line)).map(|line| format!("+ {line}")));
+    if told.is_empty() {
+        told.push("the same lines stand in another order, or more than once".to_owned());
+    }
+    Some(told.join("\n"))
+}
+
+fn digest_lines(file: &str) -> Vec<&str> {
+    file.lines().filter(|line| !line.starts_with('#') && !line.trim().is_empty()).collect()
+}

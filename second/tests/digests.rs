@@ -1,0 +1,182 @@
+//! The stored digests: of the same inputs, with every refusal among the answers, and no change of
+//! an answer passes.
+
+use std::collections::BTreeSet;
+use std::path::PathBuf;
+
+use second::corpus::{Kind, kinds};
+use second::digests::answers::Explainer;
+use second::digests::{self, difference};
+use second::entries::{self, Entries, SECOND};
+use second::reply::Reply;
+
+const STORED: &str = include_str!("../corpus/base.txt");
+
+fn lines() -> Vec<&'static str> {
+    STORED.lines().filter(|line| !line.starts_with('#')).collect()
+}
+
+fn explainer(entries: Entries) -> Explainer {
+    Explainer { entries, program: PathBuf::new(), place: PathBuf::new() }
+}
+
+fn kind(entry: &str, name: &str) -> Kind {
+    kinds().find(|kind| (kind.entry, kind.name) == (entry, name)).expect("a kind")
+}
+
+/// The inputs of a kind to which two explainers' digests differ.
+fn differing(entries: Entries, entry: &str, name: &str) -> usize {
+    let each = |entries| {
+        let mut lines = Vec::new();
+        let told = |line: String| lines.push(line[line.len() - 64..].to_owned());
+        digests::each(&explainer(entries), &kind(entry, name), told).expect("all entries");
+        lines
+    };
+    each(SECOND).iter().zip(each(entries)).filter(|(one, other)| *one != other).count()
+}
+
+#[test]
+fn the_inputs_are_those_of_the_stored_digests() {
+    assert_eq!(digests::inputs_line(), lines()[0]);
+}
+
+#[test]
+fn the_second_explainer_has_the_stored_digests() {
+    let second = explainer(SECOND);
+    for kind in kinds().filter(|kind| kind.entry != "program") {
+        let line = digests::kind_line(&second, &kind, |_| ()).expect("all entries");
+        assert!(lines().contains(&line.as_str()), "{line}");
+    }
+}
+
+#[test]
+fn every_kind_has_a_stored_line_and_no_line_is_without_a_kind() {
+    let words = |line: &str| line.split_whitespace().take(3).map(str::to_owned).collect();
+    let stored: Vec<Vec<String>> = lines()[1..].iter().map(|line| words(line)).collect();
+    let known =
+        kinds().map(|kind| vec![kind.entry.into(), kind.name.into(), kind.count.to_string()]);
+    assert_eq!(stored, known.collect::<Vec<Vec<String>>>());
+}
+
+#[test]
+fn every_refusal_of_every_entry_is_among_the_answers() {
+    let numbers = |entry: &str| -> BTreeSet<u32> {
+        let lines =
+            lines().into_iter().filter(|line| line.split_whitespace().next() == Some(entry));
+        let answers = lines.flat_map(|line| line.split_whitespace().skip(4));
+        answers
+            .map(|answer| answer.split(':').next().expect("a word").parse().expect("a number"))
+            .collect()
+    };
+    let expected: [(&str, &[u32]); 6] = [
+        ("read_table", &[0, 1, 2, 3, 4, 14]),
+        ("read_formula", &[0, 5, 6, 7, 8, 9, 10, 14]),
+        ("verdict", &[0, 10, 14]),
+        ("build", &[0, 10, 11, 12, 14]),
+        ("accepts", &[0, 10, 13, 14]),
+        ("program", &[0, 1, 2, 3, 4, 5, 6, 7, 8, 9, 11, 12]),
+    ];
+    for (entry, expected) in expected {
+        let missing = expected.iter().find(|number| !numbers(entry).contains(number));
+        assert_eq!(missing, None, "{entry}");
+    }
+}
+
+#[test]
+fn a_byte_written_on_a_refusal_changes_its_inputs() {
+    let read_table: entries::ReadTable = |text, table| {
+        let reply = entries::read_table(text, table);
+        if let (14, Some(byte)) = (reply.number, table.first_mut()) {
+            *byte ^= 1;
+        }
+        reply
+    };
+    let wrong = Entries { read_table: Some(read_table), ..SECOND };
+    assert!(differing(wrong, "read_table", "buffer-short") > 300);
+    assert_eq!(differing(wrong, "read_table", "not-above"), 0);
+}
+
+#[test]
+fn a_count_of_edges_written_on_a_refusal_changes_its_inputs() {
+    let build: entries::Build = |table, formula, rows, edges, edge_count| {
+        let reply = entries::build(table, formula, rows, edges, edge_count);
+        *edge_count = if reply.number == 12 { reply.figure } else { *edge_count };
+        reply
+    };
+    let wrong = Entries { build: Some(build), ..SECOND };
+    assert!(differing(wrong, "build", "few-edges-with-exits") > 100);
+    assert_eq!(differing(wrong, "build", "m-with-exits"), 0);
+}
+
+#[test]
+fn another_letter_for_idle_steps_changes_tables_with_states_without_exits_only() {
+    // 99 in place of 0 where an edge leaves a row whose state has no transition.
+    let build: entries::Build = |table, formula, rows, edges, edge_count| {
+        let reply = entries::build(table, formula, rows, edges, edge_count);
+        let steps = u16::from_le_bytes([table[3], table[4]]) as usize;
+        let has_exit = |state| table[646..].chunks(3).take(steps).any(|step| step[0] == state);
+        if reply.number == 0 {
+            for edge in edges.chunks_mut(5).take(*edge_count as usize) {
+                let row = 3 * u16::from_le_bytes([edge[0], edge[1]]) as usize;
+                edge[2] = if has_exit(rows[row + 1]) { edge[2] } else { 99 };
+            }
+        }
+        reply
+    };
+    let wrong = Entries { build: Some(build), ..SECOND };
+    assert_eq!(differing(wrong, "build", "small-with-exits-class-1"), 0);
+    assert_eq!(differing(wrong, "build", "small-with-exits-class-2"), 0);
+    assert!(differing(wrong, "build", "small-some-without-class-1") > 100);
+    assert!(differing(wrong, "build", "small-some-without-class-2") > 100);
+}
+
+#[test]
+fn a_layout_of_prepared_bytes_is_no_part_of_what_texts_show() {
+    const KEY: u8 = 0x55;
+    fn turned(bytes: &[u8]) -> Vec<u8> {
+        bytes.iter().map(|byte| byte ^ KEY).collect()
+    }
+    fn turn(bytes: &mut [u8]) {
+        bytes.iter_mut().for_each(|byte| *byte ^= KEY);
+    }
+    fn kept(reply: Reply, buffer: &mut [u8]) -> Reply {
+        turn(buffer);
+        reply
+    }
+    let other = Entries {
+        read_table: Some(|text, table| kept(entries::read_table(text, table), table)),
+        read_formula: Some(|table, text, formula| {
+            kept(entries::read_formula(&turned(table), text, formula), formula)
+        }),
+        verdict: Some(|table, formula| entries::verdict(&turned(table), &turned(formula))),
+        build: Some(|table, formula, rows, edges, count| {
+            entries::build(&turned(table), &turned(formula), rows, edges, count)
+        }),
+        accepts: Some(|table, formula, word| {
+            entries::accepts(&turned(table), &turned(formula), word)
+        }),
+    };
+    assert_eq!(differing(other, "texts", "small-some-without-class-2"), 0);
+}
+
+#[test]
+fn an_entry_or_a_program_that_is_missing_is_not_passed_over() {
+    let none = explainer(Entries::default());
+    for kind in kinds() {
+        assert!(none.answer(&kind.input(0)).is_err(), "{} {}", kind.entry, kind.name);
+    }
+}
+
+#[test]
+fn a_changed_missing_or_surplus_line_is_told() {
+    let (first, second) = (lines()[1], lines()[2]);
+    let changed = first.replace("0:", "1:");
+    let both = format!("# any comment\n{first}\n{second}\n");
+    assert_eq!(difference(&both, &format!("{first}\n{second}\n")), None);
+    let told = |stored: &str, new: &str| difference(stored, new).expect("a difference");
+    assert_eq!(told(first, &changed), format!("- {first}\n+ {changed}"));
+    assert_eq!(told(&both, first), format!("- {second}"));
+    assert_eq!(told(first, &both), format!("+ {second}"));
+    assert!(told(&both, &format!("{both}{second}")).contains("more than once"));
+    assert!(told("", &both).contains(first));
+}
