@@ -26,7 +26,7 @@ use Rattle.labelling.specs.Satisfaction.{Sat}
 use Rattle.labelling.proofs.Satisfaction.{holds-is-satisfaction}
 use Rattle.listing.specs.Positions.{Position, rootAt, Walk}
 use Rattle.listing.specs.Explains.{Explains}
-use Rattle.listing.specs.Listing.{finalOf, final, leadsOf, leads, targets, canFinish, numberOf, same, movesTo, movesOn, movesFrom, visit, visits, expand, search, positions, movesUpto, Listing, listing}
+use Rattle.listing.specs.Listing.{finalOf, final, leadsOf, leads, targets, canFinish, numberOf, same, movesToAmong, movesOnAmong, movesFromAmong, visit, visits, expandAmong, searchAmong, positionsAmong, movesUptoAmong, Listing, listing}
 use Rattle.listing.specs.Listed.{placed}
 use Rattle.listing.specs.Words.{Accepts}
 use Rattle.listing.proofs.Explains.{explains-is-walk}
@@ -120,7 +120,7 @@ pub right-of-test : (l : Line) → isRight l ≡ true → IsRight l
 right-of-test l e = right l (readTable (l .table)) refl e
 
 starred-tested : every isRight starred ≡ true
-unfolding readTable readLabels readTransitions column digitsWithin readFormula findFrom maskOf classOf highestWithoutClass holds within stepsFrom meets passes inSet silent listing positions search expand visits visit movesUpto movesFrom movesOn movesTo numberOf canFinish targets leads leadsOf final finalOf
+unfolding readTable readLabels readTransitions column digitsWithin readFormula findFrom maskOf classOf highestWithoutClass holds within stepsFrom meets passes inSet silent listing positionsAmong searchAmong expandAmong visits visit movesUptoAmong movesFromAmong movesOnAmong movesToAmong numberOf canFinish targets leads leadsOf final finalOf
 starred-tested = refl
 
 -- Every starred line is right, from its texts.

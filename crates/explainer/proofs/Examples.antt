@@ -13,7 +13,7 @@ use Rattle.actl.specs.Actions.{inSet, maskOf, meets, passes}
 use Rattle.actl.specs.Formulas.{classOf, highestWithoutClass}
 use Rattle.actl.specs.Reading.{readFormula}
 use Rattle.labelling.specs.Holds.{holds, within}
-use Rattle.listing.specs.Listing.{finalOf, final, leadsOf, leads, targets, canFinish, numberOf, movesTo, movesOn, movesFrom, visit, visits, expand, search, positions, movesUpto, listing}
+use Rattle.listing.specs.Listing.{finalOf, final, leadsOf, leads, targets, canFinish, numberOf, movesToAmong, movesOnAmong, movesFromAmong, visit, visits, expandAmong, searchAmong, positionsAmong, movesUptoAmong, listing}
 use Rattle.explainer.specs.Printed.{printed, explainText}
 
 -- 01's listing for `EU[*;ack] T` over table M, number for number.
@@ -27,7 +27,7 @@ listing-of-M : explainText M-lines (ended (ascii "EU[*;ack] T"))
     ∷ "     1     2     0"
     ∷ "     1     2     2"
     ∷ [])
-unfolding explainText printed listing positions search expand visits visit movesUpto movesFrom movesOn movesTo numberOf canFinish targets leads leadsOf final finalOf holds within stepsFrom meets passes inSet classOf silent readTable readLabels readTransitions column digitsWithin readFormula findFrom maskOf highestWithoutClass
+unfolding explainText printed listing positionsAmong searchAmong expandAmong visits visit movesUptoAmong movesFromAmong movesOnAmong movesToAmong numberOf canFinish targets leads leadsOf final finalOf holds within stepsFrom meets passes inSet classOf silent readTable readLabels readTransitions column digitsWithin readFormula findFrom maskOf highestWithoutClass
 listing-of-M = refl
 
 -- A refusal prints one line.

@@ -1,6 +1,6 @@
 -- Worked examples: words of the automaton, run.
 use mathlib.Core.Path.{_≡_, refl}
-use mathlib.Core.Bool.{true, false}
+use mathlib.Core.Bool.{Bool, true, false}
 use mathlib.Core.List.{List, [], _∷_}
 use Prim.Native.Nat.{ℕ}
 use Rattle.columns.specs.Ascii.{ascii}
@@ -9,7 +9,8 @@ use Rattle.lts.proofs.Examples.{M, step}
 use Rattle.actl.specs.Actions.{silent as silentStep, labels, inSet, meets, passes}
 use Rattle.actl.specs.Formulas.{Formula, tru, or, ex, eu, euThen, classOf}
 use Rattle.labelling.specs.Holds.{holds, within}
-use Rattle.listing.specs.Listing.{finalOf, final, leadsOf, leads, targets, canFinish, numberOf, movesTo, movesOn, movesFrom, visit, visits, expand, search, positions, movesUpto, Listing, listing}
+use Rattle.listing.specs.Listing.{finalOf, final, leadsOf, leads, targets, canFinish, numberOf, movesToAmong, movesOnAmong, movesFromAmong, visit, visits, expandAmong, searchAmong, positionsAmong, movesUptoAmong, Row, Edge, Listing, listing}
+use Rattle.listing.specs.DeadEnds.{wholeListing, dropDeadEnds, rowFinishes}
 use Rattle.listing.specs.Words.{acceptsFrom, accepts}
 
 -- One state with loops a, b, c (labels 1, 2, 3).
@@ -38,5 +39,35 @@ abbrev bare : Listing
 bare = record { rows = record { place = 0; state = 0; final = false } ∷ []; edges = [] }
 
 one-bare-row : listing M (euThen 6 0 tru) ≡ bare
-unfolding listing positions search expand visits visit movesUpto movesFrom movesOn movesTo numberOf canFinish targets leads leadsOf final finalOf holds within stepsFrom meets passes inSet classOf silent
+unfolding listing positionsAmong searchAmong expandAmong visits visit movesUptoAmong movesFromAmong movesOnAmong movesToAmong numberOf canFinish targets leads leadsOf final finalOf holds within stepsFrom meets passes inSet classOf silent
 one-bare-row = refl
+
+-- From state 0 label a (1) leads to states 1 and 2, and only state 1 has a step b (2): for EX[a] EX[b] T state 2 is a dead end. Row 2 is dropped,
+-- and row 3 becomes row 2.
+abbrev fork : Table
+fork = record {
+  states = 3;
+  names = ascii "a" ∷ ascii "b" ∷ [];
+  transitions = step 0 1 1 ∷ step 0 1 2 ∷ step 1 2 1 ∷ [];
+  start = 0;
+}
+
+abbrev aThenB : Formula
+aThenB = ex (labels 2) (ex (labels 4) tru)
+
+abbrev row : ℕ → ℕ → Bool → Row
+row k s b = record { place = k; state = s; final = b }
+
+abbrev edge : ℕ → ℕ → ℕ → Edge
+edge i l j = record { row = i; label = l; target = j }
+
+abbrev forkWhole : Listing
+forkWhole = record { rows = row 0 0 false ∷ row 1 1 false ∷ row 1 2 false ∷ row 2 1 true ∷ []; edges = edge 0 1 1 ∷ edge 0 1 2 ∷ edge 1 2 3 ∷ [] }
+
+fork-whole : wholeListing fork aThenB ≡ forkWhole
+unfolding positionsAmong searchAmong expandAmong visits visit movesUptoAmong movesFromAmong movesOnAmong movesToAmong numberOf targets leads leadsOf final finalOf stepsFrom meets inSet silent
+fork-whole = refl
+
+fork-dropped : dropDeadEnds (rowFinishes fork aThenB) forkWhole ≡ record { rows = row 0 0 false ∷ row 1 1 false ∷ row 2 1 true ∷ []; edges = edge 0 1 1 ∷ edge 1 2 2 ∷ [] }
+unfolding canFinish holds within stepsFrom meets inSet classOf silent
+fork-dropped = refl

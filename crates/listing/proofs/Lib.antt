@@ -3,6 +3,7 @@ pub mod Frames
 pub mod Acceptance
 pub mod PathWords
 pub mod Tests
+pub mod Kept
 pub mod Numbers
 pub mod Explains
 pub mod States
@@ -10,9 +11,15 @@ pub mod Finishing
 pub mod Inside
 pub mod Moves
 pub mod Visits
+pub mod Among
+pub mod Cuts
 pub mod Search
+pub mod Pruned
+pub mod AllPositions
+pub mod Portions
 pub mod Rows
 pub mod Listed
+pub mod Dropped
 pub mod Reading
 pub mod Unique
 pub mod Counts

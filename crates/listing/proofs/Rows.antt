@@ -11,7 +11,7 @@ use Rattle.lts.proofs.Lists.{map-of, map-to, map-rising, getD-mem}
 use Rattle.actl.specs.Formulas.{Formula}
 use Rattle.actl.proofs.Classes.{HasClass}
 use Rattle.listing.specs.Positions.{Position, at, rootAt, Joins, Reached, begin, onward, CanFinish}
-use Rattle.listing.specs.Listing.{numberOf, Move, positionAt, movesUpto, Edge, edgeOf}
+use Rattle.listing.specs.Listing.{canFinish, numberOf, Move, positionAt, movesUpto, Edge, edgeOf}
 use Rattle.listing.specs.Listed.{Below}
 use Rattle.listing.proofs.Tests.{leads-inside}
 use Rattle.listing.proofs.Finishing.{step-finishes, canFinish-is}
@@ -43,12 +43,12 @@ pub record IsEdge (t : Table) (F : Formula) (R : List Position) (e : Edge) : Typ
   pub root-finishes : CanFinish t F (rootAt t)
 
 module _ (t : Table) (F : Formula) (w : InRange t) (c : HasClass F) where
-  pub move-finishes : {i : ℕ} {p : Position} {m : Move} → IsMove t F i p m → CanFinish t F (m .goal)
-  move-finishes {m} h = canFinish-is t F c (m .goal) (leads-inside (h .joins .1)) .0 (h .finishing)
+  pub move-finishes : {i : ℕ} {p : Position} {m : Move} → IsMove (canFinish t F) t F i p m → CanFinish t F (m .goal)
+  move-finishes {m} h = canFinish-is t F c (m .goal) (leads-inside (h .joins .1)) .0 (h .entered)
 
   pub move-listed : (R : List Position) (i l : ℕ) (g : Position) → i < length R → Joins t F (positionAt R i) l g → CanFinish t F g
       → List·Memᴰ (record { row = i; label = l; goal = g }) (movesUpto t F R (length R))
-  move-listed R i l g b j u = upto-to t F R (length R) i b (moves-to t F w i (positionAt R i) l g j (canFinish-is t F c g (leads-inside (j .1)) .1 u))
+  move-listed R i l g b j u = upto-to (canFinish t F) t F R (length R) i b (moves-to (canFinish t F) t F w i (positionAt R i) l g j (canFinish-is t F c g (leads-inside (j .1)) .1 u))
 
   module _ (R : List Position) (h : ClosedRows t F R) where
     abbrev M : List Move
@@ -63,7 +63,7 @@ module _ (t : Table) (F : Formula) (w : InRange t) (c : HasClass F) where
 
     edge-of-move : (m : Move) → List·Memᴰ m M → IsEdge t F R (edgeOf R m)
     edge-of-move m n =
-        let (b, k) = upto-of t F R (length R) n in
+        let (b, k) = upto-of (canFinish t F) t F R (length R) n in
         let x = positionAt R (m .row) in
         record {
           leaves-row = b;
@@ -89,4 +89,4 @@ module _ (t : Table) (F : Formula) (w : InRange t) (c : HasClass F) where
     before x y m n (inr (e, inr (d, b))) = inr (e, inr (d, subst₂ Below (sym (found m)) (sym (found n)) b))
 
     pub edges-rising : Rising (BeforeIn R) (edgesOf t F R)
-    edges-rising = map-rising (edgeOf R) Sooner (BeforeIn R) M before (upto-rising t F w R (length R))
+    edges-rising = map-rising (edgeOf R) Sooner (BeforeIn R) M before (upto-rising (canFinish t F) t F w R (length R))

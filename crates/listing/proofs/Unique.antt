@@ -4,7 +4,6 @@ use mathlib.Core.Logic.{_⊎_, inl, inr}
 use mathlib.Core.Bool.{Bool, true, false, cond}
 use mathlib.Core.List.{List, [], _∷_, _++_, map, append-nil, append-assoc, List·Memᴰ, List·Memᴰ·head, Memᴰ·cast, Memᴰ·append-right}
 use Prim.Native.Nat.{ℕ, zero, suc, _+_, _-_, _*_, _<_, _≤_}
-use native.Mathlib.Nat.{zero-add, suc-add}
 use native.Mathlib.Decide.{decLt}
 use native.Mathlib.Omega.{arith}
 use lib.Dec.{ltb}
@@ -18,13 +17,15 @@ use Rattle.actl.specs.Formulas.{Formula, size}
 use Rattle.actl.proofs.Classes.{HasClass}
 use Rattle.listing.specs.Places.{Final}
 use Rattle.listing.specs.Positions.{Position, at, rootAt, Reached, begin, onward, Entered, stop, CanFinish}
-use Rattle.listing.specs.Listing.{numberOf, seen, final, Move, movesFrom, positionAt, visit, visits, expand, search, positions, movesUpto, Row, Edge, Listing, rowOf, edgeOf, listing}
+use Rattle.listing.specs.Listing.{canFinish, numberOf, seen, final, Move, movesFrom, positionAt, visit, visits, expandAmong, searchAmong, positionsAmong, expand, search, positions, movesUpto, Row, Edge, Listing, rowOf, edgeOf, listing}
 use Rattle.listing.specs.Listed.{rowAt, placed, IsRow, Listed}
 use Rattle.listing.proofs.Tests.{final-is}
+use Rattle.listing.proofs.Kept.{same-flag}
 use Rattle.listing.proofs.Numbers.{number-append, number-past, number-mem, number-found, unseen}
 use Rattle.listing.proofs.Inside.{room, reached-inside}
-use Rattle.listing.proofs.Moves.{IsMove, upto-of, upto-suc}
+use Rattle.listing.proofs.Moves.{IsMove, upto-of}
 use Rattle.listing.proofs.Visits.{visits-more, visits-to, visits-append}
+use Rattle.listing.proofs.Cuts.{upto-split}
 use Rattle.listing.proofs.Search.{Expanded, upto-next, expanded, starting}
 use Rattle.listing.proofs.Rows.{ClosedRows, IsEdge, BeforeIn, edgesOf, move-finishes, edges-of, edges-to, edges-rising}
 use Rattle.listing.proofs.Listed.{Lists, row-down, row-up, edge-up, edge-down, rising-down, root-position, positions-to}
@@ -46,13 +47,6 @@ none : {A : Type 0} (l : List A) → ((x : A) → List·Memᴰ x l → ⊥) → 
 none [] h = refl
 none (x ∷ l) h = absurd (h x (List·Memᴰ·head refl))
 
-upto-split : (t : Table) (F : Formula) (rows : List Position) (d n : ℕ) → (rest : List Move) × (movesUpto t F rows (d + n) ≡ movesUpto t F rows n ++ rest)
-upto-split t F rows zero n = ([], ap (movesUpto t F rows) (zero-add n) ∙ sym (append-nil (movesUpto t F rows n)))
-upto-split t F rows (suc d) n =
-    let (rest, e) = upto-split t F rows d n in
-    let more = movesFrom t F (d + n) (positionAt rows (d + n)) in
-    (rest ++ more, ap (movesUpto t F rows) (suc-add d n) ∙ (upto-suc t F rows (d + n) ∙ (ap (λ l. l ++ more) e ∙ append-assoc (movesUpto t F rows n) rest more)))
-
 abbrev positionOf : Row → Position
 positionOf r = at (r .place) (r .state)
 
@@ -70,12 +64,6 @@ placed-by (r ∷ rows) (suc i) = placed-by rows i
 
 pub lists-positions : (L : Listing) → Lists L (positionsIn L)
 lists-positions L = record { sized = sym (length-map (L .rows) positionOf); at-row = placed-by (L .rows) }
-
-same-flag : (a b : Bool) → (a ≡ true → b ≡ true) → (b ≡ true → a ≡ true) → a ≡ b
-same-flag true true f g = refl
-same-flag true false f g = sym (f refl)
-same-flag false true f g = g refl
-same-flag false false f g = refl
 
 rows-from : (F : Formula) (rows : List Row) → ((i : ℕ) → i < length rows → getD rows i noRow .final ≡ final F (getD rows i noRow .place)) → rows ≡ map (rowOf F) (map positionOf rows)
 rows-from F [] h = refl
@@ -126,7 +114,7 @@ module _ (t : Table) (F : Formula) (L : Listing) (h : Listed t F L) where
       reached = λ p n. standing p (row-at p n);
       root-or-finishing = λ p n. elim (row-at p n) [ inl e ↦ inl e | inr d ↦ inr (d .1) ];
       goals = λ m n.
-          let (b, z) = upto-of t F R (length R) n in
+          let (b, z) = upto-of (canFinish t F) t F R (length R) n in
           let x = positionAt R (m .row) in
           row-mem (onward (standing x (row-at x (getD-mem R (m .row) (at 0 0) b))) (z .joins)) (move-finishes t F w c z);
     }
@@ -204,21 +192,21 @@ module _ (t : Table) (F : Formula) (L : Listing) (h : Listed t F L) where
     unfolding visits
     moves-prefix pre post e = visits-prefix pre [] post e root-prefix
 
-    expand-prefix : (i : ℕ) (P : List Position) → Expanded t F i P → i < length P → Prefix P → Prefix (expand t F P i)
-    unfolding expand
+    expand-prefix : (i : ℕ) (P : List Position) → Expanded (canFinish t F) t F i P → i < length P → Prefix P → Prefix (expand t F P i)
+    unfolding expandAmong
     expand-prefix i P g b (extra, q) =
         let b′ : suc i ≤ length R = omega (arith, ap length q, length-append P extra) in
-        let (rest, e) = upto-split t F R (length R - suc i) (suc i) in
+        let (rest, e) = upto-split (canFinish t F) t F R (length R - suc i) (suc i) in
         let z : length R ≡ length R - suc i + suc i = omega arith in
-        let m : movesUpto t F R (suc i) ≡ movesUpto t F P i ++ movesFrom t F i (positionAt P i) = ap (λ l. movesUpto t F l (suc i)) q ∙ upto-next t F P extra i b in
+        let m : movesUpto t F R (suc i) ≡ movesUpto t F P i ++ movesFrom t F i (positionAt P i) = ap (λ l. movesUpto t F l (suc i)) q ∙ upto-next (canFinish t F) t F P extra i b in
         let d : after (movesUpto t F R (suc i)) ≡ visits P (movesFrom t F i (positionAt P i)) =
         ap after m ∙ (visits-append (rootAt t ∷ []) (movesUpto t F P i) (movesFrom t F i (positionAt P i)) ∙ ap (λ l. visits l (movesFrom t F i (positionAt P i))) (sym (g .built))) in
         subst Prefix d (moves-prefix (movesUpto t F R (suc i)) rest (ap (movesUpto t F R) z ∙ e))
 
-    search-prefix : (n i : ℕ) (P : List Position) → Expanded t F i P → Prefix P → Prefix (search t F n i P)
-    unfolding search
+    search-prefix : (n i : ℕ) (P : List Position) → Expanded (canFinish t F) t F i P → Prefix P → Prefix (search t F n i P)
+    unfolding searchAmong
     search-prefix zero i P g p = p
-    search-prefix (suc n) i P g p = case (ltb i (length P)) refl (λ b. search-prefix n (suc i) (expand t F P i) (expanded t F i P g b) (expand-prefix i P g b p))
+    search-prefix (suc n) i P g p = case (ltb i (length P)) refl (λ b. search-prefix n (suc i) (expand t F P i) (expanded (canFinish t F) t F i P g b) (expand-prefix i P g b p))
       where
         case : (c : Bool) → ltb i (length P) ≡ c → (i < length P → Prefix (search t F n (suc i) (expand t F P i))) → Prefix (cond c (search t F n (suc i) (expand t F P i)) P)
         case true e k = k (ltb-true i (length P) e)
@@ -232,8 +220,8 @@ module _ (t : Table) (F : Formula) (L : Listing) (h : Listed t F L) where
         case (inr d) = positions-to t F w c (standing p (inr d)) (d .1)
 
     rows-are : R ≡ positions t F
-    unfolding positions
-    rows-are = let (extra, q) = search-prefix (room t F) 0 (rootAt t ∷ []) (starting t F w) root-prefix in q ∙ (ap (λ l. positions t F ++ l) (no-more extra q) ∙ append-nil (positions t F))
+    unfolding positionsAmong
+    rows-are = let (extra, q) = search-prefix (room t F) 0 (rootAt t ∷ []) (starting (canFinish t F) t F w) root-prefix in q ∙ (ap (λ l. positions t F ++ l) (no-more extra q) ∙ append-nil (positions t F))
       where
         no-more : (extra : List Position) → R ≡ positions t F ++ extra → extra ≡ []
         no-more [] q = refl

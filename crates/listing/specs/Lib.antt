@@ -5,6 +5,7 @@ pub mod Places
 pub mod Positions
 pub mod Listing
 pub mod Listed
+pub mod DeadEnds
 pub mod Words
 pub mod Bytes
 pub mod Masks
