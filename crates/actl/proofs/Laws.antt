@@ -6,12 +6,14 @@ pub mod Classed
 pub mod Decided
 pub mod Dressed
 pub mod Forms
+pub mod Inputs
 pub mod Lists
 pub mod Masks
 pub mod Numbers
 pub mod Polish
 pub mod Prepared
 pub mod Recoded
+pub mod Replies
 pub mod Sets
 pub mod Slots
 pub mod Table

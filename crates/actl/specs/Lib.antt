@@ -7,6 +7,7 @@ pub mod Meaning
 pub mod Reading
 pub mod Prepared
 pub mod Replies
+pub mod Inputs
 pub mod Cursor
 pub mod Readers
 pub mod Access

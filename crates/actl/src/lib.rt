@@ -6,6 +6,7 @@ use crate::reading::read_text;
 use crate::writing::answer;
 
 pub mod cursor;
+pub mod inputs;
 pub mod node;
 pub mod prepared;
 pub mod reading;

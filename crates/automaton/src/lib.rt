@@ -1,6 +1,7 @@
 // Building the rows and edges of the automaton.
-use labelling::formula_prepared;
-use lts::check::is_prepared;
+use actl::inputs::Inputs;
+use actl::inputs::Unprepared;
+use actl::inputs::check_inputs;
 
 mod building;
 mod entering;
@@ -17,9 +18,7 @@ pub enum BuildReply {
     Built(usize, usize),
     RowsShort(usize),
     EdgesShort(usize),
-    TableForeign,
-    FormulaForeign,
-    BufferShort(usize),
+    Refused(Unprepared),
 }
 
 // 01: rows and edges of the automaton, in the lent places; 14, 10, 11, 12 in this order.
@@ -28,17 +27,8 @@ pub fn build(table: &[u8], formula: &[u8], rows: &mut [u8], edges: &mut [u8]) ->
     ensures { λ _. ⌜ now (rows .exit) ≡ rowsLeft (now (table .entry)) (now (formula .entry)) (now (rows .entry)) (now (edges .entry)) ⌝ }
     ensures { λ _. ⌜ now (edges .exit) ≡ edgesLeft (now (table .entry)) (now (formula .entry)) (now (rows .entry)) (now (edges .entry)) ⌝ }
 {
-    if table.len() < 3718 {
-        return BuildReply::BufferShort(3718);
-    }
-    if formula.len() < 681 {
-        return BuildReply::BufferShort(681);
-    }
-    if !is_prepared(table) {
-        return BuildReply::TableForeign;
-    }
-    if !formula_prepared(table, formula) {
-        return BuildReply::FormulaForeign;
+    if let Inputs::Refused(why) = check_inputs(table, formula) {
+        return BuildReply::Refused(why);
     }
     building::built(table, formula, rows, edges)
 }

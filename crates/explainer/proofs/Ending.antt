@@ -10,6 +10,9 @@ use Rattle.lts.specs.Reply.{Reply, accepted, refusal, overwritten, leftIn, answ
 use Rattle.lts.specs.Prepared.{tableLength, tableBytes}
 use Rattle.actl.specs.Formulas.{Formula, tru, not, or, ex, ax, eu, euThen, nodes, classOf}
 use Rattle.actl.specs.Prepared.{formulaLength, formulaBytes}
+use Rattle.actl.specs.Inputs.{unpreparedNumber}
+use Rattle.actl.specs.declared.inputs.Unprepared.{Unprepared}
+use Rattle.actl.specs.declared.inputs.Unprepared.the-variants.{TableForeign, FormulaForeign, BufferShort}
 use Rattle.labelling.specs.Holds as holds
 use Rattle.labelling.specs.Replies.{verdictReply, verdictReplied}
 use Rattle.labelling.specs.declared.VerdictReply.{VerdictReply}
@@ -84,13 +87,16 @@ module _ (t f : List ℕ) (x : Read) (held : Held t f x) (long : tableLength ≤
             }
 
 -- No refusal of building has the number 0.
+unprepared-not-zero : (why : Unprepared) → unpreparedNumber why ≡ 0 → ⊥
+unprepared-not-zero TableForeign e = omega arith
+unprepared-not-zero FormulaForeign e = omega arith
+unprepared-not-zero (BufferShort needed) e = omega arith
+
 pub never-zero : (b : BuildReply) (n g : ℕ) → built.buildReply b ≡ refusal n g → n ≡ 0 → ⊥
 never-zero (replies.Built m k) n g e z = let q : _≡_ {A = ℕ} 0 1 = cc in omega arith
 never-zero (replies.RowsShort m) n g e z = let q : 11 ≡ n = cc in omega arith
 never-zero (replies.EdgesShort m) n g e z = let q : 12 ≡ n = cc in omega arith
-never-zero replies.TableForeign n g e z = let q : 10 ≡ n = cc in omega arith
-never-zero replies.FormulaForeign n g e z = let q : 10 ≡ n = cc in omega arith
-never-zero (replies.BufferShort m) n g e z = let q : 14 ≡ n = cc in omega arith
+never-zero (replies.Refused why) n g e z = let q : unpreparedNumber why ≡ n = cc in unprepared-not-zero why (q ∙ z)
 
 pub copied : (bytes buffer out : List ℕ) → out ≡ take (length bytes) bytes ++ drop (length bytes) buffer → out ≡ overwritten bytes buffer
 copied bytes buffer out e = e ∙ ap (λ l. l ++ drop (length bytes) buffer) (take-length bytes)

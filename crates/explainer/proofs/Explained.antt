@@ -26,7 +26,8 @@ use Rattle.actl.proofs.Laws.Prepared as prepared-formula
 use Rattle.listing.specs.Listing.{Listing, listing}
 use Rattle.listing.specs.Bytes.{rowLength, edgeLength, rowsBytes, edgesBytes}
 use Rattle.automaton.specs.Replies.{Counts, counts, fitted, built, buildReplied, rowsLeft, edgesLeft}
-use Rattle.automaton.proofs.Accepted.{refusal-is-not-accepted, unless-accepted, long-enough-accepted, Prepared, on-prepared-accepted, prepared-in-range, formed-has-class, fitted-accepted}
+use Rattle.actl.proofs.Laws.Replies.{refusal-is-not-accepted, unless-accepted, long-enough-accepted, Prepared, on-prepared-accepted}
+use Rattle.automaton.proofs.Accepted.{prepared-in-range, formed-has-class, fitted-accepted}
 use Rattle.explainer.specs.Explained.{RunsTraced, FromTexts, FromPrepared}
 use Rattle.explainer.specs.Explanation as explain
 use Rattle.explainer.proofs.Traced.{listing-traces}

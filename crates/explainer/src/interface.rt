@@ -2,15 +2,37 @@
 ghost use mathlib.Core.Path.{_≡_};
 ghost use Rattle.lts.specs.Replies.{tableReply};
 ghost use Rattle.actl.specs.Replies.{formulaReply};
+ghost use Rattle.actl.specs.Inputs.{unpreparedNumber, unpreparedFigure};
 ghost use Rattle.labelling.specs.Replies.{verdictReply};
 ghost use Rattle.automaton.specs.Replies.{buildReply};
 ghost use Rattle.words.specs.Replies.{wordReply};
 ghost use Rattle.explainer.specs.Interface.{numberIn, figureIn, edgesIn};
 use actl::FormulaReply;
+use actl::inputs::Unprepared;
 use automaton::BuildReply;
 use labelling::VerdictReply;
 use lts::TableReply;
 use words::WordReply;
+
+fn unprepared_number(why: Unprepared) -> u32
+    ensures { λ r. ⌜ r ≡ unpreparedNumber why ⌝ }
+{
+    match why {
+        Unprepared::TableForeign => 10,
+        Unprepared::FormulaForeign => 10,
+        Unprepared::BufferShort(_) => 14,
+    }
+}
+
+fn unprepared_figure(why: Unprepared) -> u64
+    ensures { λ r. ⌜ r ≡ unpreparedFigure why ⌝ }
+{
+    match why {
+        Unprepared::TableForeign => 0,
+        Unprepared::FormulaForeign => 1,
+        Unprepared::BufferShort(needed) => needed as u64,
+    }
+}
 
 pub fn table_number(reply: TableReply) -> u32
     ensures { λ r. ⌜ r ≡ numberIn (tableReply reply) ⌝ }
@@ -74,9 +96,7 @@ pub fn verdict_number(reply: VerdictReply) -> u32
     match reply {
         VerdictReply::Holds => 0,
         VerdictReply::Fails => 0,
-        VerdictReply::TableForeign => 10,
-        VerdictReply::FormulaForeign => 10,
-        VerdictReply::BufferShort(_) => 14,
+        VerdictReply::Refused(why) => unprepared_number(why),
     }
 }
 
@@ -86,9 +106,7 @@ pub fn verdict_figure(reply: VerdictReply) -> u64
     match reply {
         VerdictReply::Holds => 1,
         VerdictReply::Fails => 0,
-        VerdictReply::TableForeign => 0,
-        VerdictReply::FormulaForeign => 1,
-        VerdictReply::BufferShort(needed) => needed as u64,
+        VerdictReply::Refused(why) => unprepared_figure(why),
     }
 }
 
@@ -99,9 +117,7 @@ pub fn build_number(reply: BuildReply) -> u32
         BuildReply::Built(_, _) => 0,
         BuildReply::RowsShort(_) => 11,
         BuildReply::EdgesShort(_) => 12,
-        BuildReply::TableForeign => 10,
-        BuildReply::FormulaForeign => 10,
-        BuildReply::BufferShort(_) => 14,
+        BuildReply::Refused(why) => unprepared_number(why),
     }
 }
 
@@ -112,9 +128,7 @@ pub fn build_figure(reply: BuildReply) -> u64
         BuildReply::Built(rows, _) => rows as u64,
         BuildReply::RowsShort(needed) => needed as u64,
         BuildReply::EdgesShort(needed) => needed as u64,
-        BuildReply::TableForeign => 0,
-        BuildReply::FormulaForeign => 1,
-        BuildReply::BufferShort(needed) => needed as u64,
+        BuildReply::Refused(why) => unprepared_figure(why),
     }
 }
 
@@ -126,9 +140,7 @@ pub fn build_edges(reply: BuildReply, before: u64) -> u64
         BuildReply::Built(_, edges) => edges as u64,
         BuildReply::RowsShort(_) => before,
         BuildReply::EdgesShort(_) => before,
-        BuildReply::TableForeign => before,
-        BuildReply::FormulaForeign => before,
-        BuildReply::BufferShort(_) => before,
+        BuildReply::Refused(_) => before,
     }
 }
 
@@ -139,9 +151,7 @@ pub fn word_number(reply: WordReply) -> u32
         WordReply::Accepted => 0,
         WordReply::NotAccepted => 0,
         WordReply::WordBad(_) => 13,
-        WordReply::TableForeign => 10,
-        WordReply::FormulaForeign => 10,
-        WordReply::BufferShort(_) => 14,
+        WordReply::Refused(why) => unprepared_number(why),
     }
 }
 
@@ -152,8 +162,6 @@ pub fn word_figure(reply: WordReply) -> u64
         WordReply::Accepted => 1,
         WordReply::NotAccepted => 0,
         WordReply::WordBad(index) => index as u64,
-        WordReply::TableForeign => 0,
-        WordReply::FormulaForeign => 1,
-        WordReply::BufferShort(needed) => needed as u64,
+        WordReply::Refused(why) => unprepared_figure(why),
     }
 }

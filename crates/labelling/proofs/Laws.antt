@@ -8,4 +8,3 @@ pub mod Rows
 pub mod Agree
 pub mod Nodes
 pub mod Prepared
-pub mod Entries

@@ -1,19 +1,18 @@
 -- What `verdict` answers.
 use mathlib.Core.List.{List}
 use Prim.Native.Nat.{ℕ}
-use Rattle.lts.specs.Reply.{Reply, accepted, refusal}
+use Rattle.lts.specs.Reply.{Reply, accepted}
 use Rattle.actl.specs.Replies.{onPrepared}
+use Rattle.actl.specs.Inputs.{unprepared}
 use Rattle.labelling.specs.Holds.{verdict}
 use Rattle.labelling.specs.declared.VerdictReply.{VerdictReply}
-use Rattle.labelling.specs.declared.VerdictReply.the-variants.{Holds, Fails, TableForeign, FormulaForeign, BufferShort}
+use Rattle.labelling.specs.declared.VerdictReply.the-variants.{Holds, Fails, Refused}
 
 -- 01, "What the entries turn back": the number and the figure of each case.
 abbrev pub verdictReply : VerdictReply → Reply ℕ
 verdictReply Holds = accepted 1
 verdictReply Fails = accepted 0
-verdictReply TableForeign = refusal 10 0
-verdictReply FormulaForeign = refusal 10 1
-verdictReply (BufferShort needed) = refusal 14 needed
+verdictReply (Refused why) = unprepared why
 
 unfoldable pub verdictReplied : List ℕ → List ℕ → Reply ℕ
 verdictReplied table formula = onPrepared table formula (λ t F. accepted (verdict t F))

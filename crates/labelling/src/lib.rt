@@ -1,8 +1,9 @@
 // Where the nodes of a formula hold, and the verdict.
+use actl::inputs::Inputs;
+use actl::inputs::Unprepared;
+use actl::inputs::check_inputs;
 use actl::walk::shape_of;
-use lts::check::is_prepared;
 use lts::prepared::first_exits;
-use lts::prepared::label_count;
 use lts::prepared::start_state;
 
 pub mod conditions;
@@ -14,8 +15,7 @@ mod until;
 ghost use mathlib.Core.Path.{_≡_};
 ghost use Rattle.lts.specs.Steps.{labels};
 ghost use Rattle.lts.specs.Prepared.{tableIn};
-ghost use Rattle.lts.specs.Access.{HoldsTable, isSome};
-ghost use Rattle.actl.specs.Prepared.{preparedFormula};
+ghost use Rattle.lts.specs.Access.{HoldsTable};
 ghost use Rattle.labelling.specs.Nodes.{HoldsFormula, AtStart};
 ghost use Rattle.labelling.specs.Replies.{verdictReply, verdictReplied};
 
@@ -23,9 +23,7 @@ ghost use Rattle.labelling.specs.Replies.{verdictReply, verdictReplied};
 pub enum VerdictReply {
     Holds,
     Fails,
-    TableForeign,
-    FormulaForeign,
-    BufferShort(usize),
+    Refused(Unprepared),
 }
 
 // Whether a prepared formula holds at the start of a prepared table.
@@ -42,28 +40,11 @@ fn holds_at_start(table: &[u8], formula: &[u8]) -> bool
     flags[start]
 }
 
-// Whether a formula's bytes are prepared, over the labels of a prepared table.
-pub fn formula_prepared(table: &[u8], formula: &[u8]) -> bool
-    requires { ⌜ HoldsTable (now table) ⌝ }
-    ensures { λ r. ⌜ r ≡ isSome (preparedFormula (labels (tableIn (now (table .entry)))) (now (formula .entry))) ⌝ }
-{
-    actl::prepared::is_prepared(label_count(table), formula)
-}
-
 pub fn verdict(table: &[u8], formula: &[u8]) -> VerdictReply
     ensures { λ r. ⌜ verdictReply r ≡ verdictReplied (now (table .entry)) (now (formula .entry)) ⌝ }
 {
-    if table.len() < 3718 {
-        return VerdictReply::BufferShort(3718);
-    }
-    if formula.len() < 681 {
-        return VerdictReply::BufferShort(681);
-    }
-    if !is_prepared(table) {
-        return VerdictReply::TableForeign;
-    }
-    if !formula_prepared(table, formula) {
-        return VerdictReply::FormulaForeign;
+    if let Inputs::Refused(why) = check_inputs(table, formula) {
+        return VerdictReply::Refused(why);
     }
     if holds_at_start(table, formula) {
         VerdictReply::Holds

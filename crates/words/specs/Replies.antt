@@ -8,19 +8,18 @@ use Rattle.lts.specs.Reply.{Reply, accepted, refusal}
 use Rattle.lts.specs.Steps.{labels}
 use Rattle.actl.specs.Reading.{unlessFound}
 use Rattle.actl.specs.Replies.{onPrepared}
+use Rattle.actl.specs.Inputs.{unprepared}
 use Rattle.listing.specs.Words.{accepts}
 use Rattle.listing.specs.Bytes.{bitOf}
 use Rattle.words.specs.declared.WordReply.{WordReply}
-use Rattle.words.specs.declared.WordReply.the-variants.{Accepted, NotAccepted, WordBad, TableForeign, FormulaForeign, BufferShort}
+use Rattle.words.specs.declared.WordReply.the-variants.{Accepted, NotAccepted, WordBad, Refused}
 
 -- 01, "What the entries turn back": the number and the figure of each case.
 abbrev pub wordReply : WordReply → Reply ℕ
 wordReply Accepted = accepted 1
 wordReply NotAccepted = accepted 0
 wordReply (WordBad index) = refusal 13 index
-wordReply TableForeign = refusal 10 0
-wordReply FormulaForeign = refusal 10 1
-wordReply (BufferShort needed) = refusal 14 needed
+wordReply (Refused why) = unprepared why
 
 -- 01: "a word's label above the label count, or a word over 1,024": "index of the first such label below 1,024, else 1,024"
 -- The first argument is how many letters are left below 1,024, the second how many came before.

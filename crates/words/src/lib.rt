@@ -2,11 +2,12 @@
 use crate::fronts::has;
 use crate::reading::read_word;
 use crate::reading::wide;
+use actl::inputs::Inputs;
+use actl::inputs::Unprepared;
+use actl::inputs::check_inputs;
 use actl::walk::shape_of;
-use labelling::formula_prepared;
 use listing::masks::final_places;
 use listing::masks::target_masks;
-use lts::check::is_prepared;
 use lts::names::Found;
 use lts::prepared::first_exits;
 use lts::prepared::label_count;
@@ -30,9 +31,7 @@ pub enum WordReply {
     Accepted,
     NotAccepted,
     WordBad(usize),
-    TableForeign,
-    FormulaForeign,
-    BufferShort(usize),
+    Refused(Unprepared),
 }
 
 // 01: "index of the first such label below 1,024, else 1,024"
@@ -114,17 +113,8 @@ fn answer(table: &[u8], formula: &[u8], word: &[u8]) -> WordReply
 pub fn accepts(table: &[u8], formula: &[u8], word: &[u8]) -> WordReply
     ensures { λ r. ⌜ wordReply r ≡ wordReplied (now (table .entry)) (now (formula .entry)) (now (word .entry)) ⌝ }
 {
-    if table.len() < 3718 {
-        return WordReply::BufferShort(3718);
-    }
-    if formula.len() < 681 {
-        return WordReply::BufferShort(681);
-    }
-    if !is_prepared(table) {
-        return WordReply::TableForeign;
-    }
-    if !formula_prepared(table, formula) {
-        return WordReply::FormulaForeign;
+    if let Inputs::Refused(why) = check_inputs(table, formula) {
+        return WordReply::Refused(why);
     }
     answer(table, formula, word)
 }

@@ -1,22 +1,22 @@
--- What building answers and leaves: by the refusal or the listing that its tests come to.
-use mathlib.Core.Path.{_≡_, refl, sym, ap, _∙_}
-use mathlib.Core.Bool.{true, false}
+-- What building answers and leaves: by the refusal of its inputs, or by the listing and the lent places.
+use mathlib.Core.Path.{_≡_, sym, ap, _∙_}
 use mathlib.Core.List.{List}
 use mathlib.Core.Option.{some}
-use Prim.Native.Nat.{ℕ, _≤_, _<_}
-use lib.ListN.{length}
-use Rattle.lts.specs.Reply.{Reply, refusal, leftIn, answers}
+use Prim.Native.Nat.{ℕ}
+use Rattle.lts.specs.Reply.{Reply, leftIn, answers}
 use Rattle.lts.specs.Steps.{Table, labels}
-use Rattle.lts.specs.Prepared.{tableLength, tableIn, preparedTable}
-use Rattle.lts.specs.Access.{isSome}
+use Rattle.lts.specs.Prepared.{tableIn}
 use Rattle.actl.specs.Formulas.{Formula}
-use Rattle.actl.specs.Prepared.{formulaLength, preparedFormula}
-use Rattle.labelling.proofs.Laws.Entries.{table-short, formula-short, table-foreign, formula-foreign, both-prepared}
+use Rattle.actl.specs.Prepared.{preparedFormula}
+use Rattle.actl.specs.Inputs.{unprepared}
+use Rattle.actl.specs.declared.inputs.Unprepared.{Unprepared}
+use Rattle.actl.proofs.Laws.Inputs.{checked, Both, goes-on, unprepared-again}
 use Rattle.listing.specs.Listing.{Listing, listing}
 use Rattle.listing.specs.Bytes.{rowsBytes, edgesBytes}
-use Rattle.automaton.specs.Replies.{Counts, counts, fitted, built, buildReply, buildReplied, rowsLeft, edgesLeft}
+use Rattle.automaton.specs.Replies.{counts, fitted, built, buildReply, buildReplied, rowsLeft, edgesLeft}
 use Rattle.automaton.specs.Searched.{LaidOut}
 use Rattle.automaton.specs.declared.BuildReply.{BuildReply}
+use Rattle.automaton.specs.declared.BuildReply.the-variants.{Refused}
 
 module _ (table formula rows edges : List ℕ) where
   -- The three promises of building.
@@ -26,30 +26,15 @@ module _ (table formula rows edges : List ℕ) where
   abbrev next : Table → Formula → Reply Listing
   next t F = fitted (listing t F) rows edges
 
-  pub refused : {n f : ℕ} → built table formula rows edges ≡ refusal n f → (r : BuildReply) → buildReply r ≡ refusal n f → Promised r rows edges
-  refused e r d = (d ∙ sym (ap (answers counts) e), (sym (ap (λ x. leftIn rowsBytes x rows) e), sym (ap (λ x. leftIn edgesBytes x edges) e)))
-
-  pub short-table : length table < tableLength → built table formula rows edges ≡ refusal 14 tableLength
+  pub refused-inputs : (why : Unprepared) → unprepared why ≡ checked table formula → Promised (Refused why) rows edges
   unfolding built
-  short-table h = table-short table formula next h
+  refused-inputs why e =
+      let d = unprepared-again table formula next why e in
+      (ap (answers counts) d, (ap (λ x. leftIn rowsBytes x rows) d, ap (λ x. leftIn edgesBytes x edges) d))
 
-  module _ (long : tableLength ≤ length table) where
-    pub short-formula : length formula < formulaLength → built table formula rows edges ≡ refusal 14 formulaLength
-    unfolding built
-    short-formula h = formula-short table formula next long h
-
-    module _ (enough : formulaLength ≤ length formula) where
-      pub foreign-table : isSome (preparedTable table) ≡ false → built table formula rows edges ≡ refusal 10 0
-      unfolding built
-      foreign-table e = table-foreign table formula next long enough e
-
-      module _ (e : isSome (preparedTable table) ≡ true) where
-        pub foreign-formula : isSome (preparedFormula (labels (tableIn table)) formula) ≡ false → built table formula rows edges ≡ refusal 10 1
-        unfolding built
-        foreign-formula d = formula-foreign table formula next long enough e d
-
-        pub promised : (F : Formula) → preparedFormula (labels (tableIn table)) formula ≡ some F → {r : BuildReply} {x y : List ℕ} → LaidOut (listing (tableIn table) F) rows edges r x y → Promised r x y
-        unfolding built
-        promised F d l =
-            let z = both-prepared table formula next long enough e F d in
-            (l .reply ∙ sym (ap (answers counts) z), (l .rows-left ∙ sym (ap (λ x. leftIn rowsBytes x rows) z), l .edges-left ∙ sym (ap (λ x. leftIn edgesBytes x edges) z)))
+  pub promised : (b : Both table formula) (F : Formula) → preparedFormula (labels (tableIn table)) formula ≡ some F
+      → {r : BuildReply} {x y : List ℕ} → LaidOut (listing (tableIn table) F) rows edges r x y → Promised r x y
+  unfolding built
+  promised b F d l =
+      let z = goes-on table formula next b F d in
+      (l .reply ∙ sym (ap (answers counts) z), (l .rows-left ∙ sym (ap (λ x. leftIn rowsBytes x rows) z), l .edges-left ∙ sym (ap (λ x. leftIn edgesBytes x edges) z)))
