@@ -1,50 +1,50 @@
 // The program `explain`: reads table.txt and formula.txt in the folder that it runs in, and writes the listing or the refusal's line.
 ghost use Rattle.io.specs.Counts.{Counts};
-use explainer::files::Seen;
+use explainer::files::Scanned;
 use explainer::files::explain_files;
-use explainer::files::hear;
-use explainer::files::nothing;
+use explainer::files::scan_chunk;
+use explainer::files::scan_start;
 use libc::STDOUT_FILENO;
 
 // The formula file so far, and whether there may be more of it.
-struct Turn {
-    seen: Seen,
+struct Portion {
+    scanned: Scanned,
     more: bool,
 }
 
-fn hear_some(fd: i32, head: &mut [u8; 513], seen: Seen) -> Turn {
+fn scan_some(fd: i32, head: &mut [u8; 513], scanned: Scanned) -> Portion {
     let mut chunk = io::large_buffer();
     let n = io::read_full(fd, &mut chunk);
-    Turn {
-        seen: hear(&chunk[..n], head, seen),
+    Portion {
+        scanned: scan_chunk(&chunk[..n], head, scanned),
         more: n > 0,
     }
 }
 
-// A proved loop has to end, and nothing says that a file does: the loop counts its turns down, from a number that no file uses up.
-fn hear_all(fd: i32, head: &mut [u8; 513]) -> Seen {
-    let mut turns = u64::MAX;
-    let mut seen = nothing();
-    while turns > 0 {
-        let turn = hear_some(fd, head, seen);
-        seen = turn.seen;
-        if !turn.more {
-            return seen;
+// A proved loop has to end, and nothing says that a file does: the loop counts its rounds down, from a number that no file uses up.
+fn scan_all(fd: i32, head: &mut [u8; 513]) -> Scanned {
+    let mut left = u64::MAX;
+    let mut scanned = scan_start();
+    while left > 0 {
+        let portion = scan_some(fd, head, scanned);
+        scanned = portion.scanned;
+        if !portion.more {
+            return scanned;
         }
-        turns -= 1;
+        left -= 1;
     }
-    seen
+    scanned
 }
 
 // A file that cannot be opened counts as empty.
-fn hear_formula(head: &mut [u8; 513]) -> Seen {
+fn scan_formula(head: &mut [u8; 513]) -> Scanned {
     let fd = os::open_read(b"formula.txt");
     if fd < 0 {
-        return nothing();
+        return scan_start();
     }
-    let seen = hear_all(fd, head);
+    let scanned = scan_all(fd, head);
     libc::close(fd);
-    seen
+    scanned
 }
 
 fn read_table(table: &mut [u8]) -> usize
@@ -63,8 +63,8 @@ fn main() {
     let mut table = [0u8; 20282];
     let n = read_table(&mut table);
     let mut head = [0u8; 513];
-    let seen = hear_formula(&mut head);
+    let scanned = scan_formula(&mut head);
     let mut out = [0u8; 103586];
-    let end = explain_files(&table[..n], &head, seen, &mut out);
+    let end = explain_files(&table[..n], &head, scanned, &mut out);
     io::write_all(STDOUT_FILENO, &out[..end]);
 }

@@ -22,7 +22,7 @@ use Rattle.actl.specs.Reading.{unlessFound, firstUnknown, onResult, readFormula
 use Rattle.listing.specs.Listing.{Listing, listing}
 use Rattle.listing.specs.Bytes.{rowLength, edgeLength}
 use Rattle.automaton.specs.Replies.{fitted}
-use Rattle.explainer.specs.Explanation.{Explanation, next, explanation}
+use Rattle.explainer.specs.Explanation.{Explanation, andThen, explanation}
 
 -- A reply with the figure of refusal 5 put right.
 abbrev pub withLength : ℕ → Reply Explanation → Reply Explanation
@@ -86,7 +86,7 @@ other-kept : (n : ℕ) (r : Reply Explanation) → Other r → withLength n r �
 other-kept n (accepted e) o = refl
 other-kept n (refusal k g) o = ap (λ b. refusal k (cond b n g)) (ne-eqb k 5 o)
 
-other-next : {A B : Type 0} (r : Reply A) (f : A → Reply B) → Other r → ((a : A) → Other (f a)) → Other (next r f)
+other-next : {A B : Type 0} (r : Reply A) (f : A → Reply B) → Other r → ((a : A) → Other (f a)) → Other (andThen r f)
 other-next (accepted a) f o h = h a
 other-next (refusal k g) f o h = o
 
@@ -96,10 +96,10 @@ other-answers f (refusal k g) o = o
 
 module _ (rows edges : List ℕ) where
   abbrev onFormula : Table → Reply Formula → Reply Explanation
-  onFormula t r = next r (λ F. answers (λ L. record { table = t; formula = F; list = L }) (fitted (listing t F) rows edges))
+  onFormula t r = andThen r (λ F. answers (λ L. record { table = t; formula = F; list = L }) (fitted (listing t F) rows edges))
 
   abbrev onTable : Reply Table → List ℕ → Reply Explanation
-  onTable r text = next r (λ t. onFormula t (readFormula (t .names) text))
+  onTable r text = andThen r (λ t. onFormula t (readFormula (t .names) text))
 
   formula-begun : (t : Table) (text : List ℕ) → withLength (length text) (onFormula t (readFormula (t .names) (take 513 text))) ≡ onFormula t (readFormula (t .names) text)
   unfolding readFormula

@@ -31,7 +31,7 @@ use Rattle.listing.specs.Listed.{placed}
 use Rattle.listing.specs.Words.{Accepts}
 use Rattle.listing.proofs.Explains.{explains-is-walk}
 use Rattle.listing.proofs.Reading.{listing-words}
-use Rattle.explainer.specs.BenchSheet.{Language, Member, Answer, Says, refused, explained, Line, LastRow, Answers, SaysRightly, IsRight, starred}
+use Rattle.explainer.specs.BenchSheet.{Language, Member, Answer, Expected, refused, explained, SheetLine, LastRow, IsAnswer, Meets, IsRight, starred}
 use Rattle.explainer.proofs.Languages.{hasWords, has-words, same-tests}
 
 -- The test.
@@ -52,16 +52,16 @@ abbrev answeredSo : Table → Reply Formula → Answer → Bool
 answeredSo t (accepted F) a = answered t F a
 answeredSo t (refusal m g) a = false
 
-abbrev saidRightly : Table → List ℕ → Says → Bool
+abbrev saidRightly : Table → List ℕ → Expected → Bool
 saidRightly t text (refused number figure) = refusedSo (readFormula (t .names) text) number figure
 saidRightly t text (explained a) = answeredSo t (readFormula (t .names) text) a
 
-abbrev readRightly : Reply Table → List ℕ → Says → Bool
-readRightly (accepted t) text says = saidRightly t text says
-readRightly (refusal m g) text says = false
+abbrev readRightly : Reply Table → List ℕ → Expected → Bool
+readRightly (accepted t) text expected = saidRightly t text expected
+readRightly (refusal m g) text expected = false
 
-abbrev isRight : Line → Bool
-isRight l = readRightly (readTable (l .table)) (l .formula) (l .says)
+abbrev isRight : SheetLine → Bool
+isRight l = readRightly (readTable (l .table)) (l .formula) (l .expected)
 
 -- It is sound.
 row-right : (L : Listing) (p : Option Position) → rowSaid L p ≡ true → LastRow L p
@@ -76,7 +76,7 @@ class-right : (c : ℕ) → (eqb c 1 || eqb c 2) ≡ true → (c ≡ 1) ⊎ (c �
 class-right c e = elim (or-true-of (eqb c 1) (eqb c 2) e) [ inl d ↦ inl (eqb-true c 1 d) | inr d ↦ inr (eqb-true c 2 d) ]
 
 module _ (t : Table) (range : InRange t) where
-  answers-right : (F : Formula) (a : Answer) → answered t F a ≡ true → Answers t F a
+  answers-right : (F : Formula) (a : Answer) → answered t F a ≡ true → IsAnswer t F a
   answers-right F a e =
       let (p, e₁) = and-true-of (eqb (classOf F) (a .class)) _ e in
       let (q, e₂) = and-true-of (eqb (classOf F) 1 || eqb (classOf F) 2) _ e₁ in
@@ -104,19 +104,19 @@ module _ (t : Table) (range : InRange t) where
       let y = eqb-true g figure b in
       λ i. refusal (x i) (y i)
 
-  answered-right : (r : Reply Formula) (a : Answer) → answeredSo t r a ≡ true → (F : Formula) × (r ≡ accepted F) × Answers t F a
+  answered-right : (r : Reply Formula) (a : Answer) → answeredSo t r a ≡ true → (F : Formula) × (r ≡ accepted F) × IsAnswer t F a
   answered-right (accepted F) a e = (F, refl, answers-right F a e)
   answered-right (refusal m g) a e = absurd (false≢true e)
 
-  says-right : (text : List ℕ) (s : Says) → saidRightly t text s ≡ true → SaysRightly t text s
+  says-right : (text : List ℕ) (s : Expected) → saidRightly t text s ≡ true → Meets t text s
   says-right text (refused number figure) e = refused-right (readFormula (t .names) text) number figure e
   says-right text (explained a) e = answered-right (readFormula (t .names) text) a e
 
-right : (l : Line) (r : Reply Table) → readTable (l .table) ≡ r → readRightly r (l .formula) (l .says) ≡ true → IsRight l
-right l (accepted t) e d = (t, e, says-right t (text-of-read (l .table) t e .1) (l .formula) (l .says) d)
+right : (l : SheetLine) (r : Reply Table) → readTable (l .table) ≡ r → readRightly r (l .formula) (l .expected) ≡ true → IsRight l
+right l (accepted t) e d = (t, e, says-right t (text-of-read (l .table) t e .1) (l .formula) (l .expected) d)
 right l (refusal m g) e d = absurd (false≢true d)
 
-pub right-of-test : (l : Line) → isRight l ≡ true → IsRight l
+pub right-of-test : (l : SheetLine) → isRight l ≡ true → IsRight l
 right-of-test l e = right l (readTable (l .table)) refl e
 
 starred-tested : every isRight starred ≡ true
@@ -124,5 +124,5 @@ unfolding readTable readLabels readTransitions column digitsWithin readFormula f
 starred-tested = refl
 
 -- Every starred line is right, from its texts.
-pub starred-right : (l : Line) → List·Memᴰ l starred → IsRight l
+pub starred-right : (l : SheetLine) → List·Memᴰ l starred → IsRight l
 starred-right l m = right-of-test l (every-of isRight starred starred-tested l m)

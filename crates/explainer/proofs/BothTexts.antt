@@ -25,9 +25,9 @@ use Rattle.actl.specs.declared.FormulaReply.{FormulaReply}
 use Rattle.actl.specs.declared.FormulaReply.the-variants as formulas
 use Rattle.actl.proofs.Laws.Forms.{length-form}
 use Rattle.explainer.specs.Interface.{numberIn, figureIn}
-use Rattle.explainer.specs.Explanation.{next}
+use Rattle.explainer.specs.Explanation.{andThen}
 use Rattle.explainer.specs.Readings.{Read, readings, ReadBoth}
-use Rattle.explainer.specs.declared.readings.Readiness.the-variants.{Ready, Refused}
+use Rattle.explainer.specs.declared.readings.BothRead.the-variants.{Ready, Refused}
 use Rattle.explainer.proofs.Explained.{reading-leaves-table, reading-leaves-formula}
 
 -- A reply with the number 0 accepted; any other is the refusal that number and figure say.
@@ -61,9 +61,9 @@ same-refusal f (refusal m h) n g e = let a : m ≡ n = cc in let b : h ≡ g = c
 all-written : (bytes buffer : List ℕ) → length bytes ≡ length buffer → overwritten bytes buffer ≡ bytes
 all-written bytes buffer e = let h : length buffer ≤ length bytes = omega arith in ap (λ l. bytes ++ l) (drop-of-length-le buffer h) ∙ append-nil bytes
 
-pub enough : {A : Type 0} (b : Bool) (n f : ℕ) (next : Reply A) → b ≡ true → unless b n f next ≡ next
-enough true n f next e = refl
-enough false n f next e = absurd (let z : _≡_ {A = ℕ} 0 1 = cc in omega arith)
+pub enough : {A : Type 0} (b : Bool) (n f : ℕ) (andThen : Reply A) → b ≡ true → unless b n f andThen ≡ andThen
+enough true n f andThen e = refl
+enough false n f andThen e = absurd (let z : _≡_ {A = ℕ} 0 1 = cc in omega arith)
 
 module _ (text buffer : List ℕ) (long : length buffer ≡ tableLength) where
   table-reading : lts.tableReading text buffer ≡ readTable text
@@ -100,20 +100,20 @@ module _ (table text buffer : List ℕ) (long : length buffer ≡ formulaLength)
 module _ (tableText formulaText : List ℕ) where
   pub both-table-refused : (n g : ℕ) → readTable tableText ≡ refusal n g → (table formula : List ℕ) → ReadBoth (readings tableText formulaText) (Refused n g) table formula
   both-table-refused n g e table formula =
-      subst (λ (r : Reply Table). ReadBoth (next r (λ t. next (readFormula (t .names) formulaText) (λ F. accepted (record { table = t; formula = F })))) (Refused n g) table formula) (sym e) (refl, refl)
+      subst (λ (r : Reply Table). ReadBoth (andThen r (λ t. andThen (readFormula (t .names) formulaText) (λ F. accepted (record { table = t; formula = F })))) (Refused n g) table formula) (sym e) (refl, refl)
 
   module _ (t : Table) (read : readTable tableText ≡ accepted t) where
-    over : readings tableText formulaText ≡ next (readFormula (t .names) formulaText) (λ F. accepted (record { table = t; formula = F }))
-    over = ap (λ r. next r (λ t. next (readFormula (t .names) formulaText) (λ F. accepted (record { table = t; formula = F })))) read
+    over : readings tableText formulaText ≡ andThen (readFormula (t .names) formulaText) (λ F. accepted (record { table = t; formula = F }))
+    over = ap (λ r. andThen r (λ t. andThen (readFormula (t .names) formulaText) (λ F. accepted (record { table = t; formula = F })))) read
 
     pub both-formula-refused : (n g : ℕ) → readFormula (t .names) formulaText ≡ refusal n g → (table formula : List ℕ) → ReadBoth (readings tableText formulaText) (Refused n g) table formula
     both-formula-refused n g e table formula =
-        subst (λ (r : Reply Read). ReadBoth r (Refused n g) table formula) (sym (over ∙ ap (λ r. next r (λ F. accepted (record { table = t; formula = F }))) e)) (refl, refl)
+        subst (λ (r : Reply Read). ReadBoth r (Refused n g) table formula) (sym (over ∙ ap (λ r. andThen r (λ F. accepted (record { table = t; formula = F }))) e)) (refl, refl)
 
     pub both-read : (F : Formula) → readFormula (t .names) formulaText ≡ accepted F → (table formula : List ℕ) → table ≡ tableBytes t → formula ≡ formulaBytes F
         → ReadBoth (readings tableText formulaText) Ready table formula
     both-read F e table formula a b =
-        subst (λ (r : Reply Read). ReadBoth r Ready table formula) (sym (over ∙ ap (λ r. next r (λ F. accepted (record { table = t; formula = F }))) e)) (a, b)
+        subst (λ (r : Reply Read). ReadBoth r Ready table formula) (sym (over ∙ ap (λ r. andThen r (λ F. accepted (record { table = t; formula = F }))) e)) (a, b)
 
 -- What an accepted reading into a buffer of just the length gives.
 pub record TableRead (text left : List ℕ) : Type 0 where

@@ -22,29 +22,29 @@ use Rattle.automaton.specs.Replies as built
 use Rattle.automaton.specs.declared.BuildReply.{BuildReply}
 use Rattle.automaton.specs.declared.BuildReply.the-variants as replies
 use Rattle.explainer.specs.Interface.{numberIn, figureIn, edgesIn}
-use Rattle.explainer.specs.Readings.{Read, Held, Said, listed, ClassIn}
+use Rattle.explainer.specs.Readings.{Read, HoldsBoth, Outcome, listingOf, ClassIn}
 use Rattle.explainer.specs.declared.ExplainReply.the-variants.{Explained, Refused}
 use Rattle.explainer.proofs.Explaining.{Prepared, on-prepared}
 
-module _ (t f : List ℕ) (x : Read) (held : Held t f x) (long : tableLength ≤ length t) (wide : formulaLength ≤ length f) where
+module _ (t f : List ℕ) (x : Read) (held : HoldsBoth t f x) (long : tableLength ≤ length t) (wide : formulaLength ≤ length f) where
   prepared : Prepared t f x
   prepared = record { is-table = held .is-table; is-formula = held .is-formula; table-long = long; formula-long = wide }
 
-  module _ (rows edges : List ℕ) (b : BuildReply) (said : built.buildReply b ≡ built.buildReplied t f rows edges) where
+  module _ (rows edges : List ℕ) (b : BuildReply) (outcome : built.buildReply b ≡ built.buildReplied t f rows edges) where
     is-fitted : built.built t f rows edges ≡ built.fitted (listing (x .table) (x .formula)) rows edges
     unfolding built.built
     is-fitted = on-prepared prepared (λ t F. built.fitted (listing t F) rows edges)
 
     pub refused-said : (numberIn (built.buildReply b) ≡ 0 → ⊥) → (number count : ℕ) → number ≡ numberIn (built.buildReply b) → count ≡ figureIn (λ c. c .rows) (built.buildReply b)
         → (table formula rows′ edges′ : List ℕ) → rows′ ≡ built.rowsLeft t f rows edges → edges′ ≡ built.edgesLeft t f rows edges
-        → Said (listed x rows edges) (Refused number count) table table formula formula rows rows′ edges edges′
+        → Outcome (listingOf x rows edges) (Refused number count) table table formula formula rows rows′ edges edges′
     refused-said h number count p q table formula rows′ edges′ u v = by (built.fitted (listing (x .table) (x .formula)) rows edges) is-fitted
       where
         by : (r : Reply Listing) → built.built t f rows edges ≡ r
-            → Said (answers (λ L. record { table = x .table; formula = x .formula; list = L }) r) (Refused number count) table table formula formula rows rows′ edges edges′
-        by (accepted L) e = absurd (h (ap numberIn (said ∙ ap (answers built.counts) e)))
+            → Outcome (answers (λ L. record { table = x .table; formula = x .formula; list = L }) r) (Refused number count) table table formula formula rows rows′ edges edges′
+        by (accepted L) e = absurd (h (ap numberIn (outcome ∙ ap (answers built.counts) e)))
         by (refusal n g) e =
-            let z = said ∙ ap (answers built.counts) e in
+            let z = outcome ∙ ap (answers built.counts) e in
             let a = p ∙ ap numberIn z in
             let c = q ∙ ap (figureIn (λ c. c .rows)) z in
             record {
@@ -61,7 +61,7 @@ module _ (t f : List ℕ) (x : Read) (held : Held t f x) (long : tableLength ≤
         → (table table′ formula formula′ rows′ edges′ : List ℕ) → table′ ≡ overwritten t table → formula′ ≡ overwritten f formula
         → rows′ ≡ built.rowsLeft t f rows edges → edges′ ≡ built.edgesLeft t f rows edges
         → ((n g : ℕ) → built.buildReply b ≡ refusal n g → n ≡ 0 → ⊥)
-        → Said (listed x rows edges) (Explained verdict class count edge-count) table table′ formula formula′ rows rows′ edges edges′
+        → Outcome (listingOf x rows edges) (Explained verdict class count edge-count) table table′ formula formula′ rows rows′ edges edges′
     unfolding verdictReplied
     explained-said h w s verdict class count edge-count p c q k table table′ formula formula′ rows′ edges′ d m u v never =
         by (built.fitted (listing (x .table) (x .formula)) rows edges) is-fitted
@@ -70,10 +70,10 @@ module _ (t f : List ℕ) (x : Read) (held : Held t f x) (long : tableLength ≤
         told = s ∙ on-prepared prepared (λ t F. accepted (holds.verdict t F))
 
         by : (r : Reply Listing) → built.built t f rows edges ≡ r
-            → Said (answers (λ L. record { table = x .table; formula = x .formula; list = L }) r) (Explained verdict class count edge-count) table table′ formula formula′ rows rows′ edges edges′
-        by (refusal n g) e = absurd (never n g (said ∙ ap (answers built.counts) e) (sym (ap numberIn (said ∙ ap (answers built.counts) e)) ∙ h))
+            → Outcome (answers (λ L. record { table = x .table; formula = x .formula; list = L }) r) (Explained verdict class count edge-count) table table′ formula formula′ rows rows′ edges edges′
+        by (refusal n g) e = absurd (never n g (outcome ∙ ap (answers built.counts) e) (sym (ap numberIn (outcome ∙ ap (answers built.counts) e)) ∙ h))
         by (accepted L) e =
-            let z = said ∙ ap (answers built.counts) e in
+            let z = outcome ∙ ap (answers built.counts) e in
             let a = p ∙ ap (figureIn (λ holds. holds)) told in
             let b = c (_) (x .formula) (held .is-formula) in
             let i₃ = q ∙ ap (figureIn (λ c. c .rows)) z in

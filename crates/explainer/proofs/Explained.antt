@@ -119,7 +119,7 @@ pub record Accepted (tableText formulaText rows edges : List ℕ) (e : explain.E
   pub rows-fit : length (e .list .rows) ≤ length rows / rowLength
   pub edges-fit : length (e .list .edges) ≤ length edges / edgeLength
 
-next-accepted : {A B : Type 0} (r : Reply A) (f : A → Reply B) {b : B} → explain.next r f ≡ accepted b → (a : A) × (r ≡ accepted a) × (f a ≡ accepted b)
+next-accepted : {A B : Type 0} (r : Reply A) (f : A → Reply B) {b : B} → explain.andThen r f ≡ accepted b → (a : A) × (r ≡ accepted a) × (f a ≡ accepted b)
 next-accepted (accepted a) f e = (a, refl, e)
 next-accepted (refusal n g) f e = absurd (refusal-is-not-accepted e)
 
@@ -136,13 +136,13 @@ module _ (tableText formulaText rows edges : List ℕ) where
 
   pub explanation-accepted : (e : explain.Explanation) → explain.explanation tableText formulaText rows edges ≡ accepted e → Accepted tableText formulaText rows edges e
   explanation-accepted e d =
-      let (t, a, g) = next-accepted (readTable tableText) (λ t. explain.next (readFormula (t .names) formulaText) (λ F. answers (λ L. record { table = t; formula = F; list = L }) (fitted (listing t F) rows edges))) d in
+      let (t, a, g) = next-accepted (readTable tableText) (λ t. explain.andThen (readFormula (t .names) formulaText) (λ F. answers (λ L. record { table = t; formula = F; list = L }) (fitted (listing t F) rows edges))) d in
       let (F, b, h) = next-accepted (readFormula (t .names) formulaText) (λ F. answers (λ L. record { table = t; formula = F; list = L }) (fitted (listing t F) rows edges)) g in
       listed-accepted t F a b (fitted (listing t F) rows edges) refl e h
 
 module _ (tableText formulaText table formula rows edges : List ℕ) where
   abbrev explained : Reply explain.Explanation → Type 0
-  explained r = FromTexts tableText formulaText (answers explain.countsOf (explain.explainReplied r)) (explain.rowsLeft r rows) (explain.edgesLeft r edges)
+  explained r = FromTexts tableText formulaText (answers explain.countsOf (explain.explainReplied r)) (explain.rowsExplained r rows) (explain.edgesExplained r edges)
 
   explanation-explains : (r : Reply explain.Explanation) → explain.explaining tableText formulaText table formula rows edges ≡ r → explained r
   unfolding explain.explaining

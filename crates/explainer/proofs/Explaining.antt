@@ -25,7 +25,7 @@ use Rattle.actl.proofs.Laws.Prepared as formulas
 use Rattle.actl.proofs.Laws.Accepted.{reading-leaves-form}
 use Rattle.listing.specs.Listing.{Listing, listing}
 use Rattle.automaton.specs.Replies.{fitted}
-use Rattle.explainer.specs.Explanation.{Explanation, next, explanation}
+use Rattle.explainer.specs.Explanation.{Explanation, andThen, explanation}
 use Rattle.explainer.specs.Readings.{Read, readings}
 use Rattle.explainer.proofs.BothTexts.{enough}
 
@@ -35,18 +35,18 @@ both t F = record { table = t; formula = F }
 -- An explanation is both readings, then the listing of what was read.
 pub explanation-of-readings : (tableText formulaText rows edges : List ℕ)
     → explanation tableText formulaText rows edges
-    ≡ next (readings tableText formulaText) (λ x. answers (λ L. record { table = x .table; formula = x .formula; list = L }) (fitted (listing (x .table) (x .formula)) rows edges))
+    ≡ andThen (readings tableText formulaText) (λ x. answers (λ L. record { table = x .table; formula = x .formula; list = L }) (fitted (listing (x .table) (x .formula)) rows edges))
 explanation-of-readings tableText formulaText rows edges = by-table (readTable tableText)
   where
     listed : Table → Formula → Reply Explanation
     listed t F = answers (λ L. record { table = t; formula = F; list = L }) (fitted (listing t F) rows edges)
 
-    by-formula : (t : Table) (r : Reply Formula) → next r (λ F. listed t F) ≡ next (next r (λ F. accepted (both t F))) (λ x. listed (x .table) (x .formula))
+    by-formula : (t : Table) (r : Reply Formula) → andThen r (λ F. listed t F) ≡ andThen (andThen r (λ F. accepted (both t F))) (λ x. listed (x .table) (x .formula))
     by-formula t (accepted F) = refl
     by-formula t (refusal n g) = refl
 
-    by-table : (r : Reply Table) → next r (λ t. next (readFormula (t .names) formulaText) (λ F. listed t F))
-        ≡ next (next r (λ t. next (readFormula (t .names) formulaText) (λ F. accepted (both t F)))) (λ x. listed (x .table) (x .formula))
+    by-table : (r : Reply Table) → andThen r (λ t. andThen (readFormula (t .names) formulaText) (λ F. listed t F))
+        ≡ andThen (andThen r (λ t. andThen (readFormula (t .names) formulaText) (λ F. accepted (both t F)))) (λ x. listed (x .table) (x .formula))
     by-table (accepted t) = by-formula t (readFormula (t .names) formulaText)
     by-table (refusal n g) = refl
 
@@ -76,12 +76,12 @@ readings-prepared tableText formulaText x e = by-table (readTable tableText) ref
           formula-long = omega (arith, length-form F (form .few));
         }
 
-    by-formula : (t : Table) → readTable tableText ≡ accepted t → (r : Reply Formula) → readFormula (t .names) formulaText ≡ r → next r (λ F. accepted (record { table = t; formula = F })) ≡ accepted x
+    by-formula : (t : Table) → readTable tableText ≡ accepted t → (r : Reply Formula) → readFormula (t .names) formulaText ≡ r → andThen r (λ F. accepted (record { table = t; formula = F })) ≡ accepted x
         → Prepared (tableBytes (x .table)) (formulaBytes (x .formula)) x
     by-formula t d (accepted F) f z = subst (λ (y : Read). Prepared (tableBytes (y .table)) (formulaBytes (y .formula)) y) (same-read z) (prepared t F d f)
     by-formula t d (refusal n g) f z = absurd (let q : _≡_ {A = ℕ} 0 1 = cc in omega arith)
 
-    by-table : (r : Reply Table) → readTable tableText ≡ r → next r (λ t. next (readFormula (t .names) formulaText) (λ F. accepted (record { table = t; formula = F }))) ≡ accepted x
+    by-table : (r : Reply Table) → readTable tableText ≡ r → andThen r (λ t. andThen (readFormula (t .names) formulaText) (λ F. accepted (record { table = t; formula = F }))) ≡ accepted x
         → Prepared (tableBytes (x .table)) (formulaBytes (x .formula)) x
     by-table (accepted t) d z = by-formula t d (readFormula (t .names) formulaText) refl z
     by-table (refusal n g) d z = absurd (let q : _≡_ {A = ℕ} 0 1 = cc in omega arith)

@@ -15,12 +15,12 @@ use Rattle.actl.specs.Prepared.{formulaLength, formulaBytes, preparedFormula}
 use Rattle.actl.specs.Replies.{longEnough}
 use Rattle.automaton.specs.Replies.{Counts}
 use Rattle.explainer.specs.Explained.{FromTexts}
-use Rattle.explainer.specs.Explanation.{Explanation, next, countsOf, explainReply, explainReplied, rowsLeft, edgesLeft, explanation, explaining}
-use Rattle.explainer.specs.Readings.{Read, readings, ReadBoth, Held, listed, Said}
+use Rattle.explainer.specs.Explanation.{Explanation, andThen, countsOf, explainReply, explainReplied, rowsExplained, edgesExplained, explanation, explaining}
+use Rattle.explainer.specs.Readings.{Read, readings, ReadBoth, HoldsBoth, listingOf, Outcome}
 use Rattle.explainer.specs.Promise.{Promise}
 use Rattle.explainer.specs.declared.ExplainReply.{ExplainReply}
 use Rattle.explainer.specs.declared.ExplainReply.the-variants as replies
-use Rattle.explainer.specs.declared.readings.Readiness.the-variants.{Ready, Refused}
+use Rattle.explainer.specs.declared.readings.BothRead.the-variants.{Ready, Refused}
 use Rattle.explainer.proofs.BothTexts.{enough}
 use Rattle.explainer.proofs.Explaining.{explanation-of-readings, readings-prepared}
 use Rattle.explainer.proofs.Explained.{explain-explains}
@@ -33,7 +33,7 @@ stopped false n f r e = refl
 pub record WasRead (tableText formulaText t f : List ℕ) : Type 0 where
   pub both : Read
   pub read : readings tableText formulaText ≡ accepted both
-  pub held : Held t f both
+  pub held : HoldsBoth t f both
 
 module _ (tableText formulaText t f : List ℕ) where
   pub was-read : ReadBoth (readings tableText formulaText) Ready t f → WasRead tableText formulaText t f
@@ -60,15 +60,15 @@ module _ (tableText formulaText table formula rows edges : List ℕ) where
   abbrev E : Reply Explanation
   E = explaining tableText formulaText table formula rows edges
 
-  pub promised : (r : ExplainReply) (table′ formula′ rows′ edges′ : List ℕ) → Said E r table table′ formula formula′ rows rows′ edges edges′
+  pub promised : (r : ExplainReply) (table′ formula′ rows′ edges′ : List ℕ) → Outcome E r table table′ formula formula′ rows rows′ edges edges′
       → Promise tableText formulaText table table′ formula formula′ rows rows′ edges edges′ r
   promised r table′ formula′ rows′ edges′ s = record {
-    said = s;
+    outcome = s;
     runs = subst₃ (FromTexts tableText formulaText) (ap (answers countsOf) (sym (s .reply))) (sym (s .rows-left)) (sym (s .edges-left)) (explain-explains tableText formulaText table formula rows edges);
   }
 
-  refusal-said : (n g : ℕ) (e : Reply Explanation) → e ≡ refusal n g → Said e (replies.Refused n g) table table formula formula rows rows edges edges
-  refusal-said n g e z = subst (λ (y : Reply Explanation). Said y (replies.Refused n g) table table formula formula rows rows edges edges) (sym z)
+  refusal-said : (n g : ℕ) (e : Reply Explanation) → e ≡ refusal n g → Outcome e (replies.Refused n g) table table formula formula rows rows edges edges
+  refusal-said n g e z = subst (λ (y : Reply Explanation). Outcome y (replies.Refused n g) table table formula formula rows rows edges edges) (sym z)
       (record { reply = refl; table-left = refl; formula-left = refl; rows-left = refl; edges-left = refl })
 
   pub promised-refusal : (n g : ℕ) → E ≡ refusal n g → Promise tableText formulaText table table formula formula rows rows edges edges (replies.Refused n g)
@@ -84,7 +84,7 @@ module _ (tableText formulaText table formula rows edges : List ℕ) where
       enough (leb tableLength (length table)) 14 tableLength _ (le-leb tableLength (length table) g)
       ∙ stopped (leb formulaLength (length formula)) 14 formulaLength _ (lt-leb formulaLength (length formula) h)
 
-  pub long-enough : tableLength ≤ length table → formulaLength ≤ length formula → E ≡ next (readings tableText formulaText) (λ x. listed x rows edges)
+  pub long-enough : tableLength ≤ length table → formulaLength ≤ length formula → E ≡ andThen (readings tableText formulaText) (λ x. listingOf x rows edges)
   unfolding explaining
   long-enough g h =
       enough (leb tableLength (length table)) 14 tableLength _ (le-leb tableLength (length table) g)
@@ -92,8 +92,8 @@ module _ (tableText formulaText table formula rows edges : List ℕ) where
       ∙ explanation-of-readings tableText formulaText rows edges
 
   pub promised-listing : tableLength ≤ length table → formulaLength ≤ length formula → (x : Read) → readings tableText formulaText ≡ accepted x
-      → (r : ExplainReply) (table′ formula′ rows′ edges′ : List ℕ) → Said (listed x rows edges) r table table′ formula formula′ rows rows′ edges edges′
+      → (r : ExplainReply) (table′ formula′ rows′ edges′ : List ℕ) → Outcome (listingOf x rows edges) r table table′ formula formula′ rows rows′ edges edges′
       → Promise tableText formulaText table table′ formula formula′ rows rows′ edges edges′ r
   promised-listing g h x e r table′ formula′ rows′ edges′ s =
       promised r table′ formula′ rows′ edges′
-      (subst (λ (y : Reply Explanation). Said y r table table′ formula formula′ rows rows′ edges edges′) (sym (long-enough g h ∙ ap (λ y. next y (λ x. listed x rows edges)) e)) s)
+      (subst (λ (y : Reply Explanation). Outcome y r table table′ formula formula′ rows rows′ edges edges′) (sym (long-enough g h ∙ ap (λ y. andThen y (λ x. listingOf x rows edges)) e)) s)

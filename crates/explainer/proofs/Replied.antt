@@ -13,9 +13,9 @@ use Rattle.actl.proofs.Laws.Accepted.{reading-leaves-form}
 use Rattle.listing.specs.Listing.{Edge, Listing}
 use Rattle.listing.specs.Bytes.{rowLength, edgeLength}
 use Rattle.automaton.proofs.Accepted.{formed-has-class}
-use Rattle.explainer.specs.Explanation.{Explanation, explainReply, explaining, explanation, explainReplied, rowsLeft, edgesLeft}
-use Rattle.explainer.specs.Files.{Begins, replyText, Few, Counts}
-use Rattle.explainer.specs.Printed.{withoutEnd, printed, explainText, Written}
+use Rattle.explainer.specs.Explanation.{Explanation, explainReply, explaining, explanation, explainReplied, rowsExplained, edgesExplained}
+use Rattle.explainer.specs.Files.{Begins, replyText, Few, PrefixLength}
+use Rattle.explainer.specs.Printed.{withoutEnd, printed, explainText, TextWritten}
 use Rattle.explainer.specs.declared.ExplainReply.{ExplainReply}
 use Rattle.explainer.proofs.Traced.{small-edges}
 use Rattle.explainer.proofs.Explained.{Accepted, explanation-accepted}
@@ -48,13 +48,13 @@ module _ (tableText text table formula rows edges : List ℕ) (long : tableLengt
       by (refusal n g) d = tt
       by (accepted x) d = (omega (arith, stands x d .rows-fit), omega (arith, stands x d .edges-fit))
 
-  pub reply-text : (n : ℕ) (r : ExplainReply) (rows′ edges′ : List ℕ) → explainReply r ≡ explainReplied E → rows′ ≡ rowsLeft E rows → edges′ ≡ edgesLeft E edges
+  pub reply-text : (n : ℕ) (r : ExplainReply) (rows′ edges′ : List ℕ) → explainReply r ≡ explainReplied E → rows′ ≡ rowsExplained E rows → edges′ ≡ edgesExplained E edges
       → replyText (explainReply r) n rows′ edges′ ≡ printed (withLength n (explanation tableText text rows edges))
   unfolding printed
   reply-text n r rows′ edges′ e p q =
       (λ i. replyText (e i) n (p i) (q i)) ∙ by E refl ∙ ap (λ x. printed (withLength n x)) is-explanation
     where
-      by : (x : Reply Explanation) → E ≡ x → replyText (explainReplied x) n (rowsLeft x rows) (edgesLeft x edges) ≡ printed (withLength n x)
+      by : (x : Reply Explanation) → E ≡ x → replyText (explainReplied x) n (rowsExplained x rows) (edgesExplained x edges) ≡ printed (withLength n x)
       by (refusal k g) d = refl
       by (accepted x) d = listing-printed x rows edges (small x d)
 
@@ -67,7 +67,7 @@ files-text tablefile text table formula n (m, h, b) t e =
     (λ i. printed (withLength (e i) (explanation (b i) (t i) rows edges))) ∙ ap printed (explanation-begun rows edges m table (withoutEnd formula) h)
 
 -- A text that was written into a buffer has no more bytes than the buffer.
-pub written-counts : {text before out : List ℕ} {end : ℕ} → Written text before out end → length out ≡ length before → Counts end out
+pub written-counts : {text before out : List ℕ} {end : ℕ} → TextWritten text before out end → length out ≡ length before → PrefixLength end out
 written-counts {text} {before} {out} {end} w e =
     let fits : end ≤ length out = omega (arith, w .ends, ap length (w .is), length-append text (drop (length text) before), length-drop (length text) before) in
     (fits, sym (length-take-le end out fits))

@@ -15,7 +15,7 @@ use Rattle.listing.specs.Places.{Final, Leads}
 use Rattle.listing.specs.Positions.{Position, at, rootAt, Joins}
 use Rattle.listing.proofs.Frames.{Frame, Until, now, later, Shows, Breaks}
 use Rattle.listing.proofs.Acceptance.{Accepting, halt, move, shown-is-accepting, broken-is-accepting}
-use Rattle.explainer.specs.Shown.{PassesFrom, Shown, Broken, Decides}
+use Rattle.explainer.specs.Shown.{PassesFrom, Shown, Broken, ShowsOrBreaks}
 use Rattle.explainer.specs.Positions.{PositionsTrace}
 
 -- A run as a frame: the number of the next step.
@@ -144,14 +144,14 @@ module _ {t : Table} (F : Formula) (r : Run t (t .start)) where
       let b = broken-is-accepting {M = along (r .step)} 0 o (class-types F .1 c) in
       (λ x. accepting-run .0 (b .0 (a .0 x)), λ x. a .1 (b .1 (accepting-run .1 x)))
 
-  pub runs-by-positions : HasClass F → Decides F (r .step) ↔ ((n : ℕ) × PositionsTrace t F (r .step) n)
+  pub runs-by-positions : HasClass F → ShowsOrBreaks F (r .step) ↔ ((n : ℕ) × PositionsTrace t F (r .step) n)
   runs-by-positions (inl c) = let h = shown-by-positions c in (one, λ x. inl (c, h .1 x))
     where
-      one : Decides F (r .step) → (n : ℕ) × PositionsTrace t F (r .step) n
+      one : ShowsOrBreaks F (r .step) → (n : ℕ) × PositionsTrace t F (r .step) n
       one (inl (e, d)) = shown-by-positions c .0 d
       one (inr (e, d)) = absurd (omega arith)
   runs-by-positions (inr c) = let h = broken-by-positions c in (two, λ x. inr (c, h .1 x))
     where
-      two : Decides F (r .step) → (n : ℕ) × PositionsTrace t F (r .step) n
+      two : ShowsOrBreaks F (r .step) → (n : ℕ) × PositionsTrace t F (r .step) n
       two (inl (e, d)) = absurd (omega arith)
       two (inr (e, d)) = broken-by-positions c .0 d

@@ -41,33 +41,33 @@ pub record Answer : Type 0 where
   pub language : Language
   pub lastRow : Option Position
 
-pub data Says : Type 0 where
-  refused : ℕ → ℕ → Says
-  explained : Answer → Says
+pub data Expected : Type 0 where
+  refused : ℕ → ℕ → Expected
+  explained : Answer → Expected
 
-pub record Line : Type 0 where
+pub record SheetLine : Type 0 where
   pub table : List ℕ
   pub formula : List ℕ
-  pub says : Says
+  pub expected : Expected
 
 abbrev pub LastRow : Listing → Option Position → Type 0
 LastRow L none = Unit {0}
 LastRow L (some p) = placed L (length (L .rows) - 1) ≡ p
 
 -- What is said of a table and a formula: the verdict by Definition 3, the words by Definition 6, the row by the listing.
-pub record Answers (t : Table) (F : Formula) (a : Answer) : Type 0 where
+pub record IsAnswer (t : Table) (F : Formula) (a : Answer) : Type 0 where
   pub class : classOf F ≡ a .class
   pub verdict : (a .holds ≡ true) ↔ Sat t F (t .start)
   pub words : (w : List ℕ) → Member (a .language) w ↔ Explains t F w
   pub row : LastRow (listing t F) (a .lastRow)
 
-abbrev pub SaysRightly : Table → List ℕ → Says → Type 0
-SaysRightly t text (refused number figure) = readFormula (t .names) text ≡ refusal number figure
-SaysRightly t text (explained a) = (F : Formula) × (readFormula (t .names) text ≡ accepted F) × Answers t F a
+abbrev pub Meets : Table → List ℕ → Expected → Type 0
+Meets t text (refused number figure) = readFormula (t .names) text ≡ refusal number figure
+Meets t text (explained a) = (F : Formula) × (readFormula (t .names) text ≡ accepted F) × IsAnswer t F a
 
 -- From the texts.
-abbrev pub IsRight : Line → Type 0
-IsRight l = (t : Table) × (readTable (l .table) ≡ accepted t) × SaysRightly t (l .formula) (l .says)
+abbrev pub IsRight : SheetLine → Type 0
+IsRight l = (t : Table) × (readTable (l .table) ≡ accepted t) × Meets t (l .formula) (l .expected)
 
 -- The tables.
 abbrev pub lines : List String → List ℕ
@@ -83,16 +83,16 @@ oneState = lines ("     1     0     0     0" ∷ [])
 abbrev pub loops : List ℕ
 loops = lines ("     1     3     3     0" ∷ "     1 a" ∷ "     2 b" ∷ "     3 c" ∷ "     0     1     0" ∷ "     0     2     0" ∷ "     0     3     0" ∷ [])
 
-abbrev pub asks : List ℕ → String → Says → Line
-asks table formula says = record { table = table; formula = ascii formula; says = says }
+abbrev pub asks : List ℕ → String → Expected → SheetLine
+asks table formula expected = record { table = table; formula = ascii formula; expected = expected }
 
-abbrev pub holding : ℕ → Language → Says
+abbrev pub holding : ℕ → Language → Expected
 holding class language = explained (record { class = class; holds = true; language = language; lastRow = none })
 
-abbrev pub failing : ℕ → Language → Option Position → Says
+abbrev pub failing : ℕ → Language → Option Position → Expected
 failing class language row = explained (record { class = class; holds = false; language = language; lastRow = row })
 
-abbrev pub starred : List Line
+abbrev pub starred : List SheetLine
 starred =
     asks tableM "T" (holding 1 (only ([] ∷ [])))
     ∷ asks tableM "~T" (failing 2 (only ([] ∷ [])) none)

@@ -13,12 +13,12 @@ use Rattle.actl.specs.Reading.{readFormula}
 use Rattle.actl.specs.Prepared.{preparedFormula}
 use Rattle.labelling.specs.Runs.{Run}
 use Rattle.automaton.specs.Replies.{Counts}
-use Rattle.explainer.specs.Shown.{Decides}
+use Rattle.explainer.specs.Shown.{ShowsOrBreaks}
 use Rattle.explainer.specs.Traces.{Traces}
 
 -- "For every unending run: it shows (breaks) the formula exactly when the rows and edges that building wrote trace some beginning of it."
 abbrev pub RunsTraced : Table → Formula → Counts → List ℕ → List ℕ → Type 0
-RunsTraced t F c rows edges = (r : Run t (t .start)) → Decides F (r .step) ↔ ((n : ℕ) × Traces c rows edges (r .step) n)
+RunsTraced t F c rows edges = (r : Run t (t .start)) → ShowsOrBreaks F (r .step) ↔ ((n : ℕ) × Traces c rows edges (r .step) n)
 
 -- From the two texts: where building accepted, both texts were read, and its rows and edges trace the runs of what they say.
 abbrev pub FromTexts : List ℕ → List ℕ → Reply Counts → List ℕ → List ℕ → Type 0

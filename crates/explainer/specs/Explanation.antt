@@ -37,15 +37,15 @@ pub record Explanation : Type 0 where
   pub formula : Formula
   pub list : Listing
 
-abbrev pub next : {A B : Type 0} → Reply A → (A → Reply B) → Reply B
-next (accepted a) f = f a
-next (refusal number figure) f = refusal number figure
+abbrev pub andThen : {A B : Type 0} → Reply A → (A → Reply B) → Reply B
+andThen (accepted a) f = f a
+andThen (refusal number figure) f = refusal number figure
 
 -- The refusals of the entries in turn: reading the table, reading the formula, building.
 abbrev pub explanation : List ℕ → List ℕ → List ℕ → List ℕ → Reply Explanation
 explanation tableText formulaText rows edges =
-    next (readTable tableText) (λ t.
-    next (readFormula (t .names) formulaText) (λ F.
+    andThen (readTable tableText) (λ t.
+    andThen (readFormula (t .names) formulaText) (λ F.
     answers (λ L. record { table = t; formula = F; list = L }) (fitted (listing t F) rows edges)))
 
 -- 01: "Order: 14 first". The texts, then what is lent for the prepared table, the prepared formula, the rows and the edges.
@@ -64,14 +64,14 @@ summary e = record {
 abbrev pub explainReplied : Reply Explanation → Reply Summary
 explainReplied e = answers summary e
 
-abbrev pub tableLeft : Reply Explanation → List ℕ → List ℕ
-tableLeft e table = leftIn (λ x. tableBytes (x .table)) e table
+abbrev pub tableExplained : Reply Explanation → List ℕ → List ℕ
+tableExplained e table = leftIn (λ x. tableBytes (x .table)) e table
 
-abbrev pub formulaLeft : Reply Explanation → List ℕ → List ℕ
-formulaLeft e formula = leftIn (λ x. formulaBytes (x .formula)) e formula
+abbrev pub formulaExplained : Reply Explanation → List ℕ → List ℕ
+formulaExplained e formula = leftIn (λ x. formulaBytes (x .formula)) e formula
 
-abbrev pub rowsLeft : Reply Explanation → List ℕ → List ℕ
-rowsLeft e rows = leftIn (λ x. rowsBytes (x .list)) e rows
+abbrev pub rowsExplained : Reply Explanation → List ℕ → List ℕ
+rowsExplained e rows = leftIn (λ x. rowsBytes (x .list)) e rows
 
-abbrev pub edgesLeft : Reply Explanation → List ℕ → List ℕ
-edgesLeft e edges = leftIn (λ x. edgesBytes (x .list)) e edges
+abbrev pub edgesExplained : Reply Explanation → List ℕ → List ℕ
+edgesExplained e edges = leftIn (λ x. edgesBytes (x .list)) e edges

@@ -8,7 +8,7 @@ use lib.ListN.{length, getD, take, drop}
 use Rattle.lts.specs.Reply.{Reply, accepted, refusal}
 use Rattle.explainer.specs.Explanation.{Summary}
 use Rattle.explainer.specs.Printed.{listingText, refusalLine}
-use Rattle.explainer.specs.declared.files.Seen.{Seen}
+use Rattle.explainer.specs.declared.files.Scanned.{Scanned}
 
 -- The beginning of a table file: all of it, or at least 20,282 bytes, which get the same answer as all.
 abbrev pub Begins : List ℕ → List ℕ → Type 0
@@ -19,9 +19,9 @@ abbrev pub lastByte : List ℕ → ℕ
 lastByte file = getD file (length file - 1) 0
 
 -- What is kept of a formula file: its length, its last byte, and its first 513 bytes in `head`.
-pub record Heard (file head : List ℕ) (seen : Seen) : Type 0 where
-  pub counted : seen .length ≡ length file
-  pub ends : seen .last ≡ lastByte file
+pub record ScanOf (file head : List ℕ) (scanned : Scanned) : Type 0 where
+  pub counted : scanned .length ≡ length file
+  pub ends : scanned .last ≡ lastByte file
   pub begun : take (length file) head ≡ take 513 file
   pub room : length head ≡ 513
 
@@ -40,5 +40,5 @@ Few (accepted s) = (s .rows ≤ 1024) × (s .edges ≤ 4096)
 Few (refusal number figure) = Unit {0}
 
 -- n counts bytes at the start of a buffer. The second part follows from the first; with both, a caller lends the n bytes without a proof.
-abbrev pub Counts : ℕ → List ℕ → Type 0
-Counts n buffer = (n ≤ length buffer) × (n ≡ length (take n buffer))
+abbrev pub PrefixLength : ℕ → List ℕ → Type 0
+PrefixLength n buffer = (n ≤ length buffer) × (n ≡ length (take n buffer))

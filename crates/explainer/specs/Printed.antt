@@ -10,7 +10,7 @@ use Rattle.lts.specs.Lists.{upFrom, bind}
 use Rattle.lts.specs.Reply.{Reply, accepted, refusal, overwritten}
 use Rattle.listing.specs.Listing.{Row, Edge, Listing}
 use Rattle.listing.specs.Bytes.{rowLength, edgeLength, bitOf}
-use Rattle.explainer.specs.Traces.{edgeIn}
+use Rattle.explainer.specs.Traces.{edgeAt}
 use Rattle.explainer.specs.Explanation.{Summary, Explanation, summary, explanation}
 
 -- "per row its number, place, state, final (1 or 0)"
@@ -39,7 +39,7 @@ abbrev pub rowText : List ℕ → ℕ → List ℕ
 rowText rows i = numbersLine (i ∷ getD rows (i * 3) 0 ∷ getD rows (i * 3 + 1) 0 ∷ getD rows (i * 3 + 2) 0 ∷ [])
 
 abbrev pub edgeText : List ℕ → ℕ → List ℕ
-edgeText edges j = edgeLine (edgeIn edges j)
+edgeText edges j = edgeLine (edgeAt edges j)
 
 abbrev pub rowsText : List ℕ → ℕ → List ℕ
 rowsText rows n = bind (rowText rows) (upFrom 0 n)
@@ -51,7 +51,7 @@ abbrev pub listingText : Summary → List ℕ → List ℕ → List ℕ
 listingText s rows edges = summaryLine s ++ (rowsText rows (s .rows) ++ edgesText edges (s .edges))
 
 -- What a writer leaves: a text at the start of a buffer, which held `before`, and the text's length.
-pub record Written (text before out : List ℕ) (end : ℕ) : Type 0 where
+pub record TextWritten (text before out : List ℕ) (end : ℕ) : Type 0 where
   pub is : out ≡ overwritten text before
   pub ends : end ≡ length text
 

@@ -4,11 +4,11 @@ use Prim.Native.Nat.{ℕ}
 use Rattle.lts.specs.Reply.{answers}
 use Rattle.explainer.specs.Explained.{FromTexts}
 use Rattle.explainer.specs.Explanation.{countsOf, explainReply, explaining}
-use Rattle.explainer.specs.Readings.{Said}
+use Rattle.explainer.specs.Readings.{Outcome}
 use Rattle.explainer.specs.declared.ExplainReply.{ExplainReply}
 
 -- The texts; what is lent, before and after; the reply.
 pub record Promise (tableText formulaText table table′ formula formula′ rows rows′ edges edges′ : List ℕ) (r : ExplainReply) : Type 0 where
-  pub said : Said (explaining tableText formulaText table formula rows edges) r table table′ formula formula′ rows rows′ edges edges′
+  pub outcome : Outcome (explaining tableText formulaText table formula rows edges) r table table′ formula formula′ rows rows′ edges edges′
   -- "For every unending run: it shows (breaks) the formula exactly when the rows and edges that building wrote trace some beginning of it."
   pub runs : FromTexts tableText formulaText (answers countsOf (explainReply r)) rows′ edges′

@@ -12,10 +12,10 @@ use Rattle.actl.specs.Reading.{readFormula}
 use Rattle.actl.specs.Prepared.{formulaBytes, preparedFormula}
 use Rattle.listing.specs.Listing.{Listing, listing}
 use Rattle.automaton.specs.Replies.{fitted}
-use Rattle.explainer.specs.Explanation.{next, Explanation, explainReply, explainReplied, tableLeft, formulaLeft, rowsLeft, edgesLeft}
+use Rattle.explainer.specs.Explanation.{andThen, Explanation, explainReply, explainReplied, tableExplained, formulaExplained, rowsExplained, edgesExplained}
 use Rattle.explainer.specs.declared.ExplainReply.{ExplainReply}
-use Rattle.explainer.specs.declared.readings.Readiness.{Readiness}
-use Rattle.explainer.specs.declared.readings.Readiness.the-variants.{Ready, Refused}
+use Rattle.explainer.specs.declared.readings.BothRead.{BothRead}
+use Rattle.explainer.specs.declared.readings.BothRead.the-variants.{Ready, Refused}
 
 pub record Read : Type 0 where
   pub table : Table
@@ -23,17 +23,17 @@ pub record Read : Type 0 where
 
 abbrev pub readings : List ℕ → List ℕ → Reply Read
 readings tableText formulaText =
-    next (readTable tableText) (λ t. next (readFormula (t .names) formulaText) (λ F. accepted (record { table = t; formula = F })))
+    andThen (readTable tableText) (λ t. andThen (readFormula (t .names) formulaText) (λ F. accepted (record { table = t; formula = F })))
 
--- Ready: the prepared bytes of what was read; refused: the number and the figure.
-abbrev pub ReadBoth : Reply Read → Readiness → List ℕ → List ℕ → Type 0
+-- Prepared: the prepared bytes of what was read; refused: the number and the figure.
+abbrev pub ReadBoth : Reply Read → BothRead → List ℕ → List ℕ → Type 0
 ReadBoth (accepted x) Ready table formula = (table ≡ tableBytes (x .table)) × (formula ≡ formulaBytes (x .formula))
 ReadBoth (accepted x) (Refused number figure) table formula = ⊥
 ReadBoth (refusal n g) Ready table formula = ⊥
 ReadBoth (refusal n g) (Refused number figure) table formula = (number ≡ n) × (figure ≡ g)
 
 -- Bytes that hold what was read.
-pub record Held (table formula : List ℕ) (x : Read) : Type 0 where
+pub record HoldsBoth (table formula : List ℕ) (x : Read) : Type 0 where
   pub is-table : preparedTable table ≡ some (x .table)
   pub is-formula : preparedFormula (labels (x .table)) formula ≡ some (x .formula)
   pub table-bytes : table ≡ tableBytes (x .table)
@@ -43,13 +43,13 @@ abbrev pub ClassIn : List ℕ → ℕ → Type 0
 ClassIn b r = (n : ℕ) (F : Formula) → preparedFormula n b ≡ some F → r ≡ classOf F
 
 -- What was read with its listing, if the lent places suffice.
-abbrev pub listed : Read → List ℕ → List ℕ → Reply Explanation
-listed x rows edges = answers (λ L. record { table = x .table; formula = x .formula; list = L }) (fitted (listing (x .table) (x .formula)) rows edges)
+abbrev pub listingOf : Read → List ℕ → List ℕ → Reply Explanation
+listingOf x rows edges = answers (λ L. record { table = x .table; formula = x .formula; list = L }) (fitted (listing (x .table) (x .formula)) rows edges)
 
 -- The reply, and each lent buffer before and after, as an explanation says.
-pub record Said (e : Reply Explanation) (r : ExplainReply) (table table′ formula formula′ rows rows′ edges edges′ : List ℕ) : Type 0 where
+pub record Outcome (e : Reply Explanation) (r : ExplainReply) (table table′ formula formula′ rows rows′ edges edges′ : List ℕ) : Type 0 where
   pub reply : explainReply r ≡ explainReplied e
-  pub table-left : table′ ≡ tableLeft e table
-  pub formula-left : formula′ ≡ formulaLeft e formula
-  pub rows-left : rows′ ≡ rowsLeft e rows
-  pub edges-left : edges′ ≡ edgesLeft e edges
+  pub table-left : table′ ≡ tableExplained e table
+  pub formula-left : formula′ ≡ formulaExplained e formula
+  pub rows-left : rows′ ≡ rowsExplained e rows
+  pub edges-left : edges′ ≡ edgesExplained e edges

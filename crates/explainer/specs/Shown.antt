@@ -38,5 +38,5 @@ abbrev mutual
   Broken (euThen a b f) r i = ⊥
 
 -- 01: "The run shows, or breaks, the formula if the root is shown, or broken, at 0." Class 1 is shown, class 2 broken.
-abbrev pub Decides : Formula → (ℕ → Step) → Type 0
-Decides F r = ((classOf F ≡ 1) × Shown F r 0) ⊎ ((classOf F ≡ 2) × Broken F r 0)
+abbrev pub ShowsOrBreaks : Formula → (ℕ → Step) → Type 0
+ShowsOrBreaks F r = ((classOf F ≡ 1) × Shown F r 0) ⊎ ((classOf F ≡ 2) × Broken F r 0)

@@ -8,14 +8,14 @@ use Rattle.listing.specs.Listing.{Edge}
 use Rattle.automaton.specs.Replies.{Counts}
 
 -- What stands in the lent places: row i's state and final mark, edge j.
-abbrev pub stateIn : List ℕ → ℕ → ℕ
-stateIn rows i = getD rows (i * 3 + 1) 0
+abbrev pub rowState : List ℕ → ℕ → ℕ
+rowState rows i = getD rows (i * 3 + 1) 0
 
-abbrev pub finalIn : List ℕ → ℕ → ℕ
-finalIn rows i = getD rows (i * 3 + 2) 0
+abbrev pub rowFinal : List ℕ → ℕ → ℕ
+rowFinal rows i = getD rows (i * 3 + 2) 0
 
-abbrev pub edgeIn : List ℕ → ℕ → Edge
-edgeIn edges j = record {
+abbrev pub edgeAt : List ℕ → ℕ → Edge
+edgeAt edges j = record {
   row = getD edges (j * 5) 0 + getD edges (j * 5 + 1) 0 * 256;
   label = getD edges (j * 5 + 2) 0;
   target = getD edges (j * 5 + 3) 0 + getD edges (j * 5 + 4) 0 * 256;
@@ -28,8 +28,8 @@ pub record Traces (c : Counts) (rows edges : List ℕ) (r : ℕ → Step) (n : �
   -- "the first is row 0"
   pub first : row 0 ≡ 0
   -- "the last is final"
-  pub last : finalIn rows (row n) ≡ 1
+  pub last : rowFinal rows (row n) ≡ 1
   -- "the k-th has the state that step k leaves"
-  pub states : (k : ℕ) → k ≤ n → stateIn rows (row k) ≡ r k .from
+  pub states : (k : ℕ) → k ≤ n → rowState rows (row k) ≡ r k .from
   -- "for k below n a listed edge with step k's label leads from the k-th to the next"
-  pub leads : (k : ℕ) → k < n → (j : ℕ) × (j < c .edges) × (edgeIn edges j ≡ record { row = row k; label = r k .label; target = row (suc k) })
+  pub leads : (k : ℕ) → k < n → (j : ℕ) × (j < c .edges) × (edgeAt edges j ≡ record { row = row k; label = r k .label; target = row (suc k) })

@@ -5,8 +5,8 @@ ghost use mathlib.Core.List.{List, [], _++_};
 ghost use Prim.Native.Nat.{ℕ, _+_, _^_, _<_, min};
 ghost use lib.ListN.{length};
 ghost use Rattle.explainer.specs.Explanation.{explainReply};
-ghost use Rattle.explainer.specs.Files.{Begins, Heard, kept, replyText, Few, Counts};
-ghost use Rattle.explainer.specs.Printed.{withoutEnd, explainText, Written};
+ghost use Rattle.explainer.specs.Files.{Begins, ScanOf, kept, replyText, Few, PrefixLength};
+ghost use Rattle.explainer.specs.Printed.{withoutEnd, explainText, TextWritten};
 use crate::ExplainReply;
 use crate::explain;
 use crate::print::write_listing;
@@ -14,16 +14,16 @@ use crate::print::write_refusal;
 use bytes::copy;
 
 // How many bytes of a file were read, and the last of them.
-pub struct Seen {
+pub struct Scanned {
     pub length: usize,
     pub last: u8,
 }
 
 // Before the first byte.
-pub fn nothing() -> Seen
-    ensures { λ r. ⌜ ((head : List ℕ) → length head ≡ 513 → Heard [] head r) ⌝ }
+pub fn scan_start() -> Scanned
+    ensures { λ r. ⌜ ((head : List ℕ) → length head ≡ 513 → ScanOf [] head r) ⌝ }
 {
-    Seen { length: 0, last: 0 }
+    Scanned { length: 0, last: 0 }
 }
 
 fn least(a: usize, b: usize) -> usize
@@ -55,29 +55,29 @@ fn add(a: usize, b: usize) -> usize
 }
 
 // Takes in the next chunk of the formula file.
-pub fn hear(chunk: &[u8], head: &mut [u8; 513], seen: Seen) -> Seen
-    ensures { λ r. ⌜ ((file : List ℕ) → Heard file (now (head .entry)) seen → length file + length (now (chunk .entry)) < 2 ^ 64 → Heard (file ++ now (chunk .entry)) (now (head .exit)) r) ⌝ }
+pub fn scan_chunk(chunk: &[u8], head: &mut [u8; 513], scanned: Scanned) -> Scanned
+    ensures { λ r. ⌜ ((file : List ℕ) → ScanOf file (now (head .entry)) scanned → length file + length (now (chunk .entry)) < 2 ^ 64 → ScanOf (file ++ now (chunk .entry)) (now (head .exit)) r) ⌝ }
 {
     let n = chunk.len();
     if n == 0 {
-        return seen;
+        return scanned;
     }
-    keep(chunk, head, seen.length);
-    Seen {
-        length: add(seen.length, n),
+    keep(chunk, head, scanned.length);
+    Scanned {
+        length: add(scanned.length, n),
         last: chunk[n - 1],
     }
 }
 
 // The length of the formula's text: one LF at the end of the file is dropped.
-fn text_length(seen: Seen) -> usize
-    ensures { λ r. ⌜ ((file head : List ℕ) → Heard file head seen → r ≡ length (withoutEnd file)) ⌝ }
+fn text_length(scanned: Scanned) -> usize
+    ensures { λ r. ⌜ ((file head : List ℕ) → ScanOf file head scanned → r ≡ length (withoutEnd file)) ⌝ }
 {
-    let n = seen.length;
+    let n = scanned.length;
     if n == 0 {
         return 0;
     }
-    if seen.last == 10 {
+    if scanned.last == 10 {
         return n - 1;
     }
     n
@@ -91,8 +91,8 @@ fn write_reply(
     out: &mut [u8; 103586],
 ) -> usize
     requires { ⌜ Few (explainReply reply) ⌝ }
-    ensures { λ r. ⌜ Written (replyText (explainReply reply) length (now (rows .entry)) (now (edges .entry))) (now (out .entry)) (now (out .exit)) r ⌝ }
-    ensures { λ r. ⌜ Counts r (now (out .exit)) ⌝ }
+    ensures { λ r. ⌜ TextWritten (replyText (explainReply reply) length (now (rows .entry)) (now (edges .entry))) (now (out .entry)) (now (out .exit)) r ⌝ }
+    ensures { λ r. ⌜ PrefixLength r (now (out .exit)) ⌝ }
 {
     match reply {
         ExplainReply::Explained(verdict, class, rowcount, edgecount) => write_listing(
@@ -118,17 +118,17 @@ fn write_reply(
 pub fn explain_files(
     tablefile: &[u8],
     head: &[u8; 513],
-    seen: Seen,
+    scanned: Scanned,
     out: &mut [u8; 103586],
 ) -> usize
-    ensures { λ r. ⌜ ((table formula : List ℕ) → Begins (now (tablefile .entry)) table → Heard formula (now (head .entry)) seen → Written (explainText table formula) (now (out .entry)) (now (out .exit)) r) ⌝ }
-    ensures { λ r. ⌜ Counts r (now (out .exit)) ⌝ }
+    ensures { λ r. ⌜ ((table formula : List ℕ) → Begins (now (tablefile .entry)) table → ScanOf formula (now (head .entry)) scanned → TextWritten (explainText table formula) (now (out .entry)) (now (out .exit)) r) ⌝ }
+    ensures { λ r. ⌜ PrefixLength r (now (out .exit)) ⌝ }
 {
     let mut table = [0u8; 3718];
     let mut formula = [0u8; 681];
     let mut rows = [0u8; 3072];
     let mut edges = [0u8; 20480];
-    let length = text_length(seen);
+    let length = text_length(scanned);
     let n = least(length, 513);
     let whole = &head[..];
     let reply = explain(

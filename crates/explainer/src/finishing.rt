@@ -2,7 +2,7 @@
 ghost use mathlib.Core.Path.{_≡_};
 ghost use Prim.Native.Nat.{_≤_};
 ghost use lib.ListN.{length};
-ghost use Rattle.explainer.specs.Readings.{Read, Held, Said, listed, ClassIn};
+ghost use Rattle.explainer.specs.Readings.{Read, HoldsBoth, Outcome, listingOf, ClassIn};
 use crate::ExplainReply;
 use crate::interface::build_edges;
 use crate::interface::build_figure;
@@ -40,7 +40,7 @@ pub fn finish(
 ) -> ExplainReply
     requires { ⌜ (length (now t) ≡ 3718) × (length (now f) ≡ 681) ⌝ }
     requires { ⌜ (3718 ≤ length (now table)) × (681 ≤ length (now formula)) ⌝ }
-    ensures { λ r. ⌜ ((x : Read) → Held (now (t .entry)) (now (f .entry)) x → Said (listed x (now (rows .entry)) (now (edges .entry))) r (now (table .entry)) (now (table .exit)) (now (formula .entry)) (now (formula .exit)) (now (rows .entry)) (now (rows .exit)) (now (edges .entry)) (now (edges .exit))) ⌝ }
+    ensures { λ r. ⌜ ((x : Read) → HoldsBoth (now (t .entry)) (now (f .entry)) x → Outcome (listingOf x (now (rows .entry)) (now (edges .entry))) r (now (table .entry)) (now (table .exit)) (now (formula .entry)) (now (formula .exit)) (now (rows .entry)) (now (rows .exit)) (now (edges .entry)) (now (edges .exit))) ⌝ }
 {
     let built = build(t, f, rows, edges);
     let number = build_number(built);

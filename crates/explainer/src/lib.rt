@@ -1,7 +1,7 @@
 // What integrators call: the entries together.
 ghost use Rattle.explainer.specs.Promise.{Promise};
 use crate::finishing::finish;
-use crate::readings::Readiness;
+use crate::readings::BothRead;
 use crate::readings::read_both;
 
 pub mod exports;
@@ -38,7 +38,7 @@ pub fn explain(
     let mut f = [0u8; 681];
     let ready = read_both(tabletext, formulatext, &mut t, &mut f);
     match ready {
-        Readiness::Refused(number, figure) => ExplainReply::Refused(number, figure),
-        Readiness::Ready => finish(&t, &f, table, formula, rows, edges),
+        BothRead::Refused(number, figure) => ExplainReply::Refused(number, figure),
+        BothRead::Ready => finish(&t, &f, table, formula, rows, edges),
     }
 }

@@ -3,7 +3,7 @@ ghost use mathlib.Core.Path.{_≡_};
 ghost use Prim.Native.Nat.{ℕ, _+_, _*_, _≤_, _<_};
 ghost use lib.ListN.{length, getD};
 ghost use Rattle.columns.specs.Write.{pasted};
-ghost use Rattle.explainer.specs.Printed.{rowText, edgeText, rowsText, edgesText, refusalLine, listingText, Written};
+ghost use Rattle.explainer.specs.Printed.{rowText, edgeText, rowsText, edgesText, refusalLine, listingText, TextWritten};
 use columns::write::write_numbers;
 
 fn wide(b: u8) -> u64
@@ -90,7 +90,7 @@ pub fn write_listing(
 ) -> usize
     requires { ⌜ (rowcount * 3 ≤ length (now rows)) × (edgecount * 5 ≤ length (now edges)) × (rowcount ≤ 65536) ⌝ }
     requires { ⌜ rowcount * 25 + edgecount * 19 + 162 ≤ length (now out) ⌝ }
-    ensures { λ r. ⌜ Written (listingText (record { verdict = verdict; class = class; rows = rowcount; edges = edgecount }) (now (rows .entry)) (now (edges .entry))) (now (out .entry)) (now (out .exit)) r ⌝ }
+    ensures { λ r. ⌜ TextWritten (listingText (record { verdict = verdict; class = class; rows = rowcount; edges = edgecount }) (now (rows .entry)) (now (edges .entry))) (now (out .entry)) (now (out .exit)) r ⌝ }
 {
     let values = [verdict, class, rowcount as u64, edgecount as u64];
     let first = write_numbers(values, 4, out, 0);
@@ -101,7 +101,7 @@ pub fn write_listing(
 // Writes a refusal's line at the start of `out`, and answers its length.
 pub fn write_refusal(number: u32, figure: u64, out: &mut [u8]) -> usize
     requires { ⌜ 81 ≤ length (now out) ⌝ }
-    ensures { λ r. ⌜ Written (refusalLine number figure) (now (out .entry)) (now (out .exit)) r ⌝ }
+    ensures { λ r. ⌜ TextWritten (refusalLine number figure) (now (out .entry)) (now (out .exit)) r ⌝ }
 {
     write_numbers([number as u64, figure, 0, 0], 2, out, 0)
 }

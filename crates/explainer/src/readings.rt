@@ -9,7 +9,7 @@ use crate::interface::table_number;
 use actl::read_formula;
 use lts::reading::read_table;
 
-pub enum Readiness {
+pub enum BothRead {
     Ready,
     Refused(u32, u64),
 }
@@ -19,19 +19,19 @@ pub fn read_both(
     formulatext: &[u8],
     table: &mut [u8],
     formula: &mut [u8],
-) -> Readiness
+) -> BothRead
     requires { ⌜ (length (now table) ≡ 3718) × (length (now formula) ≡ 681) ⌝ }
     ensures { λ r. ⌜ ReadBoth (readings (now (tabletext .entry)) (now (formulatext .entry))) r (now (table .exit)) (now (formula .exit)) ⌝ }
 {
     let first = read_table(tabletext, table);
     let number = table_number(first);
     if number != 0 {
-        return Readiness::Refused(number, table_figure(first));
+        return BothRead::Refused(number, table_figure(first));
     }
     let second = read_formula(table, formulatext, formula);
     let number = formula_number(second);
     if number != 0 {
-        return Readiness::Refused(number, formula_figure(second));
+        return BothRead::Refused(number, formula_figure(second));
     }
-    Readiness::Ready
+    BothRead::Ready
 }

@@ -9,8 +9,8 @@ use mathlib.Core.Path.{_≡_, ap, _∙_, subst}
 use Prim.Native.Nat.{_≤_}
 use native.Mathlib.Omega.{arith}
 use lib.ListN.{length}
-use Rattle.explainer.specs.Explanation.{next}
-use Rattle.explainer.specs.Readings.{readings, ReadBoth, listed}
+use Rattle.explainer.specs.Explanation.{andThen}
+use Rattle.explainer.specs.Readings.{readings, ReadBoth, listingOf}
 use Rattle.explainer.proofs.Promised.{was-read, was-refused, promised-refusal, promised-listing, short-table, short-formula, long-enough}
 
 returns : tie.Need-returns
@@ -59,7 +59,7 @@ returns-3 c =
     let h = subst (λ y. ReadBoth (readings (a .tabletext .now) (a .formulatext .now)) y (read .last .1 .1 .0) (read .last .1 .1 .1 .0)) (got .1) (read .ensures) in
     promised-refusal (a .tabletext .now) (a .formulatext .now) (a .table .now) (a .formula .now) (a .rows .now) (a .edges .now) _ _
     (long-enough (a .tabletext .now) (a .formulatext .now) (a .table .now) (a .formula .now) (a .rows .now) (a .edges .now) long wide
-    ∙ ap (λ y. next y (λ x. listed x (a .rows .now) (a .edges .now))) (was-refused (a .tabletext .now) (a .formulatext .now) (read .last .1 .1 .0) (read .last .1 .1 .1 .0) _ _ h))
+    ∙ ap (λ y. andThen y (λ x. listingOf x (a .rows .now) (a .edges .now))) (was-refused (a .tabletext .now) (a .formulatext .now) (read .last .1 .1 .0) (read .last .1 .1 .1 .0) _ _ h))
 
 same-length : tie.Need-same-length
 same-length c = search needs

@@ -12,8 +12,8 @@ use mathlib.Core.List.{List}
 use Prim.Native.Nat.{ℕ, min}
 use native.Mathlib.Omega.{arith}
 use lib.ListN.{take, replicate, length-take}
-use Rattle.explainer.specs.Printed.{Written}
-use Rattle.explainer.proofs.Heard.{heard-text}
+use Rattle.explainer.specs.Printed.{TextWritten}
+use Rattle.explainer.proofs.Scanning.{scanned-text}
 use Rattle.explainer.proofs.Replied.{few-counts, reply-text, files-text}
 
 text-length-requires : tie.Need-text-length-requires
@@ -45,7 +45,7 @@ write-reply-requires c κs =
     let call = c .before .before .before .before .before .before .before .explain in
     let a = c .before .before .before .before .before .before .before .before .before .before .before .before .before .before .before .before .before .args in
     let n = c .before .before .before .before .before .before .before .before .before .before .before .before .before .before .least in
-    few-counts (a .tablefile .now) (take (n .result) (a .head .now)) (replicate 3718 0) (replicate 681 0) (replicate 3072 0) (replicate 20480 0) (omega arith) (omega arith) (omega arith) (omega arith) (call .result) (call .ensures .said .reply)
+    few-counts (a .tablefile .now) (take (n .result) (a .head .now)) (replicate 3718 0) (replicate 681 0) (replicate 3072 0) (replicate 20480 0) (omega arith) (omega arith) (omega arith) (omega arith) (call .result) (call .ensures .outcome .reply)
 
 returns : tie.Need-returns
 returns c =
@@ -54,12 +54,12 @@ returns c =
     let long = c .before .before .before .before .before .before .before .before .before .before .before .before .before .before .before .before .text-length in
     let a = c .before .before .before .before .before .before .before .before .before .before .before .before .before .before .before .before .before .before .args in
     let part = take (n .result) (a .head .now) in
-    let said = call .ensures .said in
-    let is = reply-text (a .tablefile .now) part (replicate 3718 0) (replicate 681 0) (replicate 3072 0) (replicate 20480 0) (omega arith) (omega arith) (long .result) (call .result) (call .last .1 .1 .1 .1 .0) (call .last .1 .1 .1 .1 .1 .0) (said .reply) (said .rows-left) (said .edges-left) in (
+    let outcome = call .ensures .outcome in
+    let is = reply-text (a .tablefile .now) part (replicate 3718 0) (replicate 681 0) (replicate 3072 0) (replicate 20480 0) (omega arith) (omega arith) (long .result) (call .result) (call .last .1 .1 .1 .1 .0) (call .last .1 .1 .1 .1 .1 .0) (outcome .reply) (outcome .rows-left) (outcome .edges-left) in (
       λ table formula b h.
           let size = long .ensures formula (a .head .now) h in
-          let text = heard-text formula (a .head .now) (a .seen) h (n .result) (n .ensures ∙ ap (λ k. min k 513) size) in
-          subst (λ (l : List ℕ). Written l (a .out .now) (c .write-reply .last .1 .1 .1 .1 .0) (c .write-reply .result))
+          let text = scanned-text formula (a .head .now) (a .scanned) h (n .result) (n .ensures ∙ ap (λ k. min k 513) size) in
+          subst (λ (l : List ℕ). TextWritten l (a .out .now) (c .write-reply .last .1 .1 .1 .1 .0) (c .write-reply .result))
           (is ∙ files-text (a .tablefile .now) part table formula (long .result) b text size) (c .write-reply .ensures .0),
       c .write-reply .ensures .1,
     )

@@ -10,7 +10,7 @@ use mathlib.Core.List.{_++_}
 use Prim.Native.Nat.{_-_}
 use native.Mathlib.Omega.{arith}
 use lib.ListN.{length, take, drop, length-take, length-drop}
-use Rattle.explainer.proofs.Heard.{kept-part, kept-whole}
+use Rattle.explainer.proofs.Scanning.{kept-part, kept-whole}
 
 sub-least : tie.Need-sub-least
 sub-least c = search needs

@@ -5,7 +5,7 @@ use Rattle.explainer.proofs.files.text_length.Reads as reads
 use Rattle.explainer.proofs.files.text_length.Lts as lts
 use mathlib.Core.Path.{sym, ap, _∙_}
 use Prim.Native.Nat.{_-_}
-use Rattle.explainer.proofs.Heard.{empty-length, ended-length, unended-length}
+use Rattle.explainer.proofs.Scanning.{empty-length, ended-length, unended-length}
 
 returns : tie.Need-returns
 returns c file head h = empty-length file (sym (h .counted) ∙ c .if1 .taken)

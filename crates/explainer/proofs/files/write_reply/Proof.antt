@@ -14,17 +14,17 @@ use lib.Dec.{eqb}
 use borrow.Author.Tests.{eq-eqb, ne-eqb}
 use Rattle.explainer.specs.Explanation.{explainReply}
 use Rattle.explainer.specs.Files.{Few, replyText}
-use Rattle.explainer.specs.Printed.{refusalLine, Written}
+use Rattle.explainer.specs.Printed.{refusalLine, TextWritten}
 use Rattle.explainer.specs.declared.ExplainReply.{ExplainReply}
 use Rattle.explainer.specs.declared.ExplainReply.the-variants.{Refused}
 use Rattle.explainer.proofs.Replied.{written-counts}
 
 -- A refusal's line, by the test of its number.
 refusal-written : {reply : ExplainReply} {k g : ℕ} {b : Bool} {before out : List ℕ} {end : ℕ} (n : ℕ) (rows edges : List ℕ) → reply ≡ Refused k g → eqb k 5 ≡ b
-    → Written (refusalLine k (cond b n g)) before out end → Written (replyText (explainReply reply) n rows edges) before out end
+    → TextWritten (refusalLine k (cond b n g)) before out end → TextWritten (replyText (explainReply reply) n rows edges) before out end
 refusal-written {k} {g} {before} {out} {end} n rows edges e d w =
-    subst (λ (r : ExplainReply). Written (replyText (explainReply r) n rows edges) before out end) (sym e)
-    (subst (λ (b : Bool). Written (refusalLine k (cond b n g)) before out end) (sym d) w)
+    subst (λ (r : ExplainReply). TextWritten (replyText (explainReply r) n rows edges) before out end) (sym e)
+    (subst (λ (b : Bool). TextWritten (refusalLine k (cond b n g)) before out end) (sym d) w)
 
 enum-known-reply : tie.Need-enum-known-reply
 enum-known-reply c = search needs
@@ -49,7 +49,7 @@ returns c =
     let a = c .before .before .before .before .before .before .before .args in
     let call = c .write-listing in
     let known = c .before .before .before .before .before .reply .given in (
-      subst (λ (r : ExplainReply). Written (replyText (explainReply r) (a .length) (a .rows .now) (a .edges .now)) (a .out .now) (call .last .1 .1 .1 .1 .1 .1 .0) (call .result)) (sym (known .1)) (call .ensures),
+      subst (λ (r : ExplainReply). TextWritten (replyText (explainReply r) (a .length) (a .rows .now) (a .edges .now)) (a .out .now) (call .last .1 .1 .1 .1 .1 .1 .0) (call .result)) (sym (known .1)) (call .ensures),
       written-counts (call .ensures) (call .kept .1 .1 .1 .1 .1 .1 .0),
     )
 

@@ -34,9 +34,9 @@ returns c =
     let number = c .before .before in
     let read = number .before .before .before in
     let a = read .before .before .before .before .before .before .args in
-    let said = table-refused (a .tabletext .now) (a .table .now) (omega arith) (read .read-table .result) (read .read-table .ensures .0) (λ e. omega (arith, number .table-number .ensures)) in
+    let outcome = table-refused (a .tabletext .now) (a .table .now) (omega arith) (read .read-table .result) (read .read-table .ensures .0) (λ e. omega (arith, number .table-number .ensures)) in
     both-table-refused (a .tabletext .now) (a .formulatext .now) (number .table-number .result) (c .table-figure .result)
-    (said ∙ (λ i. refusal (sym (number .table-number .ensures) i) (sym (c .table-figure .ensures) i))) _ _
+    (outcome ∙ (λ i. refusal (sym (number .table-number .ensures) i) (sym (c .table-figure .ensures) i))) _ _
 
 read-formula-requires : tie.Need-read-formula-requires
 read-formula-requires c κs = search needs
@@ -63,10 +63,10 @@ returns-2 c =
     let a = start .args in
     let zero : numberIn (tableReply (table .read-table .result)) ≡ 0 = omega (arith, first .table-number .ensures) in
     let x = table-read (a .tabletext .now) (a .table .now) (table .read-table .result) (table .read-table .last .1 .0) (table .read-table .ensures .0) (table .read-table .ensures .1) zero (start .pre .0) in
-    let said = formula-refused (table .read-table .last .1 .0) (a .formulatext .now) (a .formula .now) (start .pre .1) (x .whole) (x .table) (x .held)
+    let outcome = formula-refused (table .read-table .last .1 .0) (a .formulatext .now) (a .formula .now) (start .pre .1) (x .whole) (x .table) (x .held)
     (read .read-formula .result) (read .read-formula .ensures .0) (λ e. omega (arith, number .formula-number .ensures)) in
     both-formula-refused (a .tabletext .now) (a .formulatext .now) (x .table) (x .read) (number .formula-number .result) (c .formula-figure .result)
-    (said ∙ (λ i. refusal (sym (number .formula-number .ensures) i) (sym (c .formula-figure .ensures) i))) _ _
+    (outcome ∙ (λ i. refusal (sym (number .formula-number .ensures) i) (sym (c .formula-figure .ensures) i))) _ _
 
 same-length-4 : tie.Need-same-length-4
 same-length-4 c = search needs

@@ -9,9 +9,9 @@ use lib.Dec.{eqb}
 use borrow.Author.Tests.{eqb-true, eqb-false, eq-eqb, ne-eqb}
 use lib.ListN.{length, getD, take, drop, length-append, length-take, length-drop, drop-of-length-le}
 use lib.Seq.{take-all, take-length, take-take, take-at, take-append-add, drop-drop, length-take-le, getD-append-add}
-use Rattle.explainer.specs.Files.{lastByte, Heard, kept}
+use Rattle.explainer.specs.Files.{lastByte, ScanOf, kept}
 use Rattle.explainer.specs.Printed.{withoutEnd}
-use Rattle.explainer.specs.declared.files.Seen.{Seen}
+use Rattle.explainer.specs.declared.files.Scanned.{Scanned}
 
 -- A chunk behind the bytes of a file.
 take-again : (k : ℕ) (file chunk : List ℕ) → take k (take k file ++ chunk) ≡ take k (file ++ chunk)
@@ -45,12 +45,12 @@ module _ (file head chunk : List ℕ) (room : length head ≡ 513) (begun : take
           take-all all (take 513 (file ++ chunk) ++ drop all head) (omega (arith, wide, length-append (take 513 (file ++ chunk)) (drop all head), length-drop all head))
           ∙ ap (λ l. take 513 (file ++ chunk) ++ l) (drop-of-length-le head g) ∙ append-nil (take 513 (file ++ chunk))
 
-pub heard-more : (file head chunk : List ℕ) (seen more : Seen) → Heard file head seen → 0 < length chunk
-    → more .length ≡ seen .length + length chunk → more .last ≡ lastByte chunk
-    → Heard (file ++ chunk) (kept head (seen .length) chunk) more
-heard-more file head chunk seen more h some n l =
+pub scanned-more : (file head chunk : List ℕ) (scanned more : Scanned) → ScanOf file head scanned → 0 < length chunk
+    → more .length ≡ scanned .length + length chunk → more .last ≡ lastByte chunk
+    → ScanOf (file ++ chunk) (kept head (scanned .length) chunk) more
+scanned-more file head chunk scanned more h some n l =
     let end : length (file ++ chunk) - 1 ≡ length file + (length chunk - 1) = omega (arith, length-append file chunk) in
-    subst (λ at. Heard (file ++ chunk) (kept head at chunk) more) (sym (h .counted))
+    subst (λ at. ScanOf (file ++ chunk) (kept head at chunk) more) (sym (h .counted))
     (record {
       counted = n ∙ ap (λ k. k + length chunk) (h .counted) ∙ sym (length-append file chunk);
       ends = l ∙ sym (ap (λ k. getD (file ++ chunk) k 0) end ∙ getD-append-add file chunk (length chunk - 1) 0);
@@ -58,9 +58,9 @@ heard-more file head chunk seen more h some n l =
       room = kept-room file head chunk (h .room) (h .begun);
     })
 
-pub heard-none : (file head chunk : List ℕ) (seen : Seen) → Heard file head seen → length chunk ≡ 0 → Heard (file ++ chunk) head seen
-heard-none file head [] seen h e = subst (λ l. Heard l head seen) (sym (append-nil file)) h
-heard-none file head (b ∷ chunk) seen h e = absurd (omega arith)
+pub scanned-none : (file head chunk : List ℕ) (scanned : Scanned) → ScanOf file head scanned → length chunk ≡ 0 → ScanOf (file ++ chunk) head scanned
+scanned-none file head [] scanned h e = subst (λ l. ScanOf l head scanned) (sym (append-nil file)) h
+scanned-none file head (b ∷ chunk) scanned h e = absurd (omega arith)
 
 -- The bytes as `keep` leaves them: n of the chunk, at `at`.
 module _ (head chunk : List ℕ) (at n : ℕ) (room : length head ≡ 513) where
@@ -149,8 +149,8 @@ empty-length [] e = refl
 empty-length (b ∷ file) e = absurd (omega arith)
 
 -- The first 513 bytes of the text stand at the start of `head`.
-pub heard-text : (file head : List ℕ) (seen : Seen) → Heard file head seen → (n : ℕ) → n ≡ min (length (withoutEnd file)) 513 → take n head ≡ take 513 (withoutEnd file)
-heard-text file head seen h n e =
+pub scanned-text : (file head : List ℕ) (scanned : Scanned) → ScanOf file head scanned → (n : ℕ) → n ≡ min (length (withoutEnd file)) 513 → take n head ≡ take 513 (withoutEnd file)
+scanned-text file head scanned h n e =
     let begins = text-begins file in
     let short : length (withoutEnd file) ≤ length file = omega (arith, ap length begins, length-take (length (withoutEnd file)) file) in
     sym (take-take n (length file) head (omega arith))
