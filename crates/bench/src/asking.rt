@@ -1,61 +1,83 @@
 // A line of the sheet asked of the library, and words asked of what the line left.
-use crate::writing::say;
-use crate::writing::say_reply;
+use crate::writing::print;
+use crate::writing::print_reply;
 use explainer::explain;
 use libc::STDOUT_FILENO;
 use words::WordReply;
 use words::accepts;
+ghost use Prim.Native.Nat.{_≤_, _<_};
+ghost use lib.ListN.{length};
 
-// Leaves the prepared table and formula for the line's words.
-pub fn line(
-    name: &[u8],
-    tabletext: &[u8],
-    formulatext: &[u8],
-    table: &mut [u8; 3718],
-    formula: &mut [u8; 681],
-) {
-    let mut rows = [0u8; 3072];
-    let mut edges = [0u8; 20480];
-    let mut out = [0u8; 103586];
-    say(name);
-    say(b" \"");
-    say(formulatext);
-    say(b"\"\n");
-    let reply = explain(
-        tabletext,
-        formulatext,
-        table,
-        formula,
-        &mut rows,
-        &mut edges,
-    );
-    say_reply(reply, &rows, &edges, &mut out);
-}
-
-fn say_letter(letter: u8) {
-    say(b" ");
+fn print_letter(letter: u8) {
+    print(b" ");
     io::print_decimal(STDOUT_FILENO, letter as u64);
 }
 
-fn say_letters(letters: &[u8]) {
+fn print_letters(letters: &[u8]) {
     let mut i = 0;
     while i < letters.len() {
-        say_letter(letters[i]);
+        print_letter(letters[i]);
         i += 1;
     }
 }
 
-fn say_answer(reply: WordReply) {
+fn print_answer(reply: WordReply) {
     match reply {
-        WordReply::Accepted => say(b": 1\n"),
-        WordReply::NotAccepted => say(b": 0\n"),
-        _ => say(b": refused\n"),
+        WordReply::Accepted => print(b": 1\n"),
+        WordReply::NotAccepted => print(b": 0\n"),
+        _ => print(b": refused\n"),
     }
 }
 
 // Whether the automaton accepts a word.
-pub fn word(table: &[u8; 3718], formula: &[u8; 681], letters: &[u8]) {
-    say(b"word");
-    say_letters(letters);
-    say_answer(accepts(table, formula, letters));
+fn word(table: &[u8], formula: &[u8], letters: &[u8]) {
+    print(b"word");
+    print_letters(letters);
+    print_answer(accepts(table, formula, letters));
+}
+
+// Where the word that starts at `from` ends.
+fn word_end(words: &[u8], from: usize) -> usize
+    requires { ⌜ from < length (now words) ⌝ }
+    ensures { λ r. ⌜ (from ≤ r) × (r ≤ length (now (words .entry))) ⌝ }
+{
+    let mut i = from;
+    while i < words.len() {
+        if words[i] == 255 {
+            return i;
+        }
+        i += 1;
+    }
+    i
+}
+
+fn ask(table: &[u8], formula: &[u8], words: &[u8]) {
+    let mut from = 0;
+    while from < words.len() {
+        let to = word_end(words, from);
+        word(table, formula, &words[from..to]);
+        from = to + 1;
+    }
+}
+
+pub fn line(name: &[u8], tabletext: &[u8], formulatext: &[u8], words: &[u8]) {
+    let mut table = [0u8; 3718];
+    let mut formula = [0u8; 681];
+    let mut rows = [0u8; 3072];
+    let mut edges = [0u8; 20480];
+    let mut out = [0u8; 103586];
+    print(name);
+    print(b" \"");
+    print(formulatext);
+    print(b"\"\n");
+    let reply = explain(
+        tabletext,
+        formulatext,
+        &mut table,
+        &mut formula,
+        &mut rows,
+        &mut edges,
+    );
+    print_reply(reply, &rows, &edges, &mut out);
+    ask(&table, &formula, words);
 }

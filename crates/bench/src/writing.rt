@@ -4,13 +4,13 @@ use explainer::print::write_listing;
 use explainer::print::write_refusal;
 use libc::STDOUT_FILENO;
 
-pub fn say(text: &[u8]) {
+pub fn print(text: &[u8]) {
     io::write_all(STDOUT_FILENO, text);
 }
 
-fn say_start(text: &[u8], end: usize) {
+fn print_start(text: &[u8], end: usize) {
     if end <= text.len() {
-        say(&text[..end]);
+        print(&text[..end]);
     }
 }
 
@@ -56,12 +56,12 @@ fn write_reply(
     }
 }
 
-pub fn say_reply(
+pub fn print_reply(
     reply: ExplainReply,
     rows: &[u8; 3072],
     edges: &[u8; 20480],
     out: &mut [u8; 103586],
 ) {
     let end = write_reply(reply, rows, edges, out);
-    say_start(out, end);
+    print_start(out, end);
 }
