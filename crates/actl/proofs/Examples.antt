@@ -11,7 +11,7 @@ use Rattle.lts.specs.Reply.{Reply, accepted, refusal}
 use Rattle.actl.specs.Actions.{maskOf, labels}
 use Rattle.actl.specs.Formulas.{Formula, tru, not, or, ax, euThen, classOf, highestWithoutClass}
 use Rattle.actl.specs.Reading.{readFormula}
-use Rattle.actl.specs.Prepared.{formulaLength, formulaBytes, graft, preparedFormula}
+use Rattle.actl.specs.Prepared.{formulaLength, formulaBytes, push, preparedFormula}
 
 abbrev overM : String → Reply Formula
 overM s = readFormula (ascii "req" ∷ ascii "ack" ∷ []) (ascii s)
@@ -30,7 +30,7 @@ unfolding readFormula findFrom maskOf classOf highestWithoutClass
 from-the-left = refl
 
 prepared-formula : preparedFormula 2 (formulaBytes (euThen 6 4 tru)) ≡ some (euThen 6 4 tru)
-unfolding preparedFormula formulaBytes graft classOf
+unfolding preparedFormula formulaBytes push classOf
 prepared-formula = refl
 
 prepared-length : length (formulaBytes (euThen 6 4 tru)) ≡ formulaLength

@@ -9,7 +9,7 @@ use native.Mathlib.Omega.{arith}
 use lib.ListN.{length, take, drop, length-append, take-append-drop}
 use lib.Seq.{take-append-seam, take-append-add, take-append-le}
 use Rattle.actl.specs.Grammar.{Disjunction, showF, gap, Text, Viable, Longest}
-use Rattle.actl.specs.Reader.{InDisjunction, fTop, fParen, State, termAt, afterE, afterA, afterNext, afterUntil, bracketAt, operandAt, afterDot, naming, afterSet, afterDisjunction, Step, go, stop, step, finish, ended, proceed, run, start, read, Result, whole, refused}
+use Rattle.actl.specs.Reader.{InDisjunction, fTop, fParen, State, termAt, afterE, afterA, afterNext, afterUntil, bracketAt, operandAt, afterDot, naming, afterSet, afterDisjunction, Step, go, stop, step, finish, finishDisjunction, proceed, run, start, read, Result, whole, refused}
 use Rattle.actl.proofs.Sound.{shown, Reads, goes, stops, step-reads, completes}
 use Rattle.actl.proofs.Complete.{formula-read}
 
@@ -23,10 +23,10 @@ same-tree : {f g : Disjunction} → whole f ≡ whole g → f ≡ g
 same-tree e = cc
 
 -- The end of the text.
-ended-whole : (g : Disjunction) (k : InDisjunction) (n : ℕ) (f : Disjunction) → ended g k n ≡ whole f → shown (afterDisjunction g k n) [] ≡ showF f []
-ended-whole g fTop zero f e = ap (λ h. showF h []) (same-tree e)
-ended-whole g fTop (suc n) f e = not-both e
-ended-whole g (fParen k a) n f e = not-both e
+finish-disjunction-whole : (g : Disjunction) (k : InDisjunction) (n : ℕ) (f : Disjunction) → finishDisjunction g k n ≡ whole f → shown (afterDisjunction g k n) [] ≡ showF f []
+finish-disjunction-whole g fTop zero f e = ap (λ h. showF h []) (same-tree e)
+finish-disjunction-whole g fTop (suc n) f e = not-both e
+finish-disjunction-whole g (fParen k a) n f e = not-both e
 
 finish-whole : (x : State) (f : Disjunction) → finish x ≡ whole f → shown x [] ≡ showF f []
 finish-whole (termAt k) f e = not-both e
@@ -39,12 +39,12 @@ finish-whole (operandAt k) f e = not-both e
 finish-whole (afterDot q a c k g) f e = not-both e
 finish-whole (naming n k) f e = not-both e
 finish-whole (afterSet x k g) f e = not-both e
-finish-whole (afterDisjunction g k n) f e = ended-whole g k n f e
+finish-whole (afterDisjunction g k n) f e = finish-disjunction-whole g k n f e
 
-ended-refused : (g : Disjunction) (k : InDisjunction) (n : ℕ) (r : List ℕ) → ended g k n ≡ refused r → [] ≡ r
-ended-refused g fTop zero r e = not-both (sym e)
-ended-refused g fTop (suc n) r e = same-rest e
-ended-refused g (fParen k a) n r e = same-rest e
+finish-disjunction-refused : (g : Disjunction) (k : InDisjunction) (n : ℕ) (r : List ℕ) → finishDisjunction g k n ≡ refused r → [] ≡ r
+finish-disjunction-refused g fTop zero r e = not-both (sym e)
+finish-disjunction-refused g fTop (suc n) r e = same-rest e
+finish-disjunction-refused g (fParen k a) n r e = same-rest e
 
 finish-refused : (x : State) (r : List ℕ) → finish x ≡ refused r → [] ≡ r
 finish-refused (termAt k) r e = same-rest e
@@ -57,7 +57,7 @@ finish-refused (operandAt k) r e = same-rest e
 finish-refused (afterDot q a c k g) r e = same-rest e
 finish-refused (naming n k) r e = same-rest e
 finish-refused (afterSet x k g) r e = same-rest e
-finish-refused (afterDisjunction g k n) r e = ended-refused g k n r e
+finish-refused (afterDisjunction g k n) r e = finish-disjunction-refused g k n r e
 
 -- A text that is read whole is the tree's.
 run-whole : (s : List ℕ) (x : State) (f : Disjunction) → run s x ≡ whole f → shown x s ≡ showF f []

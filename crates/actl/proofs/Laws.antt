@@ -1,10 +1,10 @@
 -- Laws that several proofs cite, by topic.
 pub mod Accepted
-pub mod Bare
+pub mod Skeletons
 pub mod Checked
 pub mod Classed
 pub mod Decided
-pub mod Dressed
+pub mod Parsing
 pub mod Forms
 pub mod Inputs
 pub mod Lists

@@ -5,7 +5,7 @@ use lib.Dec.{eqb}
 use Rattle.actl.specs.Actions.{Cond, silent, labels}
 use Rattle.actl.specs.Formulas.{Formula, tru, not, or, ex, ax, eu, euThen}
 use Rattle.actl.specs.Prepared.{Slot, slotOf}
-use Rattle.actl.specs.Access.{condOf, slotOfNode}
+use Rattle.actl.specs.Access.{condIn, slotOfNode}
 use Rattle.actl.specs.declared.node.Condition.{Condition}
 use Rattle.actl.specs.declared.node.Condition.the-variants.{Silent, Labels}
 use Rattle.actl.specs.declared.node.Node.{Node}
@@ -24,7 +24,7 @@ nodeOf (ax c f) = Ax (conditionOf c)
 nodeOf (eu a f) = Until a
 nodeOf (euThen a b f) = UntilThen a b
 
-pub condition-of : (c : Cond) → condOf (conditionOf c) ≡ c
+pub condition-of : (c : Cond) → condIn (conditionOf c) ≡ c
 condition-of silent = refl
 condition-of (labels m) = refl
 

@@ -10,6 +10,7 @@ use borrow.Author.Tests.{le-leb, lt-leb}
 use lib.Dec.{leb}
 use lib.ListN.{length, getD, take, drop, replicate}
 use lib.Seq.{getD-take, getD-drop}
+use Rattle.columns.specs.Write.{pasted}
 use Rattle.columns.specs.Bytes.{lowFirst}
 use Rattle.lts.specs.Lists.{upFrom, bind}
 use Rattle.lts.specs.Reply.{accepted, refusal, unless, leftIn, answers}
@@ -19,7 +20,7 @@ use Rattle.actl.specs.Prepared.{slotOf, slotBytes, formulaBytes}
 use Rattle.actl.specs.Reading.{unlessFound, withClasses}
 use Rattle.actl.specs.Readers.{slotCells, nodeCells}
 use Rattle.actl.specs.Walk.{kindOf, kindsOf}
-use Rattle.actl.specs.Writing.{placed, bytesAt, cellBytes, cellKinds, preparedBytes, Answers, Holds}
+use Rattle.actl.specs.Writing.{bytesAt, cellBytes, cellKinds, preparedBytes, FormulaAnswered, Holds}
 use Rattle.actl.specs.declared.FormulaReply.the-variants.{Accepted, NameUnknown, TooManyNodes, NoClass}
 use Rattle.actl.proofs.Nodes.{length-nodes}
 use Rattle.actl.proofs.Laws.Widths.{drop-parts}
@@ -80,12 +81,12 @@ module _ (c : List ℕ) (n : ℕ) (F : Formula) (count : n ≡ size F) (cells : 
 
 -- The order of the refusals.
 module _ (c : List ℕ) (n lost : ℕ) (e : List ℕ) (F : Formula) where
-  pub answer-unknown : (o : Option ℕ) → Holds c n lost F o → (lost ≡ 0 → ⊥) → Answers (unlessFound o 7 (withClasses F)) e (NameUnknown (lost - 1)) e
+  pub answer-unknown : (o : Option ℕ) → Holds c n lost F o → (lost ≡ 0 → ⊥) → FormulaAnswered (unlessFound o 7 (withClasses F)) e (NameUnknown (lost - 1)) e
   answer-unknown none h z = absurd (z (h .lacks))
   answer-unknown (some a) h z = record { replies = ap (refusal 7) (let w : lost - 1 ≡ a = omega (arith, h .lacks) in w); leaves = refl }
 
   module _ (z : lost ≡ 0) where
-    pub answer-many : (o : Option ℕ) → Holds c n lost F o → 40 < n → Answers (unlessFound o 7 (withClasses F)) e (TooManyNodes n) e
+    pub answer-many : (o : Option ℕ) → Holds c n lost F o → 40 < n → FormulaAnswered (unlessFound o 7 (withClasses F)) e (TooManyNodes n) e
     answer-many (some a) h w = absurd (omega (arith, h .lacks))
     answer-many none h w =
         let t : leb (size F) 40 ≡ false = lt-leb (size F) 40 (omega (arith, h .count)) in
@@ -96,12 +97,12 @@ module _ (c : List ℕ) (n lost : ℕ) (e : List ℕ) (F : Formula) where
       few : withClasses F ≡ unlessFound (highestWithoutClass F) 9 (accepted F)
       few = ap (λ v. unless v 8 (size F) (unlessFound (highestWithoutClass F) 9 (accepted F))) (le-leb (size F) 40 (omega (arith, h .count)))
 
-      classless : (k : ℕ) → some k ≡ highestWithoutClass F → Answers (withClasses F) e (NoClass k) e
+      classless : (k : ℕ) → some k ≡ highestWithoutClass F → FormulaAnswered (withClasses F) e (NoClass k) e
       classless k q =
           let r : withClasses F ≡ refusal 9 k = few ∙ ap (λ o. unlessFound o 9 (accepted F)) (sym q) in
           record { replies = sym (ap (answers (λ F. tt)) r); leaves = sym (ap (λ a. leftIn formulaBytes a e) r) }
 
-      classed : (x : List ℕ) → none ≡ highestWithoutClass F → x ≡ placed 0 (preparedBytes c n) e → Answers (withClasses F) e Accepted x
+      classed : (x : List ℕ) → none ≡ highestWithoutClass F → x ≡ pasted e 0 (preparedBytes c n) → FormulaAnswered (withClasses F) e Accepted x
       classed x q p =
           let r : withClasses F ≡ accepted F = few ∙ ap (λ o. unlessFound o 9 (accepted F)) (sym q) in
           let b = bytes-are c n F (h .count) (h .cells) w in
@@ -110,10 +111,10 @@ module _ (c : List ℕ) (n lost : ℕ) (e : List ℕ) (F : Formula) where
             leaves = p ∙ ((λ i. b i ++ drop (0 + length (b i)) e) ∙ (ap (λ k. formulaBytes F ++ drop k e) (zero-add (length (formulaBytes F))) ∙ sym (ap (λ a. leftIn formulaBytes a e) r)));
           }
 
-    pub answer-classless : (o : Option ℕ) → Holds c n lost F o → n ≤ 40 → (k : ℕ) → some k ≡ highestWithoutClass F → Answers (unlessFound o 7 (withClasses F)) e (NoClass k) e
+    pub answer-classless : (o : Option ℕ) → Holds c n lost F o → n ≤ 40 → (k : ℕ) → some k ≡ highestWithoutClass F → FormulaAnswered (unlessFound o 7 (withClasses F)) e (NoClass k) e
     answer-classless (some a) h w k q = absurd (omega (arith, h .lacks))
     answer-classless none h w k q = classless w h k q
 
-    pub answer-accepted : (o : Option ℕ) → Holds c n lost F o → n ≤ 40 → (x : List ℕ) → none ≡ highestWithoutClass F → x ≡ placed 0 (preparedBytes c n) e → Answers (unlessFound o 7 (withClasses F)) e Accepted x
+    pub answer-accepted : (o : Option ℕ) → Holds c n lost F o → n ≤ 40 → (x : List ℕ) → none ≡ highestWithoutClass F → x ≡ pasted e 0 (preparedBytes c n) → FormulaAnswered (unlessFound o 7 (withClasses F)) e Accepted x
     answer-accepted (some a) h w x q p = absurd (omega (arith, h .lacks))
     answer-accepted none h w x q p = classed w h x q p

@@ -5,25 +5,22 @@ use Prim.Native.Nat.{ℕ, suc, _+_, _*_, _-_, _/_, _%_, _≤_, _<_}
 use native.Mathlib.Nat.{add-zero, zero-add}
 use native.Mathlib.Numerals.{add-one}
 use native.Mathlib.Omega.{arith}
-use lib.ListN.{length, getD, take, drop, set, replicate, length-append, length-drop, length-set, length-replicate, length-map, take-append-drop, replicate-append-replicate}
-use lib.Seq.{length-take-le, take-at, drop-append-add, set-split, drop-drop, take-suc-set}
+use lib.ListN.{length, getD, take, drop, set, replicate, length-append, length-set, length-replicate, length-map, take-append-drop, replicate-append-replicate}
+use lib.Seq.{length-take-le, take-at, drop-append-add, drop-drop, take-suc-set}
+use Rattle.columns.specs.Write.{pasted}
+use Rattle.columns.proofs.Laws.Pasting.{pasted-length, set-pasted}
 use Rattle.columns.specs.Bytes.{lowFirst}
 use Rattle.lts.specs.Lists.{upFrom, bind}
 use Rattle.lts.proofs.Lists.{upFrom-append, upFrom-length, bind-append, map-append}
-use Rattle.actl.specs.Writing.{placed, nodeBytes, bytesAt, cellBytes, cellKinds, preparedBytes}
+use Rattle.actl.specs.Writing.{nodeBytes, bytesAt, cellBytes, cellKinds, preparedBytes}
 use Rattle.actl.proofs.Laws.Widths.{length-parts}
 
-pub placed-none : (at : ℕ) (e : List ℕ) → e ≡ placed at [] e
-placed-none at e = sym (ap (λ i. take at e ++ drop i e) (add-zero at) ∙ take-append-drop at e)
-
-pub length-placed : (at : ℕ) (l e : List ℕ) → at + length l ≤ length e → length (placed at l e) ≡ length e
-length-placed at l e h =
-    let a = length-take-le at e (omega arith) in
-    length-append (take at e) (l ++ drop (at + length l) e) ∙ omega (arith, length-append l (drop (at + length l) e), length-drop (at + length l) e)
+pub pasted-none : (at : ℕ) (e : List ℕ) → e ≡ pasted e at []
+pasted-none at e = sym (ap (λ i. take at e ++ drop i e) (add-zero at) ∙ take-append-drop at e)
 
 -- A part behind another.
-pub placed-then : (at i : ℕ) (l j e x y : List ℕ) → x ≡ placed at l e → i ≡ at + length l → at + length l ≤ length e → y ≡ placed i j x → y ≡ placed at (l ++ j) e
-placed-then at i l j e x y p z h q =
+pub pasted-then : (at i : ℕ) (l j e x y : List ℕ) → x ≡ pasted e at l → i ≡ at + length l → at + length l ≤ length e → y ≡ pasted x i j → y ≡ pasted e at (l ++ j)
+pasted-then at i l j e x y p z h q =
     let u = take at e ++ l in
     let d = drop (at + length l) e in
     let a = length-take-le at e (omega arith) in
@@ -37,27 +34,24 @@ placed-then at i l j e x y p z h q =
     q ∙ ((λ n. f n ++ (j ++ g n)) ∙ (append-assoc (take at e) l (j ++ drop (at + length (l ++ j)) e)
     ∙ ap (λ r. take at e ++ r) (sym (append-assoc l j (drop (at + length (l ++ j)) e)))))
 
-pub set-placed : (e : List ℕ) (at b : ℕ) → at < length e → set e at b ≡ placed at (b ∷ []) e
-set-placed e at b h = set-split e at b h ∙ ap (λ i. take at e ++ (b ∷ drop i e)) (sym (add-one at))
-
 -- One byte more.
-pub placed-byte : (at i b : ℕ) (l e x : List ℕ) → x ≡ placed at l e → i ≡ at + length l → i < length e → set x i b ≡ placed at (l ++ (b ∷ [])) e
-placed-byte at i b l e x p z h = placed-then at i l (b ∷ []) e x _ p z (omega arith) (set-placed x i b (omega (arith, ap length p, length-placed at l e (omega arith))))
+pub pasted-byte : (at i b : ℕ) (l e x : List ℕ) → x ≡ pasted e at l → i ≡ at + length l → i < length e → set x i b ≡ pasted e at (l ++ (b ∷ []))
+pasted-byte at i b l e x p z h = pasted-then at i l (b ∷ []) e x _ p z (omega arith) (set-pasted x i b (omega (arith, ap length p, pasted-length e at l (omega arith))))
 
 -- A mask's bytes, low byte first.
 pub record Masked (mask at : ℕ) (e : List ℕ) (i rest : ℕ) (x : List ℕ) : Type 0 where
   pub bytes : List ℕ
   pub few : i ≤ 8
   pub long : length bytes ≡ i
-  pub made : x ≡ placed at bytes e
+  pub made : x ≡ pasted e at bytes
   pub left : bytes ++ lowFirst (8 - i) rest ≡ lowFirst 8 mask
 
 pub masked-none : (mask at : ℕ) (e : List ℕ) → Masked mask at e 0 mask e
-masked-none mask at e = record { bytes = []; few = omega arith; long = refl; made = placed-none at e; left = refl }
+masked-none mask at e = record { bytes = []; few = omega arith; long = refl; made = pasted-none at e; left = refl }
 
 module _ {mask at : ℕ} {e : List ℕ} {i rest : ℕ} {x : List ℕ} (fits : at + 8 ≤ length e) (m : Masked mask at e i rest x) where
   pub masked-length : length x ≡ length e
-  masked-length = ap length (m .made) ∙ length-placed at (m .bytes) e (omega (arith, m .long, m .few))
+  masked-length = ap length (m .made) ∙ pasted-length e at (m .bytes) (omega (arith, m .long, m .few))
 
   pub masked-more : i < 8 → Masked mask at e (i + 1) (rest / 256) (set x (at + i) (rest % 256))
   masked-more h =
@@ -67,31 +61,31 @@ module _ {mask at : ℕ} {e : List ℕ} {i rest : ℕ} {x : List ℕ} (fits : at
         bytes = m .bytes ++ (b ∷ []);
         few = omega arith;
         long = length-append (m .bytes) (b ∷ []) ∙ omega (arith, m .long);
-        made = placed-byte at (at + i) b (m .bytes) e x (m .made) (ap (λ n. at + n) (sym (m .long))) (omega arith);
+        made = pasted-byte at (at + i) b (m .bytes) e x (m .made) (ap (λ n. at + n) (sym (m .long))) (omega arith);
         left = append-assoc (m .bytes) (b ∷ []) (lowFirst (8 - (i + 1)) (rest / 256)) ∙ (ap (λ n. m .bytes ++ lowFirst n rest) (sym z) ∙ m .left);
       }
 
-  pub masked-all : 8 ≤ i → x ≡ placed at (lowFirst 8 mask) e
+  pub masked-all : 8 ≤ i → x ≡ pasted e at (lowFirst 8 mask)
   masked-all h =
       let z : 8 - i ≡ 0 = omega arith in
-      m .made ∙ ap (λ l. placed at l e) (sym (append-nil (m .bytes)) ∙ (ap (λ n. m .bytes ++ lowFirst n rest) (sym z) ∙ m .left))
+      m .made ∙ ap (λ l. pasted e at l) (sym (append-nil (m .bytes)) ∙ (ap (λ n. m .bytes ++ lowFirst n rest) (sym z) ∙ m .left))
 
 -- Zeros.
-pub zeros-none : (from : ℕ) (e : List ℕ) → e ≡ placed from (replicate (from - from) 0) e
-zeros-none from e = placed-none from e ∙ ap (λ n. placed from (replicate n 0) e) (let z : 0 ≡ from - from = omega arith in z)
+pub zeros-none : (from : ℕ) (e : List ℕ) → e ≡ pasted e from (replicate (from - from) 0)
+zeros-none from e = pasted-none from e ∙ ap (λ n. pasted e from (replicate n 0)) (let z : 0 ≡ from - from = omega arith in z)
 
-pub zeros-more : (from i : ℕ) (e x : List ℕ) → from ≤ i → i < length e → x ≡ placed from (replicate (i - from) 0) e → set x i 0 ≡ placed from (replicate (i + 1 - from) 0) e
+pub zeros-more : (from i : ℕ) (e x : List ℕ) → from ≤ i → i < length e → x ≡ pasted e from (replicate (i - from) 0) → set x i 0 ≡ pasted e from (replicate (i + 1 - from) 0)
 zeros-more from i e x h w p =
     let z : i - from + 1 ≡ i + 1 - from = omega arith in
-    placed-byte from i 0 (replicate (i - from) 0) e x p (rw length-replicate (omega arith)) w
-    ∙ ap (λ l. placed from l e) (replicate-append-replicate (i - from) 1 0 ∙ ap (λ n. replicate n 0) z)
+    pasted-byte from i 0 (replicate (i - from) 0) e x p (rw length-replicate (omega arith)) w
+    ∙ ap (λ l. pasted e from l) (replicate-append-replicate (i - from) 1 0 ∙ ap (λ n. replicate n 0) z)
 
 -- Nodes.
-pub node-placed : (at k f g : ℕ) (e x y z : List ℕ) → at + 17 ≤ length e → x ≡ set e at (k % 256) → y ≡ placed (at + 1) (lowFirst 8 f) x → z ≡ placed (at + 9) (lowFirst 8 g) y → z ≡ placed at (nodeBytes k f g) e
-node-placed at k f g e x y z h p q r =
-    let a : x ≡ placed at ((k % 256) ∷ []) e = p ∙ set-placed e at (k % 256) (omega arith) in
-    let b : y ≡ placed at ((k % 256) ∷ lowFirst 8 f) e = placed-then at (at + 1) ((k % 256) ∷ []) (lowFirst 8 f) e x y a refl (omega arith) q in
-    placed-then at (at + 9) ((k % 256) ∷ lowFirst 8 f) (lowFirst 8 g) e y z b refl (omega arith) r
+pub node-pasted : (at k f g : ℕ) (e x y z : List ℕ) → at + 17 ≤ length e → x ≡ set e at (k % 256) → y ≡ pasted x (at + 1) (lowFirst 8 f) → z ≡ pasted y (at + 9) (lowFirst 8 g) → z ≡ pasted e at (nodeBytes k f g)
+node-pasted at k f g e x y z h p q r =
+    let a : x ≡ pasted e at ((k % 256) ∷ []) = p ∙ set-pasted e at (k % 256) (omega arith) in
+    let b : y ≡ pasted e at ((k % 256) ∷ lowFirst 8 f) = pasted-then at (at + 1) ((k % 256) ∷ []) (lowFirst 8 f) e x y a refl (omega arith) q in
+    pasted-then at (at + 9) ((k % 256) ∷ lowFirst 8 f) (lowFirst 8 g) e y z b refl (omega arith) r
 
 pub length-cell-bytes : (c : List ℕ) (n : ℕ) → length (cellBytes c n) ≡ n * 17
 length-cell-bytes c n = length-parts (bytesAt c) 17 (λ k. refl) (upFrom 0 n) ∙ ap (λ k. k * 17) (upFrom-length 0 n)
@@ -100,21 +94,21 @@ cell-bytes-more : (c : List ℕ) (k : ℕ) → cellBytes c k ++ bytesAt c k ≡ 
 cell-bytes-more c k = sym (ap (bind (bytesAt c)) (upFrom-append 0 k 1) ∙ (bind-append (bytesAt c) (upFrom 0 k) (upFrom (0 + k) 1)
     ∙ ap (λ l. cellBytes c k ++ l) (append-nil (bytesAt c (0 + k)) ∙ ap (bytesAt c) (zero-add k))))
 
-pub nodes-none : (c e : List ℕ) → e ≡ placed 1 (cellBytes c 0) e
-nodes-none c e = placed-none 1 e
+pub nodes-none : (c e : List ℕ) → e ≡ pasted e 1 (cellBytes c 0)
+nodes-none c e = pasted-none 1 e
 
-pub nodes-more : (c e x y : List ℕ) (k : ℕ) → 1 + k * 17 + 17 ≤ length e → x ≡ placed 1 (cellBytes c k) e → y ≡ placed (1 + k * 17) (bytesAt c k) x → y ≡ placed 1 (cellBytes c (k + 1)) e
+pub nodes-more : (c e x y : List ℕ) (k : ℕ) → 1 + k * 17 + 17 ≤ length e → x ≡ pasted e 1 (cellBytes c k) → y ≡ pasted x (1 + k * 17) (bytesAt c k) → y ≡ pasted e 1 (cellBytes c (k + 1))
 nodes-more c e x y k h p q =
     let l = length-cell-bytes c k in
-    placed-then 1 (1 + k * 17) (cellBytes c k) (bytesAt c k) e x y p (omega arith) (omega arith) q ∙ ap (λ b. placed 1 b e) (cell-bytes-more c k)
+    pasted-then 1 (1 + k * 17) (cellBytes c k) (bytesAt c k) e x y p (omega arith) (omega arith) q ∙ ap (λ b. pasted e 1 b) (cell-bytes-more c k)
 
-pub bytes-placed : (c : List ℕ) (n : ℕ) (e x y z : List ℕ) → n ≤ 40 → 681 ≤ length e → x ≡ set e 0 n → y ≡ placed 1 (cellBytes c n) x → z ≡ placed (1 + n * 17) (replicate (681 - (1 + n * 17)) 0) y → z ≡ placed 0 (preparedBytes c n) e
-bytes-placed c n e x y z h w p q r =
+pub bytes-pasted : (c : List ℕ) (n : ℕ) (e x y z : List ℕ) → n ≤ 40 → 681 ≤ length e → x ≡ set e 0 n → y ≡ pasted x 1 (cellBytes c n) → z ≡ pasted y (1 + n * 17) (replicate (681 - (1 + n * 17)) 0) → z ≡ pasted e 0 (preparedBytes c n)
+bytes-pasted c n e x y z h w p q r =
     let l = length-cell-bytes c n in
-    let a : x ≡ placed 0 (n ∷ []) e = p ∙ set-placed e 0 n (omega arith) in
-    let b : y ≡ placed 0 (n ∷ cellBytes c n) e = placed-then 0 1 (n ∷ []) (cellBytes c n) e x y a refl (omega arith) q in
+    let a : x ≡ pasted e 0 (n ∷ []) = p ∙ set-pasted e 0 n (omega arith) in
+    let b : y ≡ pasted e 0 (n ∷ cellBytes c n) = pasted-then 0 1 (n ∷ []) (cellBytes c n) e x y a refl (omega arith) q in
     let m : 681 - (1 + n * 17) ≡ 680 - n * 17 = omega arith in
-    placed-then 0 (1 + n * 17) (n ∷ cellBytes c n) (replicate (680 - n * 17) 0) e y z b (omega arith) (omega arith) (r ∙ ap (λ k. placed (1 + n * 17) (replicate k 0) y) m)
+    pasted-then 0 (1 + n * 17) (n ∷ cellBytes c n) (replicate (680 - n * 17) 0) e y z b (omega arith) (omega arith) (r ∙ ap (λ k. pasted y (1 + n * 17) (replicate k 0)) m)
 
 -- Kinds.
 pub record Kinds (c : List ℕ) (n k : ℕ) (x : List ℕ) : Type 0 where

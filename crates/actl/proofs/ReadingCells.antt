@@ -9,7 +9,7 @@ use lib.Seq.{length-take-le, take-suc, drop-cons, take-append-le, take-at, drop-
 use Rattle.lts.proofs.Lists.{bind-append}
 use Rattle.actl.specs.Formulas.{Formula, nodes}
 use Rattle.actl.specs.Prepared.{slotOf}
-use Rattle.actl.specs.Readers.{slotCells, nodeCells, putAt, joinedAt, Written}
+use Rattle.actl.specs.Readers.{slotCells, nodeCells, putAt, joinedAt, CellsWritten}
 
 pub put-written : (n k f g : ℕ) (e : List ℕ) → length e ≡ 1536 → n < 512 → set (set (set e (n * 3) k) (n * 3 + 1) f) (n * 3 + 2) g ≡ putAt n k f g e
 put-written n k f g e l h =
@@ -66,13 +66,13 @@ joined-written start n e l h w =
     λ j. b j ++ (3 ∷ 0 ∷ 0 ∷ c j)
 
 -- Nodes written so far.
-pub written-none : (n : ℕ) (e : List ℕ) → Written n n e e []
+pub written-none : (n : ℕ) (e : List ℕ) → CellsWritten n n e e []
 written-none n e = record { long = refl; cells = sym (append-nil (take (n * 3) e)) }
 
-pub written-more : {n m k : ℕ} {e x y l j : List ℕ} → Written n m e x l → Written m k x y j → Written n k e y (l ++ j)
+pub written-more : {n m k : ℕ} {e x y l j : List ℕ} → CellsWritten n m e x l → CellsWritten m k x y j → CellsWritten n k e y (l ++ j)
 written-more {n} {e} {l} {j} p q = record { long = q .long ∙ p .long; cells = q .cells ∙ (ap (λ h. h ++ j) (p .cells) ∙ append-assoc (take (n * 3) e) l j) }
 
-pub put-node : (n k f g : ℕ) (e x : List ℕ) → length e ≡ 1536 → n < 512 → x ≡ putAt n k f g e → Written n (n + 1) e x (k ∷ f ∷ g ∷ [])
+pub put-node : (n k f g : ℕ) (e x : List ℕ) → length e ≡ 1536 → n < 512 → x ≡ putAt n k f g e → CellsWritten n (n + 1) e x (k ∷ f ∷ g ∷ [])
 put-node n k f g e x l h p =
     let i = n * 3 in
     let a = length-take-le i e (omega arith) in
@@ -84,7 +84,7 @@ put-node n k f g e x l h p =
       cells = ap (take ((n + 1) * 3)) (p ∙ sym (append-assoc (take i e) v (drop (i + 3) e))) ∙ take-at (take i e ++ v) (drop (i + 3) e) ((n + 1) * 3) c;
     }
 
-pub join-nodes : (start n : ℕ) (e x y l : List ℕ) → length e ≡ 1536 → start ≤ n → n < 512 → Written start n e x l → y ≡ joinedAt start n x → Written start (n + 1) e y (3 ∷ 0 ∷ 0 ∷ l)
+pub join-nodes : (start n : ℕ) (e x y l : List ℕ) → length e ≡ 1536 → start ≤ n → n < 512 → CellsWritten start n e x l → y ≡ joinedAt start n x → CellsWritten start (n + 1) e y (3 ∷ 0 ∷ 0 ∷ l)
 join-nodes start n e x y l w h k p q =
     let i = start * 3 in
     let a = length-take-le i e (omega arith) in

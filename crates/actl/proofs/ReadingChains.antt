@@ -10,7 +10,7 @@ use Rattle.actl.specs.Reader.{InDisjunction, InTerm, tFirst, tOr, termAt
 use Rattle.actl.specs.Meaning.{formulaOf, formulaOfTerm}
 use Rattle.actl.specs.Mentions.{namesF, namesT}
 use Rattle.actl.specs.Cursor.{peek, Token, Skipped, Moves, Fails, Tokened}
-use Rattle.actl.specs.Readers.{unknownIn, earlier, nodeCells, joinedAt, Written, Room, TermRead, FormulaRead}
+use Rattle.actl.specs.Readers.{unknownIn, earlier, nodeCells, joinedAt, CellsWritten, NodeRoom, TermRead, FormulaRead}
 use Rattle.actl.proofs.ReadingMoves.{skipped-token, then, fail, at-only, fail-only, written-as, skip, equal, tokened}
 use Rattle.actl.proofs.ReadingSets.{token-behind}
 use Rattle.actl.proofs.ReadingLabels.{earlier-append}
@@ -27,7 +27,7 @@ pub record Awaiting (N : List (List ℕ)) (s : List ℕ) (at n lost : ℕ) (e : 
   pub few : k + at ≤ n + to
   pub more : n ≤ k
   pub nodes : List ℕ
-  pub written : Written n k e x nodes
+  pub written : CellsWritten n k e x nodes
   pub count : (t : Term) → k + size (formulaOfTerm N t) ≡ n + size (formulaOf N (value t))
   pub means : (t : Term) → nodes ++ nodeCells (formulaOfTerm N t) ≡ nodeCells (formulaOf N (value t))
   pub lacks : (t : Term) (r : List ℕ) → drop to s ≡ showT t r
@@ -51,8 +51,8 @@ awaiting-first N s at n lost e h = record {
   lacks = λ t r q. refl;
 }
 
-module _ {N : List (List ℕ)} {s : List ℕ} {at n lost : ℕ} {e : List ℕ} {d k left : ℕ} {x : List ℕ} (j : Awaiting N s at n lost e d k left x) (room : Room e at n) where
-  pub await-room : Room x d k
+module _ {N : List (List ℕ)} {s : List ℕ} {at n lost : ℕ} {e : List ℕ} {d k left : ℕ} {x : List ℕ} (j : Awaiting N s at n lost e d k left x) (room : NodeRoom e at n) where
+  pub await-room : NodeRoom x d k
   await-room = record { below = omega (arith, room .below, j .few); long = j .written .long ∙ room .long }
 
   pub formula-fails : {f : ℕ} → Fails s d f termAt → Fails s at f (λ i. termAt (tFirst i))
@@ -66,8 +66,8 @@ module _ {N : List (List ℕ)} {s : List ℕ} {at n lost : ℕ} {e : List ℕ} {
     joined-count : m ≡ n + size (formulaOf N (j .value (h .value)))
     joined-count = h .count ∙ j .count (h .value)
 
-    joined-written : Written n m e y (nodeCells (formulaOf N (j .value (h .value))))
-    joined-written = subst (Written n m e y) (j .means (h .value)) (written-more (j .written) (h .written))
+    joined-written : CellsWritten n m e y (nodeCells (formulaOf N (j .value (h .value))))
+    joined-written = subst (CellsWritten n m e y) (j .means (h .value)) (written-more (j .written) (h .written))
 
     joined-lacks : l ≡ earlier lost (unknownIn N (length s) (namesF (j .value (h .value)) (gap (f - end) (drop f s))))
     joined-lacks = h .lacks ∙ (j .lacks (h .value) (drop end s) (h .moves .text) ∙ ap (λ r. earlier lost (unknownIn N (length s) (namesF (j .value (h .value)) r))) (b .blanks))

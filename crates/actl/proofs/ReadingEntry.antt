@@ -21,7 +21,7 @@ use Rattle.actl.specs.Reading.{firstUnknown, onResult, readFormula}
 use Rattle.actl.specs.Prepared.{formulaLength, formulaBytes}
 use Rattle.actl.specs.Replies.{formulaReply, formulaReading, withTable}
 use Rattle.actl.specs.Readers.{namesIn, WholeRead, RefusedAt}
-use Rattle.actl.specs.Writing.{Answers, AnswersWith}
+use Rattle.actl.specs.Writing.{FormulaAnswered, FormulaAnsweredWith}
 use Rattle.actl.specs.declared.FormulaReply.{FormulaReply}
 use Rattle.actl.specs.declared.FormulaReply.the-variants.{TooLong, NotGrammatical, TableForeign, BufferShort}
 
@@ -34,7 +34,7 @@ stops true number figure a e = let z : _≡_ {A = ℕ} 0 1 = cc in absurd (omega
 stops false number figure a e = refl
 
 -- A refusal leaves the buffer as it was.
-refuses : (a : Reply Formula) (e : List ℕ) (r : FormulaReply) (number figure : ℕ) → a ≡ refusal number figure → formulaReply r ≡ refusal number figure → Answers a e r e
+refuses : (a : Reply Formula) (e : List ℕ) (r : FormulaReply) (number figure : ℕ) → a ≡ refusal number figure → formulaReply r ≡ refusal number figure → FormulaAnswered a e r e
 refuses a e r number figure p q = record { replies = q ∙ sym (ap (answers (λ F. tt)) p); leaves = sym (ap (λ b. leftIn formulaBytes b e) p) }
 
 absent : (o : Option Table) → isSome o ≡ false → o ≡ none
@@ -42,12 +42,12 @@ absent none h = refl
 absent (some t) h = let z : _≡_ {A = ℕ} 0 1 = cc in absurd (omega arith)
 
 module _ (b s e : List ℕ) where
-  pub short-table : length b < 3718 → Answers (formulaReading b s e) e (BufferShort 3718) e
+  pub short-table : length b < 3718 → FormulaAnswered (formulaReading b s e) e (BufferShort 3718) e
   unfolding formulaReading
   short-table h = refuses _ e (BufferShort 3718) 14 3718 (stops (leb tableLength (length b)) 14 tableLength _ (lt-leb tableLength (length b) h)) refl
 
   module _ (long : 3718 ≤ length b) where
-    pub short-formula : length e < 681 → Answers (formulaReading b s e) e (BufferShort 681) e
+    pub short-formula : length e < 681 → FormulaAnswered (formulaReading b s e) e (BufferShort 681) e
     unfolding formulaReading
     short-formula h = refuses _ e (BufferShort 681) 14 681
         (passes (leb tableLength (length b)) 14 tableLength _ (le-leb tableLength (length b) long) ∙ stops (leb formulaLength (length e)) 14 formulaLength _ (lt-leb formulaLength (length e) h)) refl
@@ -57,7 +57,7 @@ module _ (b s e : List ℕ) where
       unfolding formulaReading
       opened = passes (leb tableLength (length b)) 14 tableLength _ (le-leb tableLength (length b) long) ∙ passes (leb formulaLength (length e)) 14 formulaLength _ (le-leb formulaLength (length e) room)
 
-      pub foreign-table : isSome (preparedTable b) ≡ false → Answers (formulaReading b s e) e TableForeign e
+      pub foreign-table : isSome (preparedTable b) ≡ false → FormulaAnswered (formulaReading b s e) e TableForeign e
       foreign-table h = refuses _ e TableForeign 10 0 (opened ∙ ap (λ o. withTable o (λ t. readFormula (t .names) s)) (absent (preparedTable b) h)) refl
 
       module _ (prepared : isSome (preparedTable b) ≡ true) where
@@ -67,7 +67,7 @@ module _ (b s e : List ℕ) where
         text-read : formulaReading b s e ≡ readFormula (namesIn b) s
         text-read = opened ∙ ap (λ o. withTable o (λ t. readFormula (t .names) s)) (prepared-in b prepared)
 
-        pub long-text : 512 < length s → Answers (formulaReading b s e) e (TooLong (length s)) e
+        pub long-text : 512 < length s → FormulaAnswered (formulaReading b s e) e (TooLong (length s)) e
         unfolding readFormula
         long-text h = refuses _ e (TooLong (length s)) 5 (length s) (text-read ∙ stops (leb (length s) 512) 5 (length s) (onResult (namesIn b) s (read s)) (lt-leb (length s) 512 h)) refl
 
@@ -76,10 +76,10 @@ module _ (b s e : List ℕ) where
           unfolding readFormula
           result = text-read ∙ passes (leb (length s) 512) 5 (length s) (onResult (namesIn b) s (read s)) (le-leb (length s) 512 short)
 
-          pub refused-text : (n : ℕ) → RefusedAt s n → Answers (formulaReading b s e) e (NotGrammatical n) e
+          pub refused-text : (n : ℕ) → RefusedAt s n → FormulaAnswered (formulaReading b s e) e (NotGrammatical n) e
           refused-text n h = refuses _ e (NotGrammatical n) 6 n (result ∙ (ap (onResult (namesIn b) s) (h .reads) ∙ ap (refusal 6) (sym (h .figure)))) refl
 
-          pub whole-text : (c x : List ℕ) (n lost : ℕ) (r : FormulaReply) → WholeRead (namesIn b) s c n lost → AnswersWith c n lost e r x → Answers (formulaReading b s e) e r x
+          pub whole-text : (c x : List ℕ) (n lost : ℕ) (r : FormulaReply) → WholeRead (namesIn b) s c n lost → FormulaAnsweredWith c n lost e r x → FormulaAnswered (formulaReading b s e) e r x
           whole-text c x n lost r h f =
               let F = formulaOf (namesIn b) (h .value) in
               let o = firstUnknown (namesIn b) (h .value) (namesF (h .value) []) in

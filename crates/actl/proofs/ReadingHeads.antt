@@ -13,7 +13,7 @@ use Rattle.actl.specs.Meaning.{modalOf}
 use Rattle.actl.specs.Mentions.{namesS}
 use Rattle.actl.specs.Prepared.{slot, slotOf}
 use Rattle.actl.specs.Cursor.{peek, Token, Skipped, Moves, Fails, Marked, Tokened, Keyword}
-use Rattle.actl.specs.Readers.{unknownIn, earlier, SetRead, EnclosedRead, Unclosed, kindOf, NextRead, NextSays, UntilRead, UntilSays, HeadSays, NoMark, NoKeyword}
+use Rattle.actl.specs.Readers.{unknownIn, earlier, SetRead, EnclosedRead, Unclosed, nextKind, NextRead, NextSays, UntilRead, UntilSays, HeadSays, NoMark, NoKeyword}
 use Rattle.actl.specs.declared.reading.Heading.{Heading}
 use Rattle.actl.specs.declared.reading.Heading.the-variants.{Read, Refused}
 use Rattle.actl.proofs.ReadingMoves.{on-other, then, fail, at-only, fail-only, written-as, skip, stops, alike, marked, tokened}
@@ -50,7 +50,7 @@ module _ (N : List (List ℕ)) (s : List ℕ) (at base lost o : ℕ) (k : Skippe
         lacks = sym (earlier-none lost);
       }
         where
-          silent-slot : (q : Quantifier) (f : Formula) → kindOf q ≡ base → slotOf (modalOf N (next q (o - at) (d - (o + 1)) dot (e - (d + 1))) f) ≡ slot base 0 0
+          silent-slot : (q : Quantifier) (f : Formula) → nextKind q ≡ base → slotOf (modalOf N (next q (o - at) (d - (o + 1)) dot (e - (d + 1))) f) ≡ slot base 0 0
           silent-slot existential f z = ap (λ b. slot b 0 0) z
           silent-slot universal f z = ap (λ b. slot b 0 0) z
 
@@ -77,7 +77,7 @@ module _ (N : List (List ℕ)) (s : List ℕ) (at base lost o : ℕ) (k : Skippe
             lacks = c .lacks ∙ ap (λ r. earlier lost (unknownIn N (length s) (namesS (c .value) (gap (c .blanks) r)))) (v .text);
           }
         where
-          set-slot : {e m l : ℕ} (c : SetRead N s d lost e m l) (q : Quantifier) (f : Formula) → kindOf q ≡ base → slotOf (modalOf N (next q (o - at) (d - (o + 1)) (set (c .value)) (c .blanks)) f) ≡ slot (base + 1) m 0
+          set-slot : {e m l : ℕ} (c : SetRead N s d lost e m l) (q : Quantifier) (f : Formula) → nextKind q ≡ base → slotOf (modalOf N (next q (o - at) (d - (o + 1)) (set (c .value)) (c .blanks)) f) ≡ slot (base + 1) m 0
           set-slot c existential f z = λ i. slot ((ap suc z ∙ sym (add-one base)) i) (sym (c .means) i) 0
           set-slot c universal f z = λ i. slot ((ap suc z ∙ sym (add-one base)) i) (sym (c .means) i) 0
 
@@ -162,7 +162,7 @@ module _ (N : List (List ℕ)) (s : List ℕ) (at lost : ℕ) where
   the-EU : {d : ℕ} → Keyword s at 69 85 d → Moves s at d (λ r. 69 ∷ 85 ∷ r) termAt (λ k. afterUntil k 0)
   the-EU h = then (marked {y = afterE} (h .one) (omega arith) (λ k. refl)) (marked (h .two) (omega arith) (λ k. refl))
 
-  head-next : (q : Quantifier) (d : ℕ) → Moves s at d (showQ q) termAt (λ k. afterNext q k 0) → at < d → (r : Heading) → NextSays N s d (kindOf q) lost r → HeadSays N s at lost r
+  head-next : (q : Quantifier) (d : ℕ) → Moves s at d (showQ q) termAt (λ k. afterNext q k 0) → at < d → (r : Heading) → NextSays N s d (nextKind q) lost r → HeadSays N s at lost r
   head-next q d m u (Read c k a b l) h = record {
     value = next q (h .before) (h .inside) (h .condition) (h .behind);
     up = let w = h .moves .up in omega arith;

@@ -6,16 +6,16 @@ use mathlib.Core.Option.{Option, none, some}
 use Prim.Native.Nat.{ℕ, zero, suc, _+_, _*_, _-_, _^_, _%_, _≤_, _<_}
 use native.Mathlib.Nat.{pow-succ'}
 use native.Mathlib.Omega.{arith}
-use lib.ListN.{length, getD, take, drop, set, length-append, length-drop, length-set}
+use lib.ListN.{length, take, drop, length-append, length-drop}
 use lib.Pow.{shl-exact}
-use lib.Seq.{take-suc, take-suc-set, getD-drop, take-at}
+use lib.Seq.{take-at}
 use Rattle.columns.specs.Bytes.{sameBytes}
 use Rattle.lts.specs.Names.{findFrom, lookup}
 use Rattle.actl.specs.Actions.{Action, maskOf}
 use Rattle.actl.specs.Grammar.{Disjunction, name, showF}
 use Rattle.actl.specs.Meaning.{numberIn}
 use Rattle.actl.specs.Mentions.{Mention}
-use Rattle.actl.specs.Reading.{missing, firstUnknown}
+use Rattle.actl.specs.Reading.{unknownAt, firstUnknown}
 use Rattle.actl.specs.Cursor.{Named}
 use Rattle.actl.specs.Readers.{unknownIn, earlier, OperandRead}
 use Rattle.actl.proofs.ReadingMasks.{mask-any, mask-none, mask-label}
@@ -43,40 +43,14 @@ module _ (N : List (List ℕ)) (n : ℕ) where
       at = n - length (m .name .bytes ++ m .behind)
 
       case : (f : Option ℕ) (k : ℕ) → earlier k (unknownIn N n (x ++ y)) ≡ earlier (earlier k (unknownIn N n x)) (unknownIn N n y)
-          → earlier k (missing f at (unknownIn N n (x ++ y))) ≡ earlier (earlier k (missing f at (unknownIn N n x))) (unknownIn N n y)
+          → earlier k (unknownAt f at (unknownIn N n (x ++ y))) ≡ earlier (earlier k (unknownAt f at (unknownIn N n x))) (unknownIn N n y)
       case none zero e = refl
       case none (suc k) e = refl
       case (some a) k e = e
 
 pub first-unknown : (N : List (List ℕ)) (f : Disjunction) (l : List Mention) → unknownIn N (length (showF f [])) l ≡ firstUnknown N f l
 first-unknown N f [] = refl
-first-unknown N f (m ∷ l) = ap (missing (lookup N (m .name .bytes)) (length (showF f []) - length (m .name .bytes ++ m .behind))) (first-unknown N f l)
-
--- Bytes copied from the text.
-pub record Copied (text : List ℕ) (at to : ℕ) (x : List ℕ) (i : ℕ) : Type 0 where
-  pub up : at ≤ i
-  pub most : i ≤ to
-  pub long : length x ≡ 12
-  pub same : take (i - at) x ≡ take (i - at) (drop at text)
-
-pub copied-none : (text : List ℕ) (at to : ℕ) (x : List ℕ) → at ≤ to → length x ≡ 12 → Copied text at to x at
-copied-none text at to x h l = record { up = omega arith; most = h; long = l; same = let e : at - at ≡ 0 = omega arith in rw e }
-
-pub copied-more : (text : List ℕ) (at to : ℕ) (x : List ℕ) (i : ℕ) → i < to → to ≤ length text → to ≤ at + 12 → Copied text at to x i → Copied text at to (set x (i - at) (getD text i 0)) (i + 1)
-copied-more text at to x i h w t c =
-    let u = c .up in
-    let j = i - at in
-    let e : i + 1 - at ≡ suc j = omega arith in
-    let z : at + j ≡ i = omega arith in
-    let l : j < length (drop at text) = omega (arith, length-drop at text) in
-    let k : getD (drop at text) j 0 ≡ getD text i 0 = getD-drop at text j 0 ∙ ap (λ q. getD text q 0) z in
-    record {
-      up = omega arith;
-      most = omega arith;
-      long = length-set x j (getD text i 0) ∙ c .long;
-      same = rw e (take-suc-set x j (getD text i 0) (omega (arith, c .long)) ∙ (ap (λ q. q ++ (getD text i 0 ∷ [])) (c .same)
-          ∙ (ap (λ q. take j (drop at text) ++ (q ∷ [])) (sym k) ∙ sym (take-suc (drop at text) j 0 l))));
-    }
+first-unknown N f (m ∷ l) = ap (unknownAt (lookup N (m .name .bytes)) (length (showF f []) - length (m .name .bytes ++ m .behind))) (first-unknown N f l)
 
 -- Where a name is found.
 found-from : (k : ℕ) (l : List (List ℕ)) (y : List ℕ) (a : ℕ) → some a ≡ findFrom k l y → (k ≤ a) × (a < k + length l)
@@ -112,29 +86,28 @@ module _ (N : List (List ℕ)) (s : List ℕ) (at lost to : ℕ) (h : Named s at
   name-read : take (to - at) (drop at s) ≡ h .value .bytes
   name-read = ap (take (to - at)) (h .moves .text) ∙ take-at (h .value .bytes) (drop to s) (to - at) (name-lengths .0)
 
-  module _ (y : List ℕ) (e : y ≡ take (to - at) (drop at s)) where
-    looked-up : lookup N y ≡ lookup N (h .value .bytes)
-    looked-up = ap (lookup N) (e ∙ name-read)
+  looked-up : lookup N (take (to - at) (drop at s)) ≡ lookup N (h .value .bytes)
+  looked-up = ap (lookup N) name-read
 
-    pub label-known : (a : ℕ) → some a ≡ lookup N y → OperandRead N s at lost to (2 ^ a) lost
-    label-known a f =
-        let z : lookup N (h .value .bytes) ≡ some a = sym (f ∙ looked-up) in
-        let r = found-range N y a f in
-        record {
-          value = name (h .value);
-          up = h .up;
-          moves = h .moves;
-          means = sym (mask-label (length N) a (r .0) (r .1)) ∙ ap (λ o. maskOf (length N) (Action.label (numberIn o))) (sym z);
-          lacks = sym (ap (λ o. earlier lost (missing o (length s - length (h .value .bytes ++ drop to s)) none)) z ∙ earlier-none lost);
-        }
+  pub label-known : (a : ℕ) → some a ≡ lookup N (take (to - at) (drop at s)) → OperandRead N s at lost to (2 ^ a) lost
+  label-known a f =
+      let z : lookup N (h .value .bytes) ≡ some a = sym (f ∙ looked-up) in
+      let r = found-range N (take (to - at) (drop at s)) a f in
+      record {
+        value = name (h .value);
+        up = h .up;
+        moves = h .moves;
+        means = sym (mask-label (length N) a (r .0) (r .1)) ∙ ap (λ o. maskOf (length N) (Action.label (numberIn o))) (sym z);
+        lacks = sym (ap (λ o. earlier lost (unknownAt o (length s - length (h .value .bytes ++ drop to s)) none)) z ∙ earlier-none lost);
+      }
 
-    pub label-unknown : none ≡ lookup N y → OperandRead N s at lost to 0 (earlier lost (some at))
-    label-unknown f =
-        let z : lookup N (h .value .bytes) ≡ none = sym (f ∙ looked-up) in
-        record {
-          value = name (h .value);
-          up = h .up;
-          moves = h .moves;
-          means = sym (mask-none (length N) 0 (λ k l m q. omega arith)) ∙ ap (λ o. maskOf (length N) (Action.label (numberIn o))) (sym z);
-          lacks = sym (ap (λ o. earlier lost (missing o (length s - length (h .value .bytes ++ drop to s)) none)) z ∙ ap (λ q. earlier lost (some q)) (name-lengths .1));
-        }
+  pub label-unknown : none ≡ lookup N (take (to - at) (drop at s)) → OperandRead N s at lost to 0 (earlier lost (some at))
+  label-unknown f =
+      let z : lookup N (h .value .bytes) ≡ none = sym (f ∙ looked-up) in
+      record {
+        value = name (h .value);
+        up = h .up;
+        moves = h .moves;
+        means = sym (mask-none (length N) 0 (λ k l m q. omega arith)) ∙ ap (λ o. maskOf (length N) (Action.label (numberIn o))) (sym z);
+        lacks = sym (ap (λ o. earlier lost (unknownAt o (length s - length (h .value .bytes ++ drop to s)) none)) z ∙ ap (λ q. earlier lost (some q)) (name-lengths .1));
+      }

@@ -1,20 +1,20 @@
--- A name, a byte at a time.
-use mathlib.Core.Path.{_≡_, refl, sym, ap, _∙_}
+-- The longest name at a place, a byte at a time: what the reader makes of it.
+use mathlib.Core.Path.{_≡_, refl, sym, ap, _∙_, subst}
 use mathlib.Core.Bool.{Bool, true, false, cond, Bool-set, true≢false, _&&_, _||_}
 use mathlib.Core.List.{List, [], _∷_, _++_, append-assoc}
 use Prim.Native.Nat.{ℕ, zero, suc, _+_, _-_, _≤_, _<_}
 use native.Mathlib.Numerals.{add-one}
 use native.Mathlib.Omega.{arith}
-use borrow.Author.Tests.{leb-true, ne-eqb}
-use lib.Dec.{leb, eqb}
+use borrow.Author.Tests.{leb-true, ltb-true, ltb-false, ne-eqb}
+use lib.Dec.{leb, ltb, eqb}
 use lib.ListN.{length, getD, drop, length-append, drop-of-length-le}
 use lib.Seq.{drop-cons}
-use Rattle.lts.specs.Names.{isLower, isNameByte, atMost, isName}
+use Rattle.lts.specs.Names.{isLower, isNameByte, atMost, isName, nameRun, nameLength, nameEnd}
 use Rattle.lts.proofs.Lists.{and-true-of, and-true-to}
 use Rattle.actl.specs.Grammar.{Name, Operand, name, except}
 use Rattle.actl.specs.Reader.{InOperand, oFirst, oOr, oNot, operandAt, naming, Step, step, finish, go, on, named, leaveO, plugO, proceed, run, refused}
 use Rattle.actl.specs.Cursor.{peek, Named}
-use Rattle.actl.proofs.ReadingPlaces.{byte-at, inside, getD-any}
+use Rattle.actl.proofs.ReadingPlaces.{byte-at, inside, getD-any, peek-end}
 
 -- Tests.
 and-false : (a b : Bool) → b ≡ false → a && b ≡ false
@@ -92,14 +92,14 @@ leave-at : (b : ℕ) (s : List ℕ) (n : Name) (k : InOperand) → isName (n .by
 leave-at b s n k h = ap (λ v. proceed v (run s) (refused (b ∷ s))) (named-no (n .bytes ++ (b ∷ [])) k (isName (n .bytes ++ (b ∷ []))) refl (leaveO (name n) k b) h ∙ leave-step (name n) k b)
 
 -- The bytes from `at` up to `to` are a name's first.
-pub record Spelled (s : List ℕ) (at to : ℕ) : Type 0 where
-  pub value : Name
-  pub long : length (value .bytes) ≡ to - at
-  pub short : to ≤ at + 12
-  pub text : drop at s ≡ value .bytes ++ drop to s
-  pub up : at < to
-  pub within : to ≤ length s
-  pub reads : (k : InOperand) → run (drop at s) (operandAt k) ≡ run (drop to s) (naming value k)
+record Spelled (s : List ℕ) (at to : ℕ) : Type 0 where
+  value : Name
+  long : length (value .bytes) ≡ to - at
+  short : to ≤ at + 12
+  text : drop at s ≡ value .bytes ++ drop to s
+  up : at < to
+  within : to ≤ length s
+  reads : (k : InOperand) → run (drop at s) (operandAt k) ≡ run (drop to s) (naming value k)
 
 spell-first-peek : (s : List ℕ) (at : ℕ) → isLower (peek s at) ≡ true → Spelled s at (at + 1)
 spell-first-peek s at h =
@@ -116,14 +116,14 @@ spell-first-peek s at h =
       reads = λ k. ap (λ l. run l (operandAt k)) d ∙ ap (λ v. proceed v (run (drop (at + 1) s)) (refused (b ∷ drop (at + 1) s))) (name-starts b k i);
     }
 
-pub spell-first : (s : List ℕ) (at : ℕ) → at < length s → isLower (getD s at 0) ≡ true → Spelled s at (at + 1)
+spell-first : (s : List ℕ) (at : ℕ) → at < length s → isLower (getD s at 0) ≡ true → Spelled s at (at + 1)
 spell-first s at w h = spell-first-peek s at (ap isLower (getD-any s at 256 0 w) ∙ h)
 
 module _ (s : List ℕ) (at to : ℕ) (h : Spelled s at to) where
   here : to < length s → drop to s ≡ getD s to 0 ∷ drop (to + 1) s
   here w = drop-cons s to 0 w ∙ rw add-one
 
-  pub spell-more : to < length s → to - at < 12 → isNameByte (getD s to 0) ≡ true → Spelled s at (to + 1)
+  spell-more : to < length s → to - at < 12 → isNameByte (getD s to 0) ≡ true → Spelled s at (to + 1)
   spell-more w l i =
       let b = getD s to 0 in
       let n = h .value in
@@ -145,11 +145,74 @@ module _ (s : List ℕ) (at to : ℕ) (h : Spelled s at to) where
   left-byte : to < length s → isName (h .value .bytes ++ (getD s to 0 ∷ [])) ≡ false → Named s at to
   left-byte w e = left (λ k. ap (λ l. run l (naming (h .value) k)) (here w) ∙ (leave-at (getD s to 0) (drop (to + 1) s) (h .value) k e ∙ ap (λ l. run l (plugO (name (h .value)) k)) (sym (here w))))
 
-  pub spelled-byte : to < length s → isNameByte (getD s to 0) ≡ false → Named s at to
+  spelled-byte : to < length s → isNameByte (getD s to 0) ≡ false → Named s at to
   spelled-byte w i = left-byte w (name-ends (h .value .bytes) (getD s to 0) i)
 
-  pub spelled-full : to < length s → 12 ≤ to - at → Named s at to
+  spelled-full : to < length s → 12 ≤ to - at → Named s at to
   spelled-full w l = left-byte w (name-full (h .value .bytes) (getD s to 0) (omega (arith, h .long)))
 
-  pub spelled-end : length s ≤ to → Named s at to
+  spelled-end : length s ≤ to → Named s at to
   spelled-end w = left (λ k. let d = drop-of-length-le s w in ap (λ l. run l (naming (h .value) k)) d ∙ (leave-end (name (h .value)) k ∙ ap (λ l. run l (plugO (name (h .value)) k)) (sym d)))
+
+-- To the end of the longest name.
+module _ (s : List ℕ) (at : ℕ) where
+  run-over : (k to : ℕ) → length s ≤ to → nameRun k (drop to s) ≡ 0
+  run-over zero to w = refl
+  run-over (suc k) to w = ap (nameRun (suc k)) (drop-of-length-le s w)
+
+  run-opened : (k to : ℕ) → to < length s → nameRun (suc k) (drop to s) ≡ cond (isNameByte (getD s to 0)) (suc (nameRun k (drop (to + 1) s))) 0
+  run-opened k to w = let opened : drop to s ≡ getD s to 0 ∷ drop (to + 1) s = drop-cons s to 0 w ∙ rw add-one in ap (nameRun (suc k)) opened
+
+  run-named : (k to : ℕ) → Spelled s at to → k + (to - at) ≡ 12 → Named s at (to + nameRun k (drop to s))
+  run-named zero to h e = subst (Named s at) (let z : to ≡ to + 0 = omega arith in z) (case (ltb to (length s)) refl)
+    where
+      case : (t : Bool) → ltb to (length s) ≡ t → Named s at to
+      case true d = spelled-full s at to h (ltb-true to (length s) d) (omega arith)
+      case false d = spelled-end s at to h (ltb-false to (length s) d)
+  run-named (suc k) to h e =
+      case (ltb to (length s)) refl (isNameByte (getD s to 0)) refl (λ x. run-named k (to + 1) x (let u = h .up in omega arith))
+    where
+      case : (t : Bool) → ltb to (length s) ≡ t → (i : Bool) → isNameByte (getD s to 0) ≡ i
+          → (Spelled s at (to + 1) → Named s at (to + 1 + nameRun k (drop (to + 1) s))) → Named s at (to + nameRun (suc k) (drop to s))
+      case true d true i go-on =
+          let w = ltb-true to (length s) d in
+          let run : nameRun (suc k) (drop to s) ≡ suc (nameRun k (drop (to + 1) s)) = run-opened k to w ∙ ap (λ t. cond t (suc (nameRun k (drop (to + 1) s))) 0) i in
+          let place : to + 1 + nameRun k (drop (to + 1) s) ≡ to + nameRun (suc k) (drop to s) = omega arith in
+          subst (Named s at) place (go-on (spell-more s at to h w (let u = h .up in omega arith) i))
+      case true d false i go-on =
+          let w = ltb-true to (length s) d in
+          let run : nameRun (suc k) (drop to s) ≡ 0 = run-opened k to w ∙ ap (λ t. cond t (suc (nameRun k (drop (to + 1) s))) 0) i in
+          let place : to ≡ to + nameRun (suc k) (drop to s) = omega arith in
+          subst (Named s at) place (spelled-byte s at to h w i)
+      case false d i j go-on =
+          let w = ltb-false to (length s) d in
+          let place : to ≡ to + nameRun (suc k) (drop to s) = omega (arith, run-over (suc k) to w) in
+          subst (Named s at) place (spelled-end s at to h w)
+
+  length-opened : at < length s → nameLength (drop at s) ≡ cond (isLower (getD s at 0)) (suc (nameRun 11 (drop (at + 1) s))) 0
+  length-opened w = let opened : drop at s ≡ getD s at 0 ∷ drop (at + 1) s = drop-cons s at 0 w ∙ rw add-one in ap nameLength opened
+
+  module _ (end : ℕ) (e : end ≡ nameEnd s at) where
+    pub name-stands : (end ≡ at → ⊥) → Named s at end
+    name-stands n = case (ltb at (length s)) refl (isLower (getD s at 0)) refl
+      where
+        case : (t : Bool) → ltb at (length s) ≡ t → (i : Bool) → isLower (getD s at 0) ≡ i → Named s at end
+        case true d true i =
+            let w = ltb-true at (length s) d in
+            let run : nameLength (drop at s) ≡ suc (nameRun 11 (drop (at + 1) s)) = length-opened w ∙ ap (λ t. cond t (suc (nameRun 11 (drop (at + 1) s))) 0) i in
+            let place : at + 1 + nameRun 11 (drop (at + 1) s) ≡ end = omega arith in
+            subst (Named s at) place (run-named 11 (at + 1) (spell-first s at w i) (omega arith))
+        case true d false i =
+            let run : nameLength (drop at s) ≡ 0 = length-opened (ltb-true at (length s) d) ∙ ap (λ t. cond t (suc (nameRun 11 (drop (at + 1) s))) 0) i in
+            absurd (n (omega arith))
+        case false d i j = absurd (n (omega (arith, ap nameLength (drop-of-length-le s (ltb-false at (length s) d)))))
+
+    pub no-name : end ≡ at → isLower (peek s at) ≡ false
+    no-name n = case (ltb at (length s)) refl (isLower (getD s at 0)) refl
+      where
+        case : (t : Bool) → ltb at (length s) ≡ t → (i : Bool) → isLower (getD s at 0) ≡ i → isLower (peek s at) ≡ false
+        case true d true i =
+            let run : nameLength (drop at s) ≡ suc (nameRun 11 (drop (at + 1) s)) = length-opened (ltb-true at (length s) d) ∙ ap (λ t. cond t (suc (nameRun 11 (drop (at + 1) s))) 0) i in
+            absurd (omega arith)
+        case true d false i = ap isLower (getD-any s at 256 0 (ltb-true at (length s) d)) ∙ i
+        case false d i j = ap isLower (peek-end s at (ltb-false at (length s) d))

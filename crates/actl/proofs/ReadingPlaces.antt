@@ -10,8 +10,8 @@ use lib.Seq.{drop-cons}
 use Rattle.actl.specs.Grammar.{gap}
 use Rattle.actl.specs.Reader.{State, stop, step, finish, proceed, run, refused}
 use Rattle.actl.specs.Cursor.{peek, Skipped, Marked, MarkSays, Tokened, KeywordSays}
-use Rattle.actl.specs.declared.cursor.Taken.{Taken}
-use Rattle.actl.specs.declared.cursor.Taken.the-variants.{Past, Missing}
+use Rattle.actl.specs.declared.cursor.Match.{Match}
+use Rattle.actl.specs.declared.cursor.Match.the-variants.{Past, Missing}
 
 pub getD-any : (s : List ℕ) (i d e : ℕ) → i < length s → getD s i d ≡ getD s i e
 getD-any [] i d e h = absurd (omega arith)
@@ -71,7 +71,7 @@ other-byte s i b w h e = h (getD-any s i 0 256 w ∙ e)
 pub mark-skipped : {s : List ℕ} {at mark d to : ℕ} → Marked s at mark d → Skipped s d to → Tokened s at mark to
 mark-skipped {s} {to} m k = record { here = m .here; skipped = subst (λ n. Skipped s n to) (m .next) k }
 
-pub two-marks : (s : List ℕ) (at d : ℕ) (w : List ℕ) → Marked s at (getD w 0 0) d → (r : Taken) → MarkSays s d (getD w 1 0) r → KeywordSays s at w r
+pub two-marks : (s : List ℕ) (at d : ℕ) (w : List ℕ) → Marked s at (getD w 0 0) d → (r : Match) → MarkSays s d (getD w 1 0) r → KeywordSays s at w r
 two-marks s at d w m (Past c) h = record {
   one = record { here = m .here; next = refl; within = m .within };
   two = subst (λ n. Marked s n (getD w 1 0) (c .at)) (m .next) h;

@@ -12,7 +12,7 @@ use Rattle.actl.specs.Meaning.{modalOf, formulaOfTerm}
 use Rattle.actl.specs.Mentions.{namesF, namesT, namesH}
 use Rattle.actl.specs.Prepared.{slotOf}
 use Rattle.actl.specs.Cursor.{peek, Skipped, Moves, Fails, Marked, Tokened}
-use Rattle.actl.specs.Readers.{unknownIn, earlier, HeadRead, slotCells, nodeCells, putAt, Written, Room, TermRead, TermSays, BracketRead, Unbracketed, BracketSays}
+use Rattle.actl.specs.Readers.{unknownIn, earlier, HeadRead, slotCells, nodeCells, putAt, CellsWritten, NodeRoom, TermRead, TermSays, BracketRead, Unbracketed, BracketSays}
 use Rattle.actl.specs.declared.reading.Nodes.{Nodes}
 use Rattle.actl.specs.declared.reading.Nodes.the-variants.{Read, Refused}
 use Rattle.actl.proofs.ReadingMoves.{on-other, then, fail, at-only, fail-only, skip, stops, marked, tokened}
@@ -32,7 +32,7 @@ modal-cells N (next universal a b c d) f = refl
 modal-cells N (until a b x d) f = refl
 modal-cells N (untilThen a b x c d y e) f = refl
 
-module _ (N : List (List ℕ)) (s : List ℕ) (at n lost : ℕ) (e : List ℕ) (room : Room e at n) (short : length s ≤ 512) where
+module _ (N : List (List ℕ)) (s : List ℕ) (at n lost : ℕ) (e : List ℕ) (room : NodeRoom e at n) (short : length s ≤ 512) where
   -- A byte of the text is left for each node that is still to come.
   pub node-fits : at < length s → n < 512
   node-fits h = omega (arith, room .below)
@@ -48,17 +48,17 @@ module _ (N : List (List ℕ)) (s : List ℕ) (at n lost : ℕ) (e : List ℕ) (
     lacks = sym (earlier-none lost);
   }
 
-  pub inner-room : {d mark : ℕ} → Tokened s at mark d → Room e d n
+  pub inner-room : {d mark : ℕ} → Tokened s at mark d → NodeRoom e d n
   inner-room t = record { below = omega (arith, room .below, t .skipped .up); long = room .long }
 
   pub token-fits : {d mark : ℕ} → Tokened s at mark d → n < 512
   token-fits t = node-fits (omega (arith, t .skipped .up, t .skipped .within))
 
   module _ {x : List ℕ} (k f g : ℕ) (fits : n < 512) (p : x ≡ putAt n k f g e) where
-    first-node : Written n (n + 1) e x (k ∷ f ∷ g ∷ [])
+    first-node : CellsWritten n (n + 1) e x (k ∷ f ∷ g ∷ [])
     first-node = put-node n k f g e x (room .long) fits p
 
-    pub arm-room : {d : ℕ} → at < d → Room x d (n + 1)
+    pub arm-room : {d : ℕ} → at < d → NodeRoom x d (n + 1)
     arm-room h = record { below = omega (arith, room .below); long = first-node .long ∙ room .long }
 
   module _ {d : ℕ} (t : Tokened s at 126 d) {x : List ℕ} (p : x ≡ putAt n 2 0 0 e) where
@@ -131,7 +131,7 @@ module _ (N : List (List ℕ)) (s : List ℕ) (at n lost : ℕ) (e : List ℕ) (
             few = omega (arith, h .up, b .up, t .few);
             count = t .count ∙ omega arith;
             moves = then headed (at-only (λ i. tModal (h .value) i (d - a)) (t .moves));
-            written = subst (Written n _ e y) (ap (λ v. slotCells v ++ nodeCells f) (sym (h .means f)) ∙ sym (modal-cells N (h .value) f)) (written-more (first-node kind first second head-fits p) (t .written));
+            written = subst (CellsWritten n _ e y) (ap (λ v. slotCells v ++ nodeCells f) (sym (h .means f)) ∙ sym (modal-cells N (h .value) f)) (written-more (first-node kind first second head-fits p) (t .written));
             lacks = t .lacks ∙ (ap (λ v. earlier v (unknownIn N (length s) (namesT (t .value) (drop to s)))) (h .lacks ∙ ap (λ r. earlier lost (unknownIn N (length s) (namesH (h .value) r))) (b .blanks ∙ ap (gap (d - a)) (t .moves .text)))
                 ∙ sym (earlier-append N (length s) lost (namesH (h .value) (gap (d - a) (showT (t .value) (drop to s)))) (namesT (t .value) (drop to s))));
           }

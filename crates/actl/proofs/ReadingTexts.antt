@@ -8,7 +8,7 @@ use native.Mathlib.Omega.{arith}
 use lib.ListN.{length, drop, length-drop, drop-of-length-le}
 use lib.Seq.{drop-cons}
 use Rattle.actl.specs.Grammar.{gap, showF}
-use Rattle.actl.specs.Reader.{fTop, tFirst, termAt, afterDisjunction, stop, step, ended, proceed, run, start, read, refused}
+use Rattle.actl.specs.Reader.{fTop, tFirst, termAt, afterDisjunction, stop, step, finishDisjunction, proceed, run, start, read, refused}
 use Rattle.actl.specs.Mentions.{namesF}
 use Rattle.actl.specs.Cursor.{peek, Token, Marked, Fails}
 use Rattle.actl.specs.Readers.{unknownIn, earlier, FormulaRead, WholeRead, RefusedAt}
@@ -33,7 +33,7 @@ module _ {N : List (List ℕ)} {s e : List ℕ} {end to m l : ℕ} {x : List ℕ
   pub text-rest : (end ≡ length s → ⊥) → RefusedAt s to
   text-rest n = refused-at s to (h .token .within) (h .moves .reads fTop ∙ rest (decLe (length s) to))
     where
-      ends : (g : ℕ) → to - end ≡ g → length s ≤ to → ended (h .value) fTop g ≡ refused []
+      ends : (g : ℕ) → to - end ≡ g → length s ≤ to → finishDisjunction (h .value) fTop g ≡ refused []
       ends zero z w = absurd (n (omega (arith, h .blanks, h .moves .within)))
       ends (suc g) z w = refl
 

@@ -9,16 +9,16 @@ use Rattle.actl.specs.declared.node.Condition.the-variants.{Silent, Labe
 use Rattle.actl.specs.declared.node.Node.{Node}
 use Rattle.actl.specs.declared.node.Node.the-variants.{True, Not, Or, Ex, Ax, Until, UntilThen}
 
-abbrev pub condOf : Condition → Cond
-condOf Silent = silent
-condOf (Labels m) = labels m
+abbrev pub condIn : Condition → Cond
+condIn Silent = silent
+condIn (Labels m) = labels m
 
 abbrev pub slotOfNode : Node → Slot
 slotOfNode True = slot 1 0 0
 slotOfNode Not = slot 2 0 0
 slotOfNode Or = slot 3 0 0
-slotOfNode (Ex c) = nextSlot 4 (condOf c)
-slotOfNode (Ax c) = nextSlot 6 (condOf c)
+slotOfNode (Ex c) = nextSlot 4 (condIn c)
+slotOfNode (Ax c) = nextSlot 6 (condIn c)
 slotOfNode (Until a) = slot 8 a 0
 slotOfNode (UntilThen a b) = slot 9 a b
 

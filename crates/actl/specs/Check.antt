@@ -1,20 +1,16 @@
 -- The check of prepared formula bytes, test by test.
 use mathlib.Core.Path.{_≡_}
-use mathlib.Core.Bool.{Bool, true, false, _&&_}
+use mathlib.Core.Bool.{Bool, _&&_}
 use mathlib.Core.List.{List}
-use mathlib.Core.Option.{Option, none, some}
 use Prim.Native.Nat.{ℕ, _-_}
 use lib.Dec.{eqb}
 use lib.ListN.{getD}
 use Rattle.lts.specs.Lists.{upFrom, every}
+use Rattle.lts.specs.Access.{isSome}
 use Rattle.actl.specs.Formulas.{Formula, classOf}
 use Rattle.actl.specs.Prepared.{formulaLength, Slot, slotAt, slotWithin, preparedFormula}
 use Rattle.actl.specs.Access.{shaped}
 use Rattle.actl.specs.Walk.{kindsOf, kindsIn}
-
-abbrev pub isSome : {A : Type 0} → Option A → Bool
-isSome none = false
-isSome (some x) = true
 
 -- 01: "formula bytes that aren't the one form" are refused. Over a table of n labels.
 abbrev pub isPrepared : ℕ → List ℕ → Bool
@@ -29,11 +25,6 @@ slotsFit n b count = every (λ k. slotFits n (slotAt b k)) (upFrom 0 count)
 
 abbrev pub zerosFrom : List ℕ → ℕ → Bool
 zerosFrom b from = every (λ i. eqb (getD b i 0) 0) (upFrom from (formulaLength - from))
-
--- A test's answer is what holds.
-abbrev pub Decides : Bool → Type 0 → Type 0
-Decides true P = P
-Decides false P = P → ⊥
 
 -- The kinds of the first nodes are those of a formula with a class.
 abbrev pub SpelledClassed : List ℕ → ℕ → Type 0

@@ -76,8 +76,8 @@ two node (f ∷ g ∷ l) = some (node f g ∷ l)
 abbrev pub chosen : ℕ → ℕ → Option (List Formula) → Option (List Formula) → Option (List Formula)
 chosen kind k this other = cond (eqb kind k) this other
 
-unfoldable pub graft : Slot → List Formula → Option (List Formula)
-graft s l =
+unfoldable pub push : Slot → List Formula → Option (List Formula)
+push s l =
     let k = s .kind in
     chosen k 1 (some (tru ∷ l)) (
     chosen k 2 (one not l) (
@@ -89,13 +89,13 @@ graft s l =
     chosen k 8 (one (eu (s .first)) l) (
     chosen k 9 (one (euThen (s .first) (s .second)) l) none))))))))
 
-abbrev pub graftOn : Slot → Option (List Formula) → Option (List Formula)
-graftOn s none = none
-graftOn s (some l) = graft s l
+abbrev pub pushOn : Slot → Option (List Formula) → Option (List Formula)
+pushOn s none = none
+pushOn s (some l) = push s l
 
 abbrev pub treesIn : List Slot → Option (List Formula)
 treesIn [] = some []
-treesIn (s ∷ l) = graftOn s (treesIn l)
+treesIn (s ∷ l) = pushOn s (treesIn l)
 
 -- The same as `IsForm`, as a test.
 abbrev pub isForm : ℕ → List ℕ → Formula → Bool

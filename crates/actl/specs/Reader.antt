@@ -136,10 +136,10 @@ pub data Result : Type 0 where
   whole : Disjunction → Result
   refused : List ℕ → Result
 
-abbrev pub ended : Disjunction → InDisjunction → ℕ → Result
-ended f fTop zero = whole f
-ended f fTop (suc g) = refused []
-ended f (fParen k a) g = refused []
+abbrev pub finishDisjunction : Disjunction → InDisjunction → ℕ → Result
+finishDisjunction f fTop zero = whole f
+finishDisjunction f fTop (suc g) = refused []
+finishDisjunction f (fParen k a) g = refused []
 
 abbrev pub finish : State → Result
 finish (termAt k) = refused []
@@ -152,7 +152,7 @@ finish (operandAt k) = refused []
 finish (afterDot q a c k g) = refused []
 finish (naming n k) = refused []
 finish (afterSet x k g) = refused []
-finish (afterDisjunction f k g) = ended f k g
+finish (afterDisjunction f k g) = finishDisjunction f k g
 
 abbrev pub proceed : Step → (State → Result) → Result → Result
 proceed (go x) f r = f x

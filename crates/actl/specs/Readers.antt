@@ -16,7 +16,7 @@ use Rattle.actl.specs.Grammar.{gap, Set, Operand, Condition, Quantifier,
 use Rattle.actl.specs.Reader.{oFirst, InTerm, tFirst, tModal, termAt, afterNext, afterUntil, operandAt, afterSet, afterDisjunction, plugO, plugT, read, whole, refused}
 use Rattle.actl.specs.Mentions.{Mention, namesS, namesO, namesC, namesH, namesF, namesT}
 use Rattle.actl.specs.Meaning.{actionOfOperand, maskIn, modalOf, formulaOf, formulaOfTerm}
-use Rattle.actl.specs.Reading.{missing, firstUnknown}
+use Rattle.actl.specs.Reading.{unknownAt, firstUnknown}
 use Rattle.actl.specs.Prepared.{Slot, slot, slotOf}
 use Rattle.actl.specs.Cursor.{peek, Token, Moves, Fails, Marked}
 use Rattle.actl.specs.declared.reading.Labels.{Labels}
@@ -35,7 +35,7 @@ abbrev pub namesIn : List ℕ → List (List ℕ)
 namesIn b = tableIn b .names
 
 -- Where a reader may begin: over a table's bytes b, at a token of a text that is not too long.
-pub record Ready (b s : List ℕ) (at : ℕ) : Type 0 where
+pub record ReaderStart (b s : List ℕ) (at : ℕ) : Type 0 where
   pub table : HoldsTable b
   pub short : length s ≤ 512
   pub token : Token s at
@@ -43,7 +43,7 @@ pub record Ready (b s : List ℕ) (at : ℕ) : Type 0 where
 -- The first of the names that the table lacks, by its offset in a text of n bytes.
 abbrev pub unknownIn : List (List ℕ) → ℕ → List Mention → Option ℕ
 unknownIn N n [] = none
-unknownIn N n (m ∷ l) = missing (lookup N (m .name .bytes)) (n - length (m .name .bytes ++ m .behind)) (unknownIn N n l)
+unknownIn N n (m ∷ l) = unknownAt (lookup N (m .name .bytes)) (n - length (m .name .bytes ++ m .behind)) (unknownIn N n l)
 
 -- 0 as long as the table has every name, and else one more than the first offset.
 abbrev pub earlier : ℕ → Option ℕ → ℕ
@@ -95,9 +95,9 @@ EnclosedSays N s at mark lost (labels.Read c m l) = EnclosedRead N s at mark los
 EnclosedSays N s at mark lost (labels.Refused c) = Fails s at (c .at) (λ k. operandAt (oFirst k)) ⊎ Unclosed N s at mark lost (c .at)
 
 -- The kind of a node for EX and AX; with a set it is one more (docs/FORMATS.md).
-abbrev pub kindOf : Quantifier → ℕ
-kindOf existential = 4
-kindOf universal = 6
+abbrev pub nextKind : Quantifier → ℕ
+nextKind existential = 4
+nextKind universal = 6
 
 -- The bracket of EX or AX.
 pub record NextRead (N : List (List ℕ)) (s : List ℕ) (at base lost to kind first second left : ℕ) : Type 0 where
@@ -107,7 +107,7 @@ pub record NextRead (N : List (List ℕ)) (s : List ℕ) (at base lost to kind f
   pub behind : ℕ
   pub moves : Moves s at to (λ r. gap before (91 ∷ gap inside (showC condition (gap behind (93 ∷ r)))))
       (λ (p : Quantifier × InTerm). afterNext (p .0) (p .1) 0) (λ p. termAt (tModal (next (p .0) before inside condition behind) (p .1) 0))
-  pub means : (q : Quantifier) (f : Formula) → kindOf q ≡ base → slotOf (modalOf N (next q before inside condition behind) f) ≡ slot kind first second
+  pub means : (q : Quantifier) (f : Formula) → nextKind q ≡ base → slotOf (modalOf N (next q before inside condition behind) f) ≡ slot kind first second
   pub lacks : left ≡ earlier lost (unknownIn N (length s) (namesC condition (gap behind (93 ∷ drop to s))))
 
 abbrev pub NextSays : List (List ℕ) → List ℕ → ℕ → ℕ → ℕ → Heading → Type 0
@@ -164,12 +164,12 @@ abbrev pub joinedAt : ℕ → ℕ → List ℕ → List ℕ
 joinedAt start n e = take (start * 3) e ++ (3 ∷ 0 ∷ 0 ∷ (drop (start * 3) (take (n * 3) e) ++ drop (n * 3 + 3) e))
 
 -- The cells x are the cells e up to node n, and then l up to node m.
-pub record Written (n m : ℕ) (e x l : List ℕ) : Type 0 where
+pub record CellsWritten (n m : ℕ) (e x l : List ℕ) : Type 0 where
   pub long : length x ≡ length e
   pub cells : take (m * 3) x ≡ take (n * 3) e ++ l
 
 -- Room for the nodes of what is left of the text: there are no more nodes than bytes.
-pub record Room (e : List ℕ) (at n : ℕ) : Type 0 where
+pub record NodeRoom (e : List ℕ) (at n : ℕ) : Type 0 where
   pub below : n ≤ at
   pub long : length e ≡ 1536
 
@@ -179,7 +179,7 @@ pub record TermRead (N : List (List ℕ)) (s : List ℕ) (at n lost : ℕ) (e : 
   pub few : m + at ≤ n + to
   pub count : m ≡ n + size (formulaOfTerm N value)
   pub moves : Moves s at to (showT value) termAt (plugT value)
-  pub written : Written n m e x (nodeCells (formulaOfTerm N value))
+  pub written : CellsWritten n m e x (nodeCells (formulaOfTerm N value))
   pub lacks : left ≡ earlier lost (unknownIn N (length s) (namesT value (drop to s)))
 
 abbrev pub TermSays : List (List ℕ) → List ℕ → ℕ → ℕ → ℕ → List ℕ → List ℕ → Nodes → Type 0
@@ -196,7 +196,7 @@ pub record FormulaRead (N : List (List ℕ)) (s : List ℕ) (at n lost : ℕ) (e
   pub token : Token s to
   pub last : peek s to ≡ 124 → ⊥
   pub moves : Moves s at to (λ r. showF value (gap (to - end) r)) (λ k. termAt (tFirst k)) (λ k. afterDisjunction value k (to - end))
-  pub written : Written n m e x (nodeCells (formulaOf N value))
+  pub written : CellsWritten n m e x (nodeCells (formulaOf N value))
   pub lacks : left ≡ earlier lost (unknownIn N (length s) (namesF value (gap (to - end) (drop to s))))
 
 abbrev pub FormulaSays : List (List ℕ) → List ℕ → ℕ → ℕ → ℕ → List ℕ → List ℕ → Chain → Type 0

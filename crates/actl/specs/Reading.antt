@@ -18,14 +18,14 @@ abbrev pub unlessFound : {A : Type 0} → Option ℕ → ℕ → Reply A → Rep
 unlessFound none number next = next
 unlessFound (some figure) number next = refusal number figure
 
-abbrev pub missing : Option ℕ → ℕ → Option ℕ → Option ℕ
-missing none at later = some at
-missing (some a) at later = later
+abbrev pub unknownAt : Option ℕ → ℕ → Option ℕ → Option ℕ
+unknownAt none at later = some at
+unknownAt (some a) at later = later
 
 -- 01: "a name the table lacks": "offset of the first such"
 abbrev pub firstUnknown : List (List ℕ) → Disjunction → List Mention → Option ℕ
 firstUnknown names f [] = none
-firstUnknown names f (m ∷ l) = missing (lookup names (m .name .bytes)) (offset f m) (firstUnknown names f l)
+firstUnknown names f (m ∷ l) = unknownAt (lookup names (m .name .bytes)) (offset f m) (firstUnknown names f l)
 
 -- 01: "over 40 nodes", then "a node without class: the highest-numbered one"
 abbrev pub withClasses : Formula → Reply Formula

@@ -65,7 +65,7 @@ abbrev pub Spelled : List ℕ → ℕ → Formula → Type 0
 Spelled kinds k f = (rest : List ℕ) × (drop k kinds ≡ kindsOf f ++ rest)
 
 -- The walk at k: it finds the formula that stands there, and notes the ends and the classes of its nodes.
-pub record Found (kinds ends endsAfter classes classesAfter : List ℕ) (k end arm : ℕ) : Type 0 where
+pub record Traversed (kinds ends endsAfter classes classesAfter : List ℕ) (k end arm : ℕ) : Type 0 where
   pub formula : Formula
   pub spelled : Spelled kinds k formula
   pub behind : end ≡ k + size formula
@@ -75,7 +75,7 @@ pub record Found (kinds ends endsAfter classes classesAfter : List ℕ) (k end a
 
 abbrev pub Walks : List ℕ → List ℕ → List ℕ → List ℕ → List ℕ → ℕ → Walked → Type 0
 Walks kinds ends endsAfter classes classesAfter k Broken = (f : Formula) → Spelled kinds k f → ⊥
-Walks kinds ends endsAfter classes classesAfter k (Node end arm) = Found kinds ends endsAfter classes classesAfter k end arm
+Walks kinds ends endsAfter classes classesAfter k (Node end arm) = Traversed kinds ends endsAfter classes classesAfter k end arm
 
 -- 01: "a node without class": "the highest-numbered one"
 abbrev pub classlessNode : Classless → Option ℕ

@@ -3,7 +3,7 @@ use mathlib.Core.Path.{_≡_}
 use mathlib.Core.List.{List, _∷_, _++_, map}
 use mathlib.Core.Option.{Option}
 use Prim.Native.Nat.{ℕ, _+_, _*_, _-_, _%_}
-use lib.ListN.{length, getD, take, drop, replicate}
+use lib.ListN.{getD, take, replicate}
 use Rattle.columns.specs.Bytes.{lowFirst}
 use Rattle.lts.specs.Lists.{upFrom, bind}
 use Rattle.lts.specs.Reply.{Reply, leftIn, answers}
@@ -13,10 +13,6 @@ use Rattle.actl.specs.Reading.{unlessFound, withClasses}
 use Rattle.actl.specs.Replies.{formulaReply}
 use Rattle.actl.specs.Readers.{earlier, nodeCells}
 use Rattle.actl.specs.declared.FormulaReply.{FormulaReply}
-
--- A list with l written from a place on.
-abbrev pub placed : ℕ → List ℕ → List ℕ → List ℕ
-placed at l e = take at e ++ (l ++ drop (at + length l) e)
 
 -- A node's bytes: its kind and its masks, low byte first.
 abbrev pub nodeBytes : ℕ → ℕ → ℕ → List ℕ
@@ -37,7 +33,7 @@ abbrev pub preparedBytes : List ℕ → ℕ → List ℕ
 preparedBytes c n = n ∷ (cellBytes c n ++ replicate (680 - n * 17) 0)
 
 -- A call that answers r and leaves x in the buffer e did what a reading says.
-pub record Answers (a : Reply Formula) (e : List ℕ) (r : FormulaReply) (x : List ℕ) : Type 0 where
+pub record FormulaAnswered (a : Reply Formula) (e : List ℕ) (r : FormulaReply) (x : List ℕ) : Type 0 where
   pub replies : formulaReply r ≡ answers (λ F. tt) a
   pub leaves : x ≡ leftIn formulaBytes a e
 
@@ -47,5 +43,5 @@ pub record Holds (c : List ℕ) (n lost : ℕ) (F : Formula) (o : Option ℕ) : 
   pub cells : take (n * 3) c ≡ nodeCells F
   pub lacks : lost ≡ earlier 0 o
 
-abbrev pub AnswersWith : List ℕ → ℕ → ℕ → List ℕ → FormulaReply → List ℕ → Type 0
-AnswersWith c n lost e r x = (F : Formula) (o : Option ℕ) → Holds c n lost F o → Answers (unlessFound o 7 (withClasses F)) e r x
+abbrev pub FormulaAnsweredWith : List ℕ → ℕ → ℕ → List ℕ → FormulaReply → List ℕ → Type 0
+FormulaAnsweredWith c n lost e r x = (F : Formula) (o : Option ℕ) → Holds c n lost F o → FormulaAnswered (unlessFound o 7 (withClasses F)) e r x

@@ -1,16 +1,14 @@
 // A place in a formula's text, by value. Its methods skip blanks, take a token and hand the cursor back.
-ghost use Prim.Native.Nat.{_≤_, _<_};
+ghost use Prim.Native.Nat.{_≤_};
 ghost use lib.ListN.{length};
 ghost use Rattle.actl.specs.Cursor.{Skipped, MarkSays, TokenSays, KeywordSays, NameSays};
-use lts::names::is_lower;
-use lts::names::is_name_byte;
 
 pub struct Cursor {
     pub at: usize,
 }
 
 // Past a token; or the token does not stand at the cursor.
-pub enum Taken {
+pub enum Match {
     Past(Cursor),
     Missing,
 }
@@ -31,59 +29,48 @@ impl Cursor {
         Cursor { at: i }
     }
 
-    pub fn mark(self, text: &[u8], mark: u8) -> Taken
+    pub fn mark(self, text: &[u8], mark: u8) -> Match
         ensures { λ r. ⌜ MarkSays (now (text .entry)) (self .at) mark r ⌝ }
     {
         let at = self.at;
         if at < text.len() {
             if text[at] == mark {
-                return Taken::Past(Cursor { at: at + 1 });
+                return Match::Past(Cursor { at: at + 1 });
             }
         }
-        Taken::Missing
+        Match::Missing
     }
 
     // A mark, and the blanks behind it.
-    pub fn token(self, text: &[u8], mark: u8) -> Taken
+    pub fn token(self, text: &[u8], mark: u8) -> Match
         ensures { λ r. ⌜ TokenSays (now (text .entry)) (self .at) mark r ⌝ }
     {
-        let Taken::Past(d) = self.mark(text, mark) else {
-            return Taken::Missing;
+        let Match::Past(d) = self.mark(text, mark) else {
+            return Match::Missing;
         };
-        Taken::Past(d.skip_blanks(text))
+        Match::Past(d.skip_blanks(text))
     }
 
     // 01: "Tokens are the keywords EX, AX and EU"
-    pub fn keyword(self, text: &[u8], word: &[u8; 2]) -> Taken
+    pub fn keyword(self, text: &[u8], word: &[u8; 2]) -> Match
         ensures { λ r. ⌜ KeywordSays (now (text .entry)) (self .at) (now (word .entry)) r ⌝ }
     {
-        let Taken::Past(d) = self.mark(text, word[0]) else {
-            return Taken::Missing;
+        let Match::Past(d) = self.mark(text, word[0]) else {
+            return Match::Missing;
         };
         d.mark(text, word[1])
     }
 
-    // A name of at most twelve bytes: a thirteenth ends it.
-    pub fn name(self, text: &[u8]) -> Taken
+    // The longest name that stands here.
+    pub fn name(self, text: &[u8]) -> Match
+        requires { ⌜ self .at ≤ length (now text) ⌝ }
         ensures { λ r. ⌜ NameSays (now (text .entry)) (self .at) r ⌝ }
     {
-        let start = self.at;
-        if text.len() <= start {
-            return Taken::Missing;
+        let at = self.at;
+        let end = lts::names::name_end(text, at);
+        if end == at {
+            return Match::Missing;
         }
-        if !is_lower(text[start] as usize) {
-            return Taken::Missing;
-        }
-        let mut i = start + 1;
-        while i < text.len() {
-            if 12 <= i - start {
-                return Taken::Past(Cursor { at: i });
-            }
-            if !is_name_byte(text[i] as usize) {
-                return Taken::Past(Cursor { at: i });
-            }
-            i += 1;
-        }
-        Taken::Past(Cursor { at: i })
+        Match::Past(Cursor { at: end })
     }
 }

@@ -3,14 +3,14 @@
 ghost use mathlib.Core.Path.{_≡_};
 ghost use mathlib.Core.Option.{some};
 ghost use Prim.Native.Nat.{_+_, _*_, _-_, _≤_, _<_};
-ghost use lib.ListN.{length, take, drop};
+ghost use lib.ListN.{length};
 ghost use Rattle.lts.specs.Access.{HoldsTable};
 ghost use Rattle.actl.specs.Actions.{Action, maskOf};
 ghost use Rattle.actl.specs.Cursor.{Named};
-ghost use Rattle.actl.specs.Readers.{namesIn, Ready, NoMark, NoKeyword, earlier, OperandSays, EnclosedSays, SetSays, NextSays, UntilSays, HeadSays, putAt, joinedAt, Room, TermSays, BracketSays, FormulaSays, ReadingSays};
+ghost use Rattle.actl.specs.Readers.{namesIn, ReaderStart, NoMark, NoKeyword, earlier, OperandSays, EnclosedSays, SetSays, NextSays, UntilSays, HeadSays, putAt, joinedAt, NodeRoom, TermSays, BracketSays, FormulaSays, ReadingSays};
 use crate::cursor::Cursor;
-use crate::cursor::Taken;
-use lts::names::Found;
+use crate::cursor::Match;
+use lts::names::Lookup;
 
 // A set of labels as a mask; or the place where the text is refused. The last number is 0 as long as the table has
 // every name, and else one more than the offset of the first that it lacks.
@@ -59,53 +59,39 @@ fn earlier_of(lost: usize, at: usize) -> usize
     if lost == 0 { at + 1 } else { lost }
 }
 
-// The bytes from `at` up to `to`, of which there are at most twelve.
-fn name_bytes(text: &[u8], at: usize, to: usize) -> [u8; 12]
-    requires { ⌜ (at ≤ to) × (to ≤ length (now text)) × (to ≤ at + 12) ⌝ }
-    ensures { λ r. ⌜ take (to - at) r ≡ take (to - at) (drop at (now (text .entry))) ⌝ }
-{
-    let mut name = [0u8; 12];
-    let mut i = at;
-    while i < to {
-        name[i - at] = text[i];
-        i += 1;
-    }
-    name
-}
-
 // A name's label, where the table has one.
 fn label(table: &[u8], text: &[u8], c: Cursor, d: Cursor, lost: usize) -> Labels
-    requires { ⌜ Ready (now table) (now text) (c .at) × Named (now text) (c .at) (d .at) ⌝ }
+    requires { ⌜ ReaderStart (now table) (now text) (c .at) × Named (now text) (c .at) (d .at) ⌝ }
     ensures { λ r. ⌜ OperandSays (namesIn (now (table .entry))) (now (text .entry)) (c .at) lost r ⌝ }
 {
     let at = c.at;
     let to = d.at;
-    let x = lts::names::find_label(table, name_bytes(text, at, to), to - at);
+    let x = lts::names::find_label(table, &text[at..to]);
     match x {
-        Found::At(a) => Labels::Read(d, 1u64 << a, lost),
-        Found::Nothing => Labels::Read(d, 0, earlier_of(lost, at)),
+        Lookup::At(a) => Labels::Read(d, 1u64 << a, lost),
+        Lookup::Nowhere => Labels::Read(d, 0, earlier_of(lost, at)),
     }
 }
 
 // 01: "an operand is a name, `*` (all labels), `~` and an operand, or a set in round brackets"
 fn operand(table: &[u8], text: &[u8], c: Cursor, lost: usize) -> Labels
-    requires { ⌜ Ready (now table) (now text) (c .at) ⌝ }
+    requires { ⌜ ReaderStart (now table) (now text) (c .at) ⌝ }
     ensures { λ r. ⌜ OperandSays (namesIn (now (table .entry))) (now (text .entry)) (c .at) lost r ⌝ }
 {
-    if let Taken::Past(d) = c.mark(text, b'*') {
+    if let Match::Past(d) = c.mark(text, b'*') {
         return Labels::Read(d, all_labels(table), lost);
     }
-    if let Taken::Past(d) = c.token(text, b'~') {
+    if let Match::Past(d) = c.token(text, b'~') {
         let x = operand(table, text, d, lost);
         return match x {
             Labels::Read(e, m, l) => Labels::Read(e, all_labels(table) - m, l),
             Labels::Refused(e) => Labels::Refused(e),
         };
     }
-    if let Taken::Past(d) = c.token(text, b'(') {
+    if let Match::Past(d) = c.token(text, b'(') {
         return enclosed(table, text, d, 41, lost);
     }
-    if let Taken::Past(d) = c.name(text) {
+    if let Match::Past(d) = c.name(text) {
         return label(table, text, c, d, lost);
     }
     Labels::Refused(c)
@@ -113,14 +99,14 @@ fn operand(table: &[u8], text: &[u8], c: Cursor, lost: usize) -> Labels
 
 // A set, and the mark that ends its bracket.
 fn enclosed(table: &[u8], text: &[u8], c: Cursor, mark: u8, lost: usize) -> Labels
-    requires { ⌜ Ready (now table) (now text) (c .at) ⌝ }
+    requires { ⌜ ReaderStart (now table) (now text) (c .at) ⌝ }
     ensures { λ r. ⌜ EnclosedSays (namesIn (now (table .entry))) (now (text .entry)) (c .at) mark lost r ⌝ }
 {
     let x = set(table, text, c, lost);
     match x {
         Labels::Refused(e) => Labels::Refused(e),
         Labels::Read(e, m, l) => {
-            let Taken::Past(f) = e.mark(text, mark) else {
+            let Match::Past(f) = e.mark(text, mark) else {
                 return Labels::Refused(e);
             };
             Labels::Read(f, m, l)
@@ -130,7 +116,7 @@ fn enclosed(table: &[u8], text: &[u8], c: Cursor, mark: u8, lost: usize) -> Labe
 
 // 01: "A set is one or more operands joined by `|`". It is read with the blanks behind it.
 fn set(table: &[u8], text: &[u8], c: Cursor, lost: usize) -> Labels
-    requires { ⌜ Ready (now table) (now text) (c .at) ⌝ }
+    requires { ⌜ ReaderStart (now table) (now text) (c .at) ⌝ }
     ensures { λ r. ⌜ SetSays (namesIn (now (table .entry))) (now (text .entry)) (c .at) lost r ⌝ }
 {
     let mut d = c;
@@ -146,7 +132,7 @@ fn set(table: &[u8], text: &[u8], c: Cursor, lost: usize) -> Labels
                 let f = e.skip_blanks(text);
                 mask = mask | m;
                 lacks = l;
-                let Taken::Past(g) = f.token(text, b'|') else {
+                let Match::Past(g) = f.token(text, b'|') else {
                     return Labels::Read(f, mask, lacks);
                 };
                 d = g;
@@ -161,11 +147,11 @@ fn next_head(table: &[u8], text: &[u8], c: Cursor, base: u64, lost: usize) -> He
     ensures { λ r. ⌜ NextSays (namesIn (now (table .entry))) (now (text .entry)) (c .at) base lost r ⌝ }
 {
     let o = c.skip_blanks(text);
-    let Taken::Past(d) = o.token(text, b'[') else {
+    let Match::Past(d) = o.token(text, b'[') else {
         return Heading::Refused(o);
     };
-    if let Taken::Past(e) = d.token(text, b'.') {
-        let Taken::Past(f) = e.mark(text, b']') else {
+    if let Match::Past(e) = d.token(text, b'.') {
+        let Match::Past(f) = e.mark(text, b']') else {
             return Heading::Refused(e);
         };
         return Heading::Read(f, base, 0, 0, lost);
@@ -183,15 +169,15 @@ fn until_head(table: &[u8], text: &[u8], c: Cursor, lost: usize) -> Heading
     ensures { λ r. ⌜ UntilSays (namesIn (now (table .entry))) (now (text .entry)) (c .at) lost r ⌝ }
 {
     let o = c.skip_blanks(text);
-    let Taken::Past(d) = o.token(text, b'[') else {
+    let Match::Past(d) = o.token(text, b'[') else {
         return Heading::Refused(o);
     };
     let x = set(table, text, d, lost);
     match x {
         Labels::Refused(e) => Heading::Refused(e),
         Labels::Read(e, first, l) => {
-            let Taken::Past(g) = e.token(text, b';') else {
-                let Taken::Past(f) = e.mark(text, b']') else {
+            let Match::Past(g) = e.token(text, b';') else {
+                let Match::Past(f) = e.mark(text, b']') else {
                     return Heading::Refused(e);
                 };
                 return Heading::Read(f, 8, first, 0, l);
@@ -209,10 +195,10 @@ fn until_head(table: &[u8], text: &[u8], c: Cursor, lost: usize) -> Heading
 fn no_keyword(text: &[u8], c: Cursor) -> Cursor
     ensures { λ r. ⌜ NoKeyword (now (text .entry)) (c .at) (r .at) ⌝ }
 {
-    if let Taken::Past(d) = c.mark(text, b'E') {
+    if let Match::Past(d) = c.mark(text, b'E') {
         return d;
     }
-    if let Taken::Past(d) = c.mark(text, b'A') {
+    if let Match::Past(d) = c.mark(text, b'A') {
         return d;
     }
     c
@@ -220,16 +206,16 @@ fn no_keyword(text: &[u8], c: Cursor) -> Cursor
 
 // A keyword with its square bracket.
 fn head(table: &[u8], text: &[u8], c: Cursor, lost: usize) -> Heading
-    requires { ⌜ Ready (now table) (now text) (c .at) × NoMark (now text) (c .at) ⌝ }
+    requires { ⌜ ReaderStart (now table) (now text) (c .at) × NoMark (now text) (c .at) ⌝ }
     ensures { λ r. ⌜ HeadSays (namesIn (now (table .entry))) (now (text .entry)) (c .at) lost r ⌝ }
 {
-    if let Taken::Past(d) = c.keyword(text, b"EX") {
+    if let Match::Past(d) = c.keyword(text, b"EX") {
         return next_head(table, text, d, 4, lost);
     }
-    if let Taken::Past(d) = c.keyword(text, b"AX") {
+    if let Match::Past(d) = c.keyword(text, b"AX") {
         return next_head(table, text, d, 6, lost);
     }
-    if let Taken::Past(d) = c.keyword(text, b"EU") {
+    if let Match::Past(d) = c.keyword(text, b"EU") {
         return until_head(table, text, d, lost);
     }
     Heading::Refused(no_keyword(text, c))
@@ -269,18 +255,18 @@ fn term(
     n: usize,
     lost: usize,
 ) -> Nodes
-    requires { ⌜ Ready (now table) (now text) (c .at) × Room (now cells) (c .at) n ⌝ }
+    requires { ⌜ ReaderStart (now table) (now text) (c .at) × NodeRoom (now cells) (c .at) n ⌝ }
     ensures { λ r. ⌜ TermSays (namesIn (now (table .entry))) (now (text .entry)) (c .at) n lost (now (cells .entry)) (now (cells .exit)) r ⌝ }
 {
-    if let Taken::Past(d) = c.mark(text, b'T') {
+    if let Match::Past(d) = c.mark(text, b'T') {
         put(cells, n, 1, 0, 0);
         return Nodes::Read(d, n + 1, lost);
     }
-    if let Taken::Past(d) = c.token(text, b'~') {
+    if let Match::Past(d) = c.token(text, b'~') {
         put(cells, n, 2, 0, 0);
         return term(table, text, cells, d, n + 1, lost);
     }
-    if let Taken::Past(d) = c.token(text, b'(') {
+    if let Match::Past(d) = c.token(text, b'(') {
         return bracket(table, text, cells, d, n, lost);
     }
     let x = head(table, text, c, lost);
@@ -303,14 +289,14 @@ fn bracket(
     n: usize,
     lost: usize,
 ) -> Nodes
-    requires { ⌜ Ready (now table) (now text) (c .at) × Room (now cells) (c .at) n ⌝ }
+    requires { ⌜ ReaderStart (now table) (now text) (c .at) × NodeRoom (now cells) (c .at) n ⌝ }
     ensures { λ r. ⌜ BracketSays (namesIn (now (table .entry))) (now (text .entry)) (c .at) n lost (now (cells .entry)) (now (cells .exit)) r ⌝ }
 {
     let x = formula(table, text, cells, c, n, lost);
     match x {
         Chain::Refused(e) => Nodes::Refused(e),
         Chain::Read(_, e, m, l) => {
-            let Taken::Past(f) = e.mark(text, b')') else {
+            let Match::Past(f) = e.mark(text, b')') else {
                 return Nodes::Refused(e);
             };
             Nodes::Read(f, m, l)
@@ -327,7 +313,7 @@ fn formula(
     n: usize,
     lost: usize,
 ) -> Chain
-    requires { ⌜ Ready (now table) (now text) (c .at) × Room (now cells) (c .at) n ⌝ }
+    requires { ⌜ ReaderStart (now table) (now text) (c .at) × NodeRoom (now cells) (c .at) n ⌝ }
     ensures { λ r. ⌜ FormulaSays (namesIn (now (table .entry))) (now (text .entry)) (c .at) n lost (now (cells .entry)) (now (cells .exit)) r ⌝ }
 {
     let mut d = c;
@@ -341,7 +327,7 @@ fn formula(
             }
             Nodes::Read(e, m, l) => {
                 let f = e.skip_blanks(text);
-                let Taken::Past(g) = f.token(text, b'|') else {
+                let Match::Past(g) = f.token(text, b'|') else {
                     return Chain::Read(e, f, m, l);
                 };
                 join(cells, n, m);
@@ -359,7 +345,7 @@ pub fn read_text(table: &[u8], text: &[u8], cells: &mut [u64; 1536]) -> Reading
     ensures { λ r. ⌜ ReadingSays (namesIn (now (table .entry))) (now (text .entry)) (now (cells .exit)) r ⌝ }
 {
     let c = Cursor { at: 0 };
-    if let Taken::Past(_) = c.mark(text, b' ') {
+    if let Match::Past(_) = c.mark(text, b' ') {
         return Reading::Refused(0);
     }
     let x = formula(table, text, cells, c, 0, 0);

@@ -6,7 +6,8 @@ ghost use Prim.Native.Nat.{ℕ, _+_, _*_, _<_, _≤_};
 ghost use lib.ListN.{length, getD, set, take};
 ghost use Rattle.actl.specs.Formulas.{classOfOr};
 ghost use Rattle.actl.specs.Walk.{classFrom, classOfArm, kindAt, kindsIn, Walks, classlessNode, lastNone, IsHighest, IsShape};
-ghost use Rattle.actl.specs.Check.{Decides, SpelledClassed};
+ghost use Rattle.lts.specs.Access.{Decides};
+ghost use Rattle.actl.specs.Check.{SpelledClassed};
 
 // 01: "The class of a node follows from this table": four for each kind, by the arm's class, the last for the node T. Zero is no class.
 const CLASSES: [[u8; 4]; 10] = [
@@ -157,7 +158,7 @@ fn kinds_in(formula: &[u8], count: usize) -> [u8; 40]
 // Whether the first nodes of prepared bytes, in order, are those of one formula with a class.
 pub fn spelled(formula: &[u8], count: usize) -> bool
     requires { ⌜ (681 ≤ length (now formula)) × (count ≤ 40) ⌝ }
-    ensures { λ r. ⌜ Decides r (SpelledClassed (now (formula .entry)) count) ⌝ }
+    ensures { λ r. ⌜ Decides (SpelledClassed (now (formula .entry)) count) r ⌝ }
 {
     let mut ends = [0u8; 40];
     let mut classes = [0u8; 40];

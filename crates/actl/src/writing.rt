@@ -3,7 +3,8 @@ ghost use mathlib.Core.Path.{_≡_};
 ghost use Prim.Native.Nat.{_+_, _*_, _-_, _≤_, _<_};
 ghost use lib.ListN.{length, take, replicate};
 ghost use Rattle.columns.specs.Bytes.{lowFirst};
-ghost use Rattle.actl.specs.Writing.{placed, nodeBytes, cellBytes, cellKinds, preparedBytes, AnswersWith};
+ghost use Rattle.columns.specs.Write.{pasted};
+ghost use Rattle.actl.specs.Writing.{nodeBytes, cellBytes, cellKinds, preparedBytes, FormulaAnsweredWith};
 use crate::FormulaReply;
 use crate::walk::Classless;
 use crate::walk::highest_classless;
@@ -11,7 +12,7 @@ use crate::walk::highest_classless;
 // A mask, low byte first.
 fn put_mask(formula: &mut [u8], at: usize, mask: u64)
     requires { ⌜ at + 8 ≤ length (now formula) ⌝ }
-    ensures { λ r. ⌜ now (formula .exit) ≡ placed at (lowFirst 8 mask) (now (formula .entry)) ⌝ }
+    ensures { λ r. ⌜ now (formula .exit) ≡ pasted (now (formula .entry)) at (lowFirst 8 mask) ⌝ }
 {
     let mut rest = mask;
     let mut i = 0;
@@ -24,7 +25,7 @@ fn put_mask(formula: &mut [u8], at: usize, mask: u64)
 
 fn put_node(formula: &mut [u8], at: usize, kind: u64, first: u64, second: u64)
     requires { ⌜ at + 17 ≤ length (now formula) ⌝ }
-    ensures { λ r. ⌜ now (formula .exit) ≡ placed at (nodeBytes kind first second) (now (formula .entry)) ⌝ }
+    ensures { λ r. ⌜ now (formula .exit) ≡ pasted (now (formula .entry)) at (nodeBytes kind first second) ⌝ }
 {
     formula[at] = (kind % 256) as u8;
     put_mask(formula, at + 1, first);
@@ -33,7 +34,7 @@ fn put_node(formula: &mut [u8], at: usize, kind: u64, first: u64, second: u64)
 
 fn put_nodes(cells: &[u64; 1536], n: usize, formula: &mut [u8])
     requires { ⌜ (length (now cells) ≡ 1536) × (n ≤ 40) × (681 ≤ length (now formula)) ⌝ }
-    ensures { λ r. ⌜ now (formula .exit) ≡ placed 1 (cellBytes (now (cells .entry)) n) (now (formula .entry)) ⌝ }
+    ensures { λ r. ⌜ now (formula .exit) ≡ pasted (now (formula .entry)) 1 (cellBytes (now (cells .entry)) n) ⌝ }
 {
     let mut k = 0;
     while k < n {
@@ -46,7 +47,7 @@ fn put_nodes(cells: &[u64; 1536], n: usize, formula: &mut [u8])
 // Zeros up to the prepared bytes' end.
 fn put_zeros(formula: &mut [u8], from: usize)
     requires { ⌜ (from ≤ 681) × (681 ≤ length (now formula)) ⌝ }
-    ensures { λ r. ⌜ now (formula .exit) ≡ placed from (replicate (681 - from) 0) (now (formula .entry)) ⌝ }
+    ensures { λ r. ⌜ now (formula .exit) ≡ pasted (now (formula .entry)) from (replicate (681 - from) 0) ⌝ }
 {
     let mut i = from;
     while i < 681 {
@@ -57,7 +58,7 @@ fn put_zeros(formula: &mut [u8], from: usize)
 
 fn write_bytes(cells: &[u64; 1536], n: usize, formula: &mut [u8])
     requires { ⌜ (length (now cells) ≡ 1536) × (n ≤ 40) × (681 ≤ length (now formula)) ⌝ }
-    ensures { λ r. ⌜ now (formula .exit) ≡ placed 0 (preparedBytes (now (cells .entry)) n) (now (formula .entry)) ⌝ }
+    ensures { λ r. ⌜ now (formula .exit) ≡ pasted (now (formula .entry)) 0 (preparedBytes (now (cells .entry)) n) ⌝ }
 {
     formula[0] = n as u8;
     put_nodes(cells, n, formula);
@@ -80,7 +81,7 @@ fn kinds_of(cells: &[u64; 1536], n: usize) -> [u8; 40]
 // 01: "Formulas go 5, 6, 7, 8, 9." The last three, of a text that is grammatical; and else the bytes are written.
 pub fn answer(cells: &[u64; 1536], n: usize, lost: usize, formula: &mut [u8]) -> FormulaReply
     requires { ⌜ (length (now cells) ≡ 1536) × (681 ≤ length (now formula)) ⌝ }
-    ensures { λ r. ⌜ AnswersWith (now (cells .entry)) n lost (now (formula .entry)) r (now (formula .exit)) ⌝ }
+    ensures { λ r. ⌜ FormulaAnsweredWith (now (cells .entry)) n lost (now (formula .entry)) r (now (formula .exit)) ⌝ }
 {
     if lost != 0 {
         return FormulaReply::NameUnknown(lost - 1);

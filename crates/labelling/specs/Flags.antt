@@ -8,7 +8,7 @@ use Rattle.lts.specs.Lists.{some, every}
 use Rattle.lts.specs.Steps.{Step, Table, stepsFrom}
 use Rattle.actl.specs.Actions.{Cond, meets}
 use Rattle.actl.specs.Formulas.{Formula, tru, size, nodes}
-use Rattle.actl.specs.Access.{condOf}
+use Rattle.actl.specs.Access.{condIn}
 use Rattle.actl.specs.declared.node.Node.{Node}
 use Rattle.actl.specs.declared.node.Node.the-variants.{True, Not, Or, Ex, Ax, Until, UntilThen}
 use Rattle.labelling.specs.Holds.{within, enters, holds}
@@ -37,8 +37,8 @@ abbrev pub atOnce : Table → Node → (ℕ → Bool) → (ℕ → Bool) → ℕ
 atOnce t True p q s = true
 atOnce t Not p q s = negate (p s)
 atOnce t Or p q s = p s || q s
-atOnce t (Ex c) p q s = some (leadsTo (condOf c) p) (stepsFrom t s)
-atOnce t (Ax c) p q s = every (leadsTo (condOf c) p) (stepsFrom t s)
+atOnce t (Ex c) p q s = some (leadsTo (condIn c) p) (stepsFrom t s)
+atOnce t (Ax c) p q s = every (leadsTo (condIn c) p) (stepsFrom t s)
 atOnce t (Until a) p q s = p s
 atOnce t (UntilThen a b) p q s = enters t b p s
 
@@ -47,8 +47,8 @@ abbrev pub nodeHolds : Table → Node → (ℕ → Bool) → (ℕ → Bool) → 
 nodeHolds t True p q s = true
 nodeHolds t Not p q s = negate (p s)
 nodeHolds t Or p q s = p s || q s
-nodeHolds t (Ex c) p q s = some (leadsTo (condOf c) p) (stepsFrom t s)
-nodeHolds t (Ax c) p q s = every (leadsTo (condOf c) p) (stepsFrom t s)
+nodeHolds t (Ex c) p q s = some (leadsTo (condIn c) p) (stepsFrom t s)
+nodeHolds t (Ax c) p q s = every (leadsTo (condIn c) p) (stepsFrom t s)
 nodeHolds t (Until a) p q s = within t a p (length (t .transitions)) s
 nodeHolds t (UntilThen a b) p q s = within t a (enters t b p) (length (t .transitions)) s
 

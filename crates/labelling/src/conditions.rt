@@ -3,7 +3,7 @@ use actl::node::Condition;
 ghost use mathlib.Core.Path.{_≡_};
 ghost use Prim.Native.Nat.{_<_};
 ghost use Rattle.actl.specs.Actions as actions;
-ghost use Rattle.actl.specs.Access.{condOf};
+ghost use Rattle.actl.specs.Access.{condIn};
 
 pub fn in_set(set: u64, label: usize) -> bool
     requires { ⌜ label < 64 ⌝ }
@@ -18,7 +18,7 @@ pub fn in_set(set: u64, label: usize) -> bool
 
 pub fn meets(condition: Condition, label: usize) -> bool
     requires { ⌜ label < 64 ⌝ }
-    ensures { λ r. ⌜ r ≡ actions.meets (condOf condition) label ⌝ }
+    ensures { λ r. ⌜ r ≡ actions.meets (condIn condition) label ⌝ }
 {
     match condition {
         Condition::Silent => label == 0,

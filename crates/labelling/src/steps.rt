@@ -8,12 +8,12 @@ ghost use Prim.Native.Nat.{_<_};
 ghost use Rattle.lts.specs.Prepared.{tableIn};
 ghost use Rattle.lts.specs.Access.{HoldsTable, ExitsFound};
 ghost use Rattle.actl.specs.Actions as actions;
-ghost use Rattle.actl.specs.Access.{condOf};
+ghost use Rattle.actl.specs.Access.{condIn};
 ghost use Rattle.labelling.specs.Flags.{flagAt, same, someStep, atOnce, Flags};
 
 fn leads(wanted: bool, condition: Condition, label: usize, there: bool) -> bool
     requires { ⌜ label < 64 ⌝ }
-    ensures { λ r. ⌜ r ≡ same wanted (actions.meets (condOf condition) label && there) ⌝ }
+    ensures { λ r. ⌜ r ≡ same wanted (actions.meets (condIn condition) label && there) ⌝ }
 {
     if there {
         crate::conditions::meets(condition, label) == wanted
@@ -35,7 +35,7 @@ pub fn some_step(
     requires { ⌜ HoldsTable (now table) ⌝ }
     requires { ⌜ ExitsFound (now table) (now begins) ⌝ }
     requires { ⌜ s < 256 ⌝ }
-    ensures { λ r. ⌜ r ≡ someStep (tableIn (now (table .entry))) wanted (condOf condition) (flagAt (now (arm .entry))) s ⌝ }
+    ensures { λ r. ⌜ r ≡ someStep (tableIn (now (table .entry))) wanted (condIn condition) (flagAt (now (arm .entry))) s ⌝ }
 {
     let end = begins[s + 1] as usize;
     let mut k = begins[s] as usize;

@@ -12,7 +12,7 @@ pub mod TableBytes
 pub mod Prepared
 pub mod Names
 pub mod Decides
-pub mod Spelling
+pub mod SlotNames
 pub mod Filled
 pub mod WellFormed
 pub mod Held
@@ -22,9 +22,9 @@ pub mod NameRuns
 pub mod LinesRead
 pub mod Layout
 pub mod LabelLayout
-pub mod SlotsWritten
+pub mod Pasted
 pub mod SlotBytes
-pub mod Turns
+pub mod Progress
 pub mod Readings
 pub mod Tables
 pub mod Bounded

@@ -10,8 +10,8 @@ use Rattle.lts.specs.Steps.{Step}
 use Rattle.lts.specs.Range.{InRange}
 use Rattle.lts.specs.Prepared.{tableLength, tableIn, transitionAt}
 use Rattle.lts.specs.declared.prepared.Transition.{Transition}
-use Rattle.lts.specs.declared.names.Found.{Found}
-use Rattle.lts.specs.declared.names.Found.the-variants.{At, Nothing}
+use Rattle.lts.specs.declared.names.Lookup.{Lookup}
+use Rattle.lts.specs.declared.names.Lookup.the-variants.{At, Nowhere}
 
 abbrev pub isSome : {A : Type 0} → Option A → Bool
 isSome none = false
@@ -54,6 +54,6 @@ pub record Decides (P : Type 0) (r : Bool) : Type 0 where
   pub no : r ≡ false → P → ⊥
 
 -- A label's number, if there is one.
-abbrev pub foundIn : Found → Option ℕ
+abbrev pub foundIn : Lookup → Option ℕ
 foundIn (At k) = some k
-foundIn Nothing = none
+foundIn Nowhere = none

@@ -4,17 +4,14 @@ use mathlib.Core.Bool.{true}
 use mathlib.Core.List.{List}
 use Prim.Native.Nat.{ℕ, suc, _+_, _*_, _≤_, _<_}
 use lib.ListN.{length}
-use Rattle.lts.specs.Names.{isName, isNameByte}
+use Rattle.lts.specs.Names.{isName}
 use Rattle.lts.specs.Steps.{Table, labels}
 use Rattle.lts.specs.Range.{Below, Differ}
 use Rattle.lts.specs.Prepared.{tableLength, byteAt, nameAt, transitionAt, tableIn}
 
--- Bytes from i to before j that are all zero, or all such as a name may have.
+-- Bytes from i to before j that are all zero.
 abbrev pub ZerosFrom : List ℕ → ℕ → ℕ → Type 0
 ZerosFrom b i j = (k : ℕ) → i ≤ k → k < j → byteAt b k ≡ 0
-
-abbrev pub NameBytesFrom : List ℕ → ℕ → ℕ → Type 0
-NameBytesFrom b i j = (k : ℕ) → i ≤ k → k < j → isNameByte (byteAt b k) ≡ true
 
 -- 01: "states (1 to 256), labels (0 to 40), transitions (0 to 1,024), start (below states)"
 pub record CountsHeld (t : Table) : Type 0 where

@@ -11,4 +11,4 @@ pub mod Access
 pub mod Check
 pub mod Lines
 pub mod Slots
-pub mod Turns
+pub mod Progress

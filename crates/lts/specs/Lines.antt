@@ -1,14 +1,13 @@
 -- What a line of a table's text says: that it is laid out, its values, and where the next one starts.
 use mathlib.Core.Path.{_≡_}
-use mathlib.Core.Bool.{Bool, true, false, cond}
-use mathlib.Core.List.{List, [], _∷_}
-use Prim.Native.Nat.{ℕ, zero, suc, _+_, _-_, _≤_}
+use mathlib.Core.Bool.{Bool, true, false}
+use mathlib.Core.List.{List}
+use Prim.Native.Nat.{ℕ, _+_, _-_, _≤_}
 use lib.ListN.{length, take, drop}
 use Rattle.columns.specs.Columns.{valueAt}
 use Rattle.lts.specs.Steps.{Step}
-use Rattle.lts.specs.Names.{isLower, isNameByte}
 use Rattle.lts.specs.Reading.{Header, line, firstLine, headerOf, headerLaidOut, labelLaidOut, stepOf, stepLaidOut}
-use Rattle.lts.specs.declared.reading.Counts.{Counts}
+use Rattle.lts.specs.declared.reading.HeaderFields.{HeaderFields}
 use Rattle.lts.specs.declared.reading.Transition.{Transition}
 use Rattle.lts.specs.declared.reading.HeaderLine.{HeaderLine}
 use Rattle.lts.specs.declared.reading.HeaderLine.the-variants.{Header as LaidHeader, NoHeader}
@@ -17,18 +16,8 @@ use Rattle.lts.specs.declared.reading.LabelLine.the-variants.{Label, NoL
 use Rattle.lts.specs.declared.reading.TransitionLine.{TransitionLine}
 use Rattle.lts.specs.declared.reading.TransitionLine.the-variants.{Row, NoRow}
 
--- How many bytes of a name a text starts with.
-abbrev pub nameRun : ℕ → List ℕ → ℕ
-nameRun zero s = 0
-nameRun (suc n) [] = 0
-nameRun (suc n) (b ∷ s) = cond (isNameByte b) (suc (nameRun n s)) 0
-
-abbrev pub nameLength : List ℕ → ℕ
-nameLength [] = 0
-nameLength (b ∷ s) = cond (isLower b) (suc (nameRun 11 s)) 0
-
 -- The values in the words of reading.
-abbrev pub header : Counts → Header
+abbrev pub header : HeaderFields → Header
 header c = record { states = c .states; labels = c .labels; transitions = c .transitions; start = c .start }
 
 abbrev pub step : Transition → Step

@@ -9,10 +9,6 @@ use Rattle.lts.specs.Steps.{Step}
 use Rattle.lts.specs.Reading.{Header, stepBelow}
 use Rattle.lts.specs.Prepared.{nameSlot, transitionSlot}
 
--- Bytes with some of them written anew, from place i.
-abbrev pub written : List ℕ → ℕ → List ℕ → List ℕ
-written l i vs = (take i l ++ vs) ++ drop (i + length vs) l
-
 -- A name slot's first bytes: the name's length and its bytes.
 abbrev pub counted : List ℕ → List ℕ
 counted n = length n ∷ n

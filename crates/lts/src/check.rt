@@ -1,9 +1,7 @@
 // Whether bytes are a prepared table: the counts, each name's slot, each transition's slot, and zeros in the slots that are not used.
-use crate::names::Found;
-use crate::names::find_label;
-use crate::names::is_lower;
-use crate::names::is_name_byte;
-use crate::names::name_of;
+use crate::names::Lookup;
+use crate::names::find;
+use crate::names::name_end;
 use crate::prepared::Transition;
 use crate::prepared::byte;
 use crate::prepared::label_count;
@@ -15,10 +13,11 @@ ghost use mathlib.Core.Path.{_≡_};
 ghost use Prim.Native.Nat.{_+_, _*_, _≤_, _<_};
 ghost use lib.ListN.{length};
 ghost use Rattle.lts.specs.Steps.{labels};
+ghost use Rattle.lts.specs.Names.{longestName};
 ghost use Rattle.lts.specs.Reading.{stepBelow};
 ghost use Rattle.lts.specs.Prepared.{tableLength, tableIn, byteAt, preparedTable};
 ghost use Rattle.lts.specs.Access.{Decides, stepIn, isSome};
-ghost use Rattle.lts.specs.Check.{ZerosFrom, NameBytesFrom, CountsHeld, NameHeld, NewName, NamesHeld, TransitionHeld, TransitionsHeld};
+ghost use Rattle.lts.specs.Check.{ZerosFrom, CountsHeld, NameHeld, NewName, NamesHeld, TransitionHeld, TransitionsHeld};
 
 pub fn is_prepared(table: &[u8]) -> bool
     ensures { λ r. ⌜ r ≡ isSome (preparedTable (now (table .entry))) ⌝ }
@@ -100,48 +99,28 @@ fn name_held(table: &[u8], k: usize) -> bool
     requires { ⌜ (tableLength ≤ length (now table)) × (k < 40) ⌝ }
     ensures { λ r. ⌜ Decides (NameHeld (now (table .entry)) k) r ⌝ }
 {
-    let len = byte(table, 6 + k * 16);
-    if len < 1 {
-        return false;
-    }
-    if 12 < len {
-        return false;
-    }
     let at = 7 + k * 16;
-    if !is_lower(byte(table, at)) {
+    let end = name_end(table, at);
+    if end == at {
         return false;
     }
-    if !name_bytes(table, at + 1, at + len) {
+    if end != at + byte(table, 6 + k * 16) {
         return false;
     }
-    zeros(table, at + len, 22 + k * 16)
+    zeros(table, end, 22 + k * 16)
 }
 
-fn name_bytes(table: &[u8], from: usize, to: usize) -> bool
-    requires { ⌜ to ≤ length (now table) ⌝ }
-    ensures { λ r. ⌜ Decides (NameBytesFrom (now (table .entry)) from to) r ⌝ }
-{
-    let mut i = from;
-    while i < to {
-        if !is_name_byte(byte(table, i)) {
-            return false;
-        }
-        i += 1;
-    }
-    true
-}
-
-// Looking up the name in slot k finds that slot, if no slot before it has the name.
 fn new_name(table: &[u8], k: usize) -> bool
-    requires { ⌜ (tableLength ≤ length (now table)) × ((labels (tableIn (now table)) ≤ 40) × ((k < labels (tableIn (now table))) × (byteAt (now table) (6 + k * 16) ≤ 12))) ⌝ }
+    requires { ⌜ (tableLength ≤ length (now table)) × ((k < 40) × (byteAt (now table) (6 + k * 16) ≤ longestName)) ⌝ }
     ensures { λ r. ⌜ Decides (NewName (now (table .entry)) k) r ⌝ }
 {
-    let name = name_of(table, k);
-    let len = byte(table, 6 + k * 16);
-    let Found::At(j) = find_label(table, name, len) else {
-        return false;
-    };
-    j == k + 1
+    let at = 7 + k * 16;
+    let end = at + byte(table, 6 + k * 16);
+    let before = find(&table[6..646], k, &table[at..end]);
+    match before {
+        Lookup::At(_) => false,
+        Lookup::Nowhere => true,
+    }
 }
 
 fn transitions_held(table: &[u8]) -> bool

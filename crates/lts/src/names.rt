@@ -1,26 +1,28 @@
-// Names: their bytes, and those in a prepared table: comparing one, copying one out, and looking a label up by its name.
-use crate::prepared::byte;
+// Names of labels: where a name ends in a text, whether two are equal, and where one stands in slots of names. A slot has 16 bytes:
+// the name's length, its bytes, zeros. Nothing else knows the bytes of a name or how names are compared.
 use crate::prepared::label_count;
 ghost use mathlib.Core.Path.{_≡_};
-ghost use Prim.Native.Nat.{_+_, _*_, _≤_, _<_};
-ghost use lib.ListN.{length, take};
+ghost use Prim.Native.Nat.{_+_, _*_, _≤_};
+ghost use lib.ListN.{length};
+ghost use Rattle.columns.specs.Bytes.{sameBytes};
 ghost use Rattle.lts.specs.Steps.{labels};
-ghost use Rattle.lts.specs.Names.{isLower, isNameByte, lookup};
-ghost use Rattle.lts.specs.Prepared.{tableLength, tableIn, byteAt, nameAt};
-ghost use Rattle.lts.specs.Access.{Decides, foundIn};
+ghost use Rattle.lts.specs.Names.{longestName, isLower, isNameByte, nameEnd, lookup};
+ghost use Rattle.lts.specs.Prepared.{tableLength, tableIn};
+ghost use Rattle.lts.specs.Slots.{storedName, storedNames};
+ghost use Rattle.lts.specs.Access.{foundIn};
 
-pub enum Found {
+pub enum Lookup {
     At(usize),
-    Nothing,
+    Nowhere,
 }
 
-pub fn is_lower(b: usize) -> bool
+fn is_lower(b: usize) -> bool
     ensures { λ r. ⌜ r ≡ isLower b ⌝ }
 {
     97 <= b && b <= 122
 }
 
-pub fn is_name_byte(b: usize) -> bool
+fn is_name_byte(b: usize) -> bool
     ensures { λ r. ⌜ r ≡ isNameByte b ⌝ }
 {
     if is_lower(b) {
@@ -32,18 +34,43 @@ pub fn is_name_byte(b: usize) -> bool
     48 <= b && b <= 57
 }
 
-// Whether the name in slot k is the first `len` bytes of `name`.
-pub fn same_name(table: &[u8], k: usize, name: [u8; 12], len: usize) -> bool
-    requires { ⌜ (tableLength ≤ length (now table)) × ((k < 40) × (len ≤ 12)) ⌝ }
-    ensures { λ r. ⌜ Decides (nameAt (now (table .entry)) k ≡ take len name) r ⌝ }
+// The place behind the longest name that stands at `from`; `from` if none does. 01: "A name has 1 to 12 bytes"
+pub fn name_end(text: &[u8], from: usize) -> usize
+    requires { ⌜ from ≤ length (now text) ⌝ }
+    ensures { λ r. ⌜ r ≡ nameEnd (now (text .entry)) from ⌝ }
 {
-    if byte(table, 6 + k * 16) != len {
+    if text.len() <= from {
+        return from;
+    }
+    if !is_lower(text[from] as usize) {
+        return from;
+    }
+    let mut n: usize = 1;
+    while n < 12 {
+        let to = from + n;
+        if text.len() <= to {
+            return to;
+        }
+        if !is_name_byte(text[to] as usize) {
+            return to;
+        }
+        n += 1;
+    }
+    from + n
+}
+
+// Whether the name in slot k is `name`: most differ in their lengths.
+fn same_name(slots: &[u8], k: usize, name: &[u8]) -> bool
+    requires { ⌜ (k * 16 + 16 ≤ length (now slots)) × (length (now name) ≤ longestName) ⌝ }
+    ensures { λ r. ⌜ r ≡ sameBytes (storedName (now (slots .entry)) k) (now (name .entry)) ⌝ }
+{
+    if slots[k * 16] as usize != name.len() {
         return false;
     }
-    let at = 7 + k * 16;
+    let at = k * 16 + 1;
     let mut i: usize = 0;
-    while i < len {
-        if table[at + i] != name[i] {
+    while i < name.len() {
+        if slots[at + i] != name[i] {
             return false;
         }
         i += 1;
@@ -51,34 +78,26 @@ pub fn same_name(table: &[u8], k: usize, name: [u8; 12], len: usize) -> bool
     true
 }
 
-// The number of the label whose name is the first `len` bytes of `name`.
-pub fn find_label(table: &[u8], name: [u8; 12], len: usize) -> Found
-    requires { ⌜ (tableLength ≤ length (now table)) × ((labels (tableIn (now table)) ≤ 40) × (len ≤ 12)) ⌝ }
-    ensures { λ r. ⌜ foundIn r ≡ lookup (tableIn (now (table .entry)) .names) (take len name) ⌝ }
+// The number of the label, of those in the first `count` slots, that has a name.
+pub fn find(slots: &[u8], count: usize, name: &[u8]) -> Lookup
+    requires { ⌜ (count * 16 ≤ length (now slots)) × (length (now name) ≤ longestName) ⌝ }
+    ensures { λ r. ⌜ foundIn r ≡ lookup (storedNames (now (slots .entry)) count) (now (name .entry)) ⌝ }
 {
-    let n = label_count(table);
     let mut k: usize = 0;
-    while k < n {
-        if same_name(table, k, name, len) {
-            return Found::At(k + 1);
+    while k < count {
+        if same_name(slots, k, name) {
+            return Lookup::At(k + 1);
         }
         k += 1;
     }
-    Found::Nothing
+    Lookup::Nowhere
 }
 
-// The name in slot k, with zeros behind it.
-pub fn name_of(table: &[u8], k: usize) -> [u8; 12]
-    requires { ⌜ (tableLength ≤ length (now table)) × ((k < 40) × (byteAt (now table) (6 + k * 16) ≤ 12)) ⌝ }
-    ensures { λ r. ⌜ take (byteAt (now (table .entry)) (6 + k * 16)) r ≡ nameAt (now (table .entry)) k ⌝ }
+// The number of the label of a prepared table that has a name.
+pub fn find_label(table: &[u8], name: &[u8]) -> Lookup
+    requires { ⌜ (tableLength ≤ length (now table)) × ((labels (tableIn (now table)) ≤ 40) × (length (now name) ≤ longestName)) ⌝ }
+    ensures { λ r. ⌜ foundIn r ≡ lookup (tableIn (now (table .entry)) .names) (now (name .entry)) ⌝ }
 {
-    let len = byte(table, 6 + k * 16);
-    let at = 7 + k * 16;
-    let mut name = [0u8; 12];
-    let mut i: usize = 0;
-    while i < len {
-        name[i] = table[at + i];
-        i += 1;
-    }
-    name
+    let count = label_count(table);
+    find(&table[6..646], count, name)
 }

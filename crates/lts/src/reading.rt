@@ -3,23 +3,25 @@
 ghost use mathlib.Core.Path.{_≡_};
 ghost use Prim.Native.Nat.{_+_, _*_, _<_, _≤_};
 ghost use lib.Dec.{eqb};
-ghost use lib.ListN.{length, getD, drop, replicate};
-ghost use Rattle.columns.specs.Bytes.{sameBytes};
-ghost use Rattle.lts.specs.Reading.{headerInRange, stepInRange, stepBelow, used};
+ghost use lib.ListN.{length, getD, replicate};
+ghost use Rattle.columns.specs.Write.{pasted};
+ghost use Rattle.lts.specs.Reading.{headerInRange, stepInRange, stepBelow};
+ghost use Rattle.lts.specs.Names.{longestName};
 ghost use Rattle.lts.specs.Prepared.{transitionSlot};
 ghost use Rattle.lts.specs.Replies.{tableReply, tableReplied, tableLeft};
-ghost use Rattle.lts.specs.Slots.{written, storedNames, risesAfter, headBytes, storedName, counted};
-ghost use Rattle.lts.specs.Lines.{nameLength, header, step, HeaderSays, LabelSays, TransitionSays};
-ghost use Rattle.lts.specs.Turns.{LabelTurn, LabelsRead, TransitionTurn, TransitionsRead};
+ghost use Rattle.lts.specs.Slots.{risesAfter, headBytes, counted};
+ghost use Rattle.lts.specs.Lines.{header, step, HeaderSays, LabelSays, TransitionSays};
+ghost use Rattle.lts.specs.Progress.{LabelProgress, LabelsRead, TransitionProgress, TransitionsRead};
 ghost use Rattle.lts.specs.Reply.{overwritten};
 ghost use mathlib.Core.List.{_++_};
 use crate::TableReply;
-use crate::names::is_lower;
-use crate::names::is_name_byte;
+use crate::names::Lookup;
+use crate::names::find;
+use crate::names::name_end;
 use columns::Column;
 
 // What line 1 says.
-pub struct Counts {
+pub struct HeaderFields {
     pub states: usize,
     pub labels: usize,
     pub transitions: usize,
@@ -27,7 +29,7 @@ pub struct Counts {
 }
 
 pub enum HeaderLine {
-    Header(Counts),
+    Header(HeaderFields),
     NoHeader,
 }
 
@@ -49,7 +51,7 @@ pub enum TransitionLine {
 }
 
 // Where the next line starts; or what the entry answers.
-pub enum Turn {
+pub enum Progress {
     Next(usize),
     Refused(TableReply),
 }
@@ -64,77 +66,9 @@ fn stands(text: &[u8], at: usize, byte: u8) -> bool
     text[at] == byte
 }
 
-// How many bytes of a name stand at `at`, the longest way, up to 12.
-fn name_length(text: &[u8], at: usize) -> usize
-    requires { ⌜ at ≤ length (now text) ⌝ }
-    ensures { λ r. ⌜ r ≡ nameLength (drop at (now (text .entry))) ⌝ }
-{
-    if text.len() <= at {
-        return 0;
-    }
-    if !is_lower(text[at] as usize) {
-        return 0;
-    }
-    let mut n: usize = 1;
-    while n < 12 {
-        if text.len() <= at + n {
-            return n;
-        }
-        if !is_name_byte(text[at + n] as usize) {
-            return n;
-        }
-        n += 1;
-    }
-    n
-}
-
-fn same_bytes(a: &[u8], b: &[u8]) -> bool
-    ensures { λ r. ⌜ r ≡ sameBytes (now (a .entry)) (now (b .entry)) ⌝ }
-{
-    if a.len() != b.len() {
-        return false;
-    }
-    let mut i = 0;
-    while i < a.len() {
-        if a[i] != b[i] {
-            return false;
-        }
-        i += 1;
-    }
-    true
-}
-
-// Whether a name is one of the first `count` in the name slots.
-fn name_used(names: &[u8], count: usize, name: &[u8]) -> bool
-    requires { ⌜ (length (now names) ≡ 640) × ((count ≤ 40) × (length (now name) ≤ 12)) ⌝ }
-    ensures { λ r. ⌜ r ≡ used (storedNames (now (names .entry)) count) (now (name .entry)) ⌝ }
-{
-    let mut k = 0;
-    while k < count {
-        if holds_name(names, k, name) {
-            return true;
-        }
-        k += 1;
-    }
-    false
-}
-
-fn holds_name(names: &[u8], k: usize, name: &[u8]) -> bool
-    requires { ⌜ (length (now names) ≡ 640) × ((k < 40) × (length (now name) ≤ 12)) ⌝ }
-    ensures { λ r. ⌜ r ≡ sameBytes (storedName (now (names .entry)) k) (now (name .entry)) ⌝ }
-{
-    let n = names[k * 16] as usize;
-    if n != name.len() {
-        return false;
-    }
-    let from = k * 16 + 1;
-    let to = from + n;
-    same_bytes(&names[from..to], name)
-}
-
 fn write_at(bytes: &mut [u8], at: usize, part: &[u8])
     requires { ⌜ at + length (now part) ≤ length (now bytes) ⌝ }
-    ensures { λ _. ⌜ now (bytes .exit) ≡ written (now (bytes .entry)) at (now (part .entry)) ⌝ }
+    ensures { λ _. ⌜ now (bytes .exit) ≡ pasted (now (bytes .entry)) at (now (part .entry)) ⌝ }
 {
     let mut i = 0;
     while i < part.len() {
@@ -159,7 +93,7 @@ fn header_line(text: &[u8]) -> HeaderLine
         return HeaderLine::NoHeader;
     };
     if stands(text, 24, 10) {
-        HeaderLine::Header(Counts {
+        HeaderLine::Header(HeaderFields {
             states: states,
             labels: labels,
             transitions: transitions,
@@ -181,11 +115,10 @@ fn label_line(text: &[u8], at: usize) -> LabelLine
         return LabelLine::NoLabel;
     }
     let from = at + 7;
-    let n = name_length(text, from);
-    if n == 0 {
+    let end = name_end(text, from);
+    if end == from {
         return LabelLine::NoLabel;
     }
-    let end = from + n;
     if stands(text, end, 10) {
         LabelLine::Label(number, end)
     } else {
@@ -217,7 +150,7 @@ fn transition_line(text: &[u8], at: usize) -> TransitionLine
     }
 }
 
-fn header_in_range(c: Counts) -> bool
+fn header_in_range(c: HeaderFields) -> bool
     ensures { λ r. ⌜ r ≡ headerInRange (header c) ⌝ }
 {
     if c.states < 1 {
@@ -235,7 +168,7 @@ fn header_in_range(c: Counts) -> bool
     c.start < c.states
 }
 
-fn transition_in_range(c: Counts, t: Transition) -> bool
+fn transition_in_range(c: HeaderFields, t: Transition) -> bool
     ensures { λ r. ⌜ r ≡ stepInRange (header c) (step t) ⌝ }
 {
     if c.states <= t.from {
@@ -284,7 +217,7 @@ fn rises(slots: &[u8], count: usize, t: Transition) -> bool
 
 fn write_transition(slots: &mut [u8], count: usize, t: Transition)
     requires { ⌜ (count * 3 + 3 ≤ length (now slots)) × ((t .from < 256) × ((t .label < 256) × (t .to < 256))) ⌝ }
-    ensures { λ _. ⌜ now (slots .exit) ≡ written (now (slots .entry)) (count * 3) (transitionSlot (step t)) ⌝ }
+    ensures { λ _. ⌜ now (slots .exit) ≡ pasted (now (slots .entry)) (count * 3) (transitionSlot (step t)) ⌝ }
 {
     let i = count * 3;
     slots[i] = t.from as u8;
@@ -293,8 +226,8 @@ fn write_transition(slots: &mut [u8], count: usize, t: Transition)
 }
 
 fn write_name(names: &mut [u8], count: usize, name: &[u8])
-    requires { ⌜ (count * 16 + 16 ≤ length (now names)) × (length (now name) ≤ 12) ⌝ }
-    ensures { λ _. ⌜ now (names .exit) ≡ written (now (names .entry)) (count * 16) (counted (now (name .entry))) ⌝ }
+    requires { ⌜ (count * 16 + 16 ≤ length (now names)) × (length (now name) ≤ longestName) ⌝ }
+    ensures { λ _. ⌜ now (names .exit) ≡ pasted (now (names .entry)) (count * 16) (counted (now (name .entry))) ⌝ }
 {
     let i = count * 16;
     names[i] = name.len() as u8;
@@ -302,65 +235,72 @@ fn write_name(names: &mut [u8], count: usize, name: &[u8])
 }
 
 // The line of the label after `count` names.
-fn read_label(text: &[u8], at: usize, names: &mut [u8], count: usize) -> Turn
+fn read_label(text: &[u8], at: usize, names: &mut [u8], count: usize) -> Progress
     requires { ⌜ (at ≤ length (now text)) × ((length (now names) ≡ 640) × (count < 40)) ⌝ }
-    ensures { λ r. ⌜ LabelTurn (now (text .entry)) at count (now (names .entry)) (now (names .exit)) r ⌝ }
+    ensures { λ r. ⌜ LabelProgress (now (text .entry)) at count (now (names .entry)) (now (names .exit)) r ⌝ }
 {
     let line = count + 2;
     let LabelLine::Label(number, end) = label_line(text, at) else {
-        return Turn::Refused(TableReply::NotLaidOut(line));
+        return Progress::Refused(TableReply::NotLaidOut(line));
     };
     if number != count + 1 {
-        return Turn::Refused(TableReply::OutOfRange(line));
+        return Progress::Refused(TableReply::OutOfRange(line));
     }
     let from = at + 7;
-    if name_used(names, count, &text[from..end]) {
-        return Turn::Refused(TableReply::NameRepeated(line));
+    let before = find(names, count, &text[from..end]);
+    if let Lookup::At(_) = before {
+        return Progress::Refused(TableReply::NameRepeated(line));
     }
     write_name(names, count, &text[from..end]);
-    Turn::Next(end + 1)
+    Progress::Next(end + 1)
 }
 
 // The lines of all labels, from `from`.
-fn read_labels(text: &[u8], from: usize, counts: Counts, names: &mut [u8]) -> Turn
+fn read_labels(text: &[u8], from: usize, counts: HeaderFields, names: &mut [u8]) -> Progress
     requires { ⌜ (from ≤ length (now text)) × ((now names ≡ replicate 640 0) × (counts .labels ≤ 40)) ⌝ }
     ensures { λ r. ⌜ LabelsRead (header counts) (now (text .entry)) from (now (names .exit)) r ⌝ }
 {
     let mut at = from;
     let mut count: usize = 0;
     while count < counts.labels {
-        let turn = read_label(text, at, names, count);
-        let Turn::Next(to) = turn else {
-            return turn;
+        let progress = read_label(text, at, names, count);
+        let Progress::Next(to) = progress else {
+            return progress;
         };
         at = to;
         count += 1;
     }
-    Turn::Next(at)
+    Progress::Next(at)
 }
 
 // The line of the transition after `count` others.
-fn read_transition(text: &[u8], at: usize, counts: Counts, slots: &mut [u8], count: usize) -> Turn
+fn read_transition(
+    text: &[u8],
+    at: usize,
+    counts: HeaderFields,
+    slots: &mut [u8],
+    count: usize,
+) -> Progress
     requires { ⌜ (at ≤ length (now text)) × ((length (now slots) ≡ 3072) × (count < 1024)) ⌝ }
     requires { ⌜ (counts .states ≤ 256) × (counts .labels ≤ 40) ⌝ }
-    ensures { λ r. ⌜ TransitionTurn (header counts) (now (text .entry)) at count (now (slots .entry)) (now (slots .exit)) r ⌝ }
+    ensures { λ r. ⌜ TransitionProgress (header counts) (now (text .entry)) at count (now (slots .entry)) (now (slots .exit)) r ⌝ }
 {
     let line = counts.labels + count + 2;
     let TransitionLine::Row(t) = transition_line(text, at) else {
-        return Turn::Refused(TableReply::NotLaidOut(line));
+        return Progress::Refused(TableReply::NotLaidOut(line));
     };
     if !transition_in_range(counts, t) {
-        return Turn::Refused(TableReply::OutOfRange(line));
+        return Progress::Refused(TableReply::OutOfRange(line));
     }
     if !rises(slots, count, t) {
-        return Turn::Refused(TableReply::NotRising(line));
+        return Progress::Refused(TableReply::NotRising(line));
     }
     write_transition(slots, count, t);
-    Turn::Next(at + 19)
+    Progress::Next(at + 19)
 }
 
 // The lines of all transitions, from `from`, and the end of the text.
-fn read_transitions(text: &[u8], from: usize, counts: Counts, slots: &mut [u8]) -> Turn
+fn read_transitions(text: &[u8], from: usize, counts: HeaderFields, slots: &mut [u8]) -> Progress
     requires { ⌜ (from ≤ length (now text)) × (now slots ≡ replicate 3072 0) ⌝ }
     requires { ⌜ (counts .states ≤ 256) × ((counts .labels ≤ 40) × (counts .transitions ≤ 1024)) ⌝ }
     ensures { λ r. ⌜ TransitionsRead (header counts) (now (text .entry)) from (now (slots .exit)) r ⌝ }
@@ -368,20 +308,20 @@ fn read_transitions(text: &[u8], from: usize, counts: Counts, slots: &mut [u8]) 
     let mut at = from;
     let mut count: usize = 0;
     while count < counts.transitions {
-        let turn = read_transition(text, at, counts, slots, count);
-        let Turn::Next(to) = turn else {
-            return turn;
+        let progress = read_transition(text, at, counts, slots, count);
+        let Progress::Next(to) = progress else {
+            return progress;
         };
         at = to;
         count += 1;
     }
     if at < text.len() {
-        return Turn::Refused(TableReply::NotLaidOut(counts.labels + count + 2));
+        return Progress::Refused(TableReply::NotLaidOut(counts.labels + count + 2));
     }
-    Turn::Next(at)
+    Progress::Next(at)
 }
 
-fn write_table(table: &mut [u8], counts: Counts, names: &[u8], slots: &[u8])
+fn write_table(table: &mut [u8], counts: HeaderFields, names: &[u8], slots: &[u8])
     requires { ⌜ (3718 ≤ length (now table)) × ((length (now names) ≡ 640) × (length (now slots) ≡ 3072)) ⌝ }
     requires { ⌜ (counts .states ≤ 256) × ((counts .labels ≤ 40) × ((counts .transitions ≤ 1024) × (counts .start < 256))) ⌝ }
     ensures { λ _. ⌜ now (table .exit) ≡ overwritten (headBytes (header counts) ++ (now (names .entry) ++ now (slots .entry))) (now (table .entry)) ⌝ }
@@ -415,13 +355,13 @@ pub fn read_table(text: &[u8], table: &mut [u8]) -> TableReply
     let mut names = [0u8; 640];
     let labels_read = read_labels(text, 25, counts, &mut names);
     match labels_read {
-        Turn::Refused(reply) => reply,
-        Turn::Next(at) => {
+        Progress::Refused(reply) => reply,
+        Progress::Next(at) => {
             let mut slots = [0u8; 3072];
             let transitions_read = read_transitions(text, at, counts, &mut slots);
             match transitions_read {
-                Turn::Refused(reply) => reply,
-                Turn::Next(_) => {
+                Progress::Refused(reply) => reply,
+                Progress::Next(_) => {
                     write_table(table, counts, &names, &slots);
                     TableReply::Accepted
                 }

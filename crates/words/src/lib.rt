@@ -8,7 +8,7 @@ use actl::inputs::check_inputs;
 use actl::walk::shape_of;
 use listing::masks::final_places;
 use listing::masks::target_masks;
-use lts::names::Found;
+use lts::names::Lookup;
 use lts::prepared::first_exits;
 use lts::prepared::label_count;
 
@@ -35,20 +35,20 @@ pub enum WordReply {
 }
 
 // 01: "index of the first such label below 1,024, else 1,024"
-fn bad_letter(labels: usize, word: &[u8]) -> Found
+fn bad_letter(labels: usize, word: &[u8]) -> Lookup
     ensures { λ r. ⌜ foundIn r ≡ badLetter labels (now (word .entry)) ⌝ }
 {
     let mut i = 0;
     while i < word.len() {
         if i == 1024 {
-            return Found::At(1024);
+            return Lookup::At(1024);
         }
         if labels < wide(word[i]) {
-            return Found::At(i);
+            return Lookup::At(i);
         }
         i += 1;
     }
-    Found::Nothing
+    Lookup::Nowhere
 }
 
 fn is_final(finals: &[bool; 41], places: u64, k: usize) -> bool
@@ -104,8 +104,8 @@ fn answer(table: &[u8], formula: &[u8], word: &[u8]) -> WordReply
 {
     let bad = bad_letter(label_count(table), word);
     match bad {
-        Found::At(i) => WordReply::WordBad(i),
-        Found::Nothing => answer_of(is_accepted(table, formula, word)),
+        Lookup::At(i) => WordReply::WordBad(i),
+        Lookup::Nowhere => answer_of(is_accepted(table, formula, word)),
     }
 }
 

@@ -10,16 +10,17 @@ use lib.ListN.{length, getD, take, drop, replicate, length-take, length-map, len
 use lib.Seq.{getD-take, getD-append-add, ext-getD}
 use borrow.Author.Tests.{eqb-true, eq-eqb}
 use Rattle.lts.specs.Lists.{upFrom, bind, every}
+use Rattle.lts.specs.Access.{isSome, Decides}
 use Rattle.lts.proofs.Lists.{upFrom-of, every-of, every-to, and-true-of, and-true-to, getD-mem, map-of, map-to}
 use Rattle.actl.specs.Formulas.{Formula, tru, size, nodes, classOf}
 use Rattle.actl.specs.Prepared.{formulaLength, Slot, slot, slotOf, slotBytes, formulaBytes, slotAt, slotWithin, IsForm, treesIn, formed, preparedFormula}
 use Rattle.actl.specs.Access.{shaped}
 use Rattle.actl.specs.Walk.{kindsOf, kindsIn}
-use Rattle.actl.specs.Check.{isSome, isPrepared, slotFits, slotsFit, zerosFrom, Decides, SpelledClassed}
+use Rattle.actl.specs.Check.{isPrepared, slotFits, slotsFit, zerosFrom, SpelledClassed}
 use Rattle.actl.proofs.Nodes.{length-nodes, size-pos}
-use Rattle.actl.proofs.Laws.Bare.{class-by-kinds}
+use Rattle.actl.proofs.Laws.Skeletons.{class-by-kinds}
 use Rattle.actl.proofs.Laws.Classed.{nodes-classed, root-among-nodes}
-use Rattle.actl.proofs.Laws.Dressed.{Decoded, decoded}
+use Rattle.actl.proofs.Laws.Parsing.{Decoded, decoded}
 use Rattle.actl.proofs.Laws.Forms.{length-form, form-zeros}
 use Rattle.actl.proofs.Laws.Lists.{length-upFrom, getD-upFrom}
 use Rattle.actl.proofs.Laws.Prepared.{prepared-of, prepared-few, prepared-count, prepared-slot, prepared-shaped, is-form-to}
@@ -102,6 +103,6 @@ module _ (n : ℕ) (b : List ℕ) where
         } in
         ap isSome (ap (formed n b) (d .decodes) ∙ ap (λ t. cond t (some F) none) (is-form-to n b F form))
 
-    pub decided : (t : Bool) → Decides t (SpelledClassed b (getD b 0 0)) → t ≡ isPrepared n b
-    decided true h = sym (all-passed h)
-    decided false h = sym (none-prepared (preparedFormula n b) (λ F e. h (spelled-prepared e)))
+    pub decided : (t : Bool) → Decides (SpelledClassed b (getD b 0 0)) t → t ≡ isPrepared n b
+    decided true h = sym (all-passed (h .yes refl))
+    decided false h = sym (none-prepared (preparedFormula n b) (λ F e. h .no refl (spelled-prepared e)))

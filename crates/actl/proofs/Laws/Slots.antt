@@ -39,8 +39,8 @@ shape-of s e =
 
 module _ (s : Slot) (e : shaped s ≡ true) {k : ℕ} (d : s .kind ≡ k) where
   -- A kind without masks, with the first alone, and with both.
-  pub slot-bare : firstUsed k ≡ false → secondUsed k ≡ false → slot k 0 0 ≡ s
-  slot-bare f g =
+  pub slot-without-masks : firstUsed k ≡ false → secondUsed k ≡ false → slot k 0 0 ≡ s
+  slot-without-masks f g =
       let h = shape-of s e in slot-by-parts s d (h .no-first (ap firstUsed d ∙ f)) (h .no-second (ap secondUsed d ∙ g))
 
   pub slot-with-first : {a : Mask} → secondUsed k ≡ false → s .first ≡ a → slot k a 0 ≡ s

@@ -14,12 +14,14 @@ use borrow.Author.Tests.{eqb-true, eqb-false}
 use Rattle.lts.specs.Lists.{upFrom}
 use Rattle.actl.specs.Formulas.{Formula, tru, not, or, ex, ax, eu, euThen, size, nodes, classOf, hasNoClass, highestFrom, highestWithoutClass}
 use Rattle.actl.specs.Prepared.{slotAt, preparedFormula}
-use Rattle.actl.specs.Check.{Decides, SpelledClassed}
-use Rattle.actl.specs.Walk.{kindOf, kindsOf, kindsIn, armOf, classOfArm, endsFrom, classesOf, Spelled, Found, Walks}
+use Rattle.lts.specs.Access.{Decides}
+use Rattle.lts.proofs.Laws.Decides.{decided-yes, decided-no}
+use Rattle.actl.specs.Check.{SpelledClassed}
+use Rattle.actl.specs.Walk.{kindOf, kindsOf, kindsIn, armOf, classOfArm, endsFrom, classesOf, Spelled, Traversed, Walks}
 use Rattle.actl.specs.declared.walk.Walked.{Walked}
 use Rattle.actl.specs.declared.walk.Walked.the-variants.{Broken, Node}
 use Rattle.actl.proofs.Nodes.{length-nodes, size-pos}
-use Rattle.actl.proofs.Laws.Bare.{size-by-kinds, class-by-kinds, ends-by-kinds, classes-by-kinds}
+use Rattle.actl.proofs.Laws.Skeletons.{size-by-kinds, class-by-kinds, ends-by-kinds, classes-by-kinds}
 use Rattle.actl.proofs.Laws.Lists.{length-upFrom, getD-upFrom}
 use Rattle.actl.proofs.Laws.Prepared.{prepared-count, prepared-slot}
 use Rattle.actl.proofs.Laws.Sets.{getD-sets}
@@ -146,7 +148,7 @@ module _ (b : List ℕ) (count : ℕ) {K : List ℕ} (d : K ≡ kindsIn b count)
   pub not-spelled : ((f : Formula) → Spelled K 0 f → ⊥) → SpelledClassed b count → ⊥
   not-spelled h (f, e, n) = h f ([], d ∙ (sym e ∙ sym (append-nil (kindsOf f))))
 
-  module _ {E E' C C' : List ℕ} {end arm : ℕ} (h : Found K E E' C C' 0 end arm) where
+  module _ {E E' C C' : List ℕ} {end arm : ℕ} (h : Traversed K E E' C C' 0 end arm) where
     pub not-ending : (end ≡ count → ⊥) → SpelledClassed b count → ⊥
     not-ending n (f, e, c) =
         let s = same-kinds (h .formula) f (h .spelled .0) (e ∙ (sym d ∙ h .spelled .1)) in
@@ -161,9 +163,9 @@ module _ (b : List ℕ) (count : ℕ) {K : List ℕ} (d : K ≡ kindsIn b count)
         let z : rest ≡ [] = empty-list rest (omega (arith, simp length-append at (ap length s), length-kinds (h .formula), h .behind)) in
         sym (sym d ∙ (s ∙ (ap (λ l. kindsOf (h .formula) ++ l) z ∙ append-nil (kindsOf (h .formula)))))
 
-    pub spelled-decided : end ≡ count → Decides (negate (eqb arm 0)) (SpelledClassed b count)
+    pub spelled-decided : end ≡ count → Decides (SpelledClassed b count) (negate (eqb arm 0))
     spelled-decided e = case (eqb arm 0) refl
       where
-        case : (t : Bool) → eqb arm 0 ≡ t → Decides (negate t) (SpelledClassed b count)
-        case true z = λ (f, k, n). n (sym (class-by-kinds (h .formula) f (whole e ∙ sym k)) ∙ class-none (h .formula) (sym (h .as-arm) ∙ eqb-true arm 0 z))
-        case false z = (h .formula, whole e, λ y. eqb-false arm 0 z (h .as-arm ∙ arm-none (h .formula) y))
+        case : (t : Bool) → eqb arm 0 ≡ t → Decides (SpelledClassed b count) (negate t)
+        case true z = decided-no (λ (f, k, n). n (sym (class-by-kinds (h .formula) f (whole e ∙ sym k)) ∙ class-none (h .formula) (sym (h .as-arm) ∙ eqb-true arm 0 z)))
+        case false z = decided-yes (h .formula, whole e, λ y. eqb-false arm 0 z (h .as-arm ∙ arm-none (h .formula) y))

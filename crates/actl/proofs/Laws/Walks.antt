@@ -14,7 +14,7 @@ use lib.Seq.{sets, drop-cons, drop-append-seam, drop-drop}
 use Rattle.lts.proofs.Lists.{map-append}
 use Rattle.actl.specs.Actions.{Mask, Cond, silent, labels}
 use Rattle.actl.specs.Formulas.{Formula, tru, not, or, ex, ax, eu, euThen, size, nodes, isT, classOf, classOfOr}
-use Rattle.actl.specs.Walk.{kindOf, kindsOf, kindAt, armOf, classOfArm, classFrom, endsFrom, classesOf, Spelled, Found}
+use Rattle.actl.specs.Walk.{kindOf, kindsOf, kindAt, armOf, classOfArm, classFrom, endsFrom, classesOf, Spelled, Traversed}
 use Rattle.actl.proofs.Nodes.{length-nodes}
 use Rattle.actl.proofs.Laws.Sets.{set-before, sets-append}
 use Rattle.actl.proofs.Laws.Table.{class-of-not, class-of-ex, class-of-ax, class-of-eu, class-of-euThen, class-of-or}
@@ -65,9 +65,9 @@ pub kind-here : (K : List ℕ) (k : ℕ) → k < length K → drop k K ≡ getD 
 kind-here K k h = rw add-one (drop-cons K k 0 h)
 
 module _ (K E C : List ℕ) (k : ℕ) (h : k < length K) where
-  pub found-T : getD K k 0 ≡ 1 → Found K E (set E k (k + 1)) C (set C k 1) k (k + 1) 3
+  pub traversed-T : getD K k 0 ≡ 1 → Traversed K E (set E k (k + 1)) C (set C k 1) k (k + 1) 3
   unfolding classOf
-  found-T e = record {
+  traversed-T e = record {
     formula = tru;
     spelled = (drop (k + 1) K, kind-here K k h ∙ ap (λ x. x ∷ drop (k + 1) K) e);
     behind = refl;
@@ -76,10 +76,10 @@ module _ (K E C : List ℕ) (k : ℕ) (h : k < length K) where
     classes-noted = refl;
   }
 
-  module _ {E1 C1 : List ℕ} {middle left : ℕ} (arm : Found K E E1 C C1 (k + 1) middle left) where
-    pub found-unary : (kind : ℕ) → 2 ≤ kind → kind ≤ 9 → (kind ≡ 3 → ⊥) → getD K k 0 ≡ kind
-        → Found K E (set E1 k middle) C (set C1 k (classFrom kind left)) k middle (classFrom kind left)
-    found-unary kind low high other e =
+  module _ {E1 C1 : List ℕ} {middle left : ℕ} (arm : Traversed K E E1 C C1 (k + 1) middle left) where
+    pub traversed-unary : (kind : ℕ) → 2 ≤ kind → kind ≤ 9 → (kind ≡ 3 → ⊥) → getD K k 0 ≡ kind
+        → Traversed K E (set E1 k middle) C (set C1 k (classFrom kind left)) k middle (classFrom kind left)
+    traversed-unary kind low high other e =
         let (node, u) = unary kind low high other in
         let f = arm .formula in
         let (rest, d) = arm .spelled in
@@ -96,9 +96,9 @@ module _ (K E C : List ℕ) (k : ℕ) (h : k < length K) where
               ∙ (set-before C k (classOf (node f)) (classesOf f) ∙ ap (λ l. sets C k (map classOf l)) (sym (u .nodes-of f)));
         }
 
-    pub found-or : {E2 C2 : List ℕ} {end right : ℕ} → getD K k 0 ≡ 3 → Found K E1 E2 C1 C2 middle end right
-        → Found K E (set E2 k end) C (set C2 k (classOfOr (classOfArm left) (classOfArm right))) k end (classOfOr (classOfArm left) (classOfArm right))
-    found-or {E2} {C2} {end} {right} e other =
+    pub traversed-or : {E2 C2 : List ℕ} {end right : ℕ} → getD K k 0 ≡ 3 → Traversed K E1 E2 C1 C2 middle end right
+        → Traversed K E (set E2 k end) C (set C2 k (classOfOr (classOfArm left) (classOfArm right))) k end (classOfOr (classOfArm left) (classOfArm right))
+    traversed-or {E2} {C2} {end} {right} e other =
         let f = arm .formula in
         let g = other .formula in
         let (r, d) = arm .spelled in
@@ -130,9 +130,9 @@ module _ (K E C : List ℕ) (k : ℕ) (h : k < length K) where
           classes-noted = (λ i. set (classesTwo i) k (class i)) ∙ (set-before C k (classOf (or f g)) (classesOf f ++ classesOf g) ∙ ap (λ l. sets C k (classOf (or f g) ∷ l)) (sym (map-append classOf (nodes f) (nodes g))));
         }
 
-pub found-noted : {K E X E' C Y C' : List ℕ} {k end arm : ℕ} → E' ≡ X → C' ≡ Y → Found K E X C Y k end arm → Found K E E' C C' k end arm
-found-noted {K} {E} {X} {E'} {C} {Y} {C'} {k} {end} {arm} e d h =
-    subst (λ l. Found K E l C C' k end arm) (sym e) (subst (λ l. Found K E X C l k end arm) (sym d) h)
+pub traversed-noted : {K E X E' C Y C' : List ℕ} {k end arm : ℕ} → E' ≡ X → C' ≡ Y → Traversed K E X C Y k end arm → Traversed K E E' C C' k end arm
+traversed-noted {K} {E} {X} {E'} {C} {Y} {C'} {k} {end} {arm} e d h =
+    subst (λ l. Traversed K E l C C' k end arm) (sym e) (subst (λ l. Traversed K E X C l k end arm) (sym d) h)
 
 -- What a kind that is known says.
 pub record Known (K : List ℕ) (k kind : ℕ) : Type 0 where

@@ -10,13 +10,13 @@ use Rattle.actl.specs.Formulas.{Formula}
 use Rattle.actl.specs.Prepared.{formulaBytes}
 use Rattle.actl.specs.Replies.{formulaReply}
 use Rattle.actl.specs.Readers.{namesIn, ReadingSays}
-use Rattle.actl.specs.Writing.{Answers}
+use Rattle.actl.specs.Writing.{FormulaAnswered}
 use Rattle.actl.specs.declared.FormulaReply.{FormulaReply}
 use Rattle.actl.proofs.ReadingEntry.{short-table, short-formula, foreign-table, table-held, long-text, refused-text, whole-text}
 use Rattle.actl.proofs.read_formula.Statement.{statement}
 use Rattle.actl.proofs.read_formula.Tie as tie
 
-both : {a : Reply Formula} {e : List ℕ} {r : FormulaReply} {x : List ℕ} → Answers a e r x → (formulaReply r ≡ answers (λ F. tt) a) × (x ≡ leftIn formulaBytes a e)
+both : {a : Reply Formula} {e : List ℕ} {r : FormulaReply} {x : List ℕ} → FormulaAnswered a e r x → (formulaReply r ≡ answers (λ F. tt) a) × (x ≡ leftIn formulaBytes a e)
 both h = (h .replies, h .leaves)
 
 returns : tie.Need-returns

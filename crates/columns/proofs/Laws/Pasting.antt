@@ -22,7 +22,7 @@ pasting-none buffer at h = record {
   fits = h;
 }
 
-pasted-length : (buffer : List ℕ) (at : ℕ) (text : List ℕ) → at + length text ≤ length buffer → length (pasted buffer at text) ≡ length buffer
+pub pasted-length : (buffer : List ℕ) (at : ℕ) (text : List ℕ) → at + length text ≤ length buffer → length (pasted buffer at text) ≡ length buffer
 pasted-length buffer at text h =
     length-append (take at buffer) (text ++ drop (at + length text) buffer)
     ∙ omega (arith, length-take-le at buffer (omega arith), length-append text (drop (at + length text) buffer), length-drop (at + length text) buffer)

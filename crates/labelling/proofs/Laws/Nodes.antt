@@ -14,7 +14,7 @@ use Rattle.lts.specs.Range.{InRange}
 use Rattle.actl.specs.Actions.{Mask, inSet, Cond, silent, labels, meets}
 use Rattle.actl.specs.Formulas.{Formula, tru, not, or, ex, ax, eu, euThen, size, nodes, At, root, in-not, in-left, in-right, in-ex, in-ax, in-eu, in-euThen}
 use Rattle.actl.specs.Prepared.{Slot, slotOf}
-use Rattle.actl.specs.Access.{condOf, slotOfNode}
+use Rattle.actl.specs.Access.{condIn, slotOfNode}
 use Rattle.actl.specs.declared.node.Condition.{Condition}
 use Rattle.actl.specs.declared.node.Condition.the-variants.{Silent, Labels}
 use Rattle.actl.specs.declared.node.Node.{Node}

@@ -1,5 +1,5 @@
 -- Laws of a label's line: what the columns and bytes at a place say of the line there, and the line of them.
-use mathlib.Core.Path.{_≡_, refl, sym, ap, ap₂, _∙_, subst}
+use mathlib.Core.Path.{_≡_, refl, sym, ap, ap₂, _∙_}
 use mathlib.Core.Bool.{true}
 use mathlib.Core.List.{List, _∷_, _++_, append-assoc}
 use Prim.Native.Nat.{ℕ, _+_, _-_, _<_}
@@ -10,23 +10,29 @@ use Rattle.columns.specs.Bytes.{sameBytes}
 use Rattle.columns.specs.Columns.{column, valueAt}
 use Rattle.columns.proofs.Laws.Compared.{each-append, each-weaken, same-equal, same-of-equal}
 use Rattle.columns.proofs.Laws.ColumnsRead.{ColumnAt}
-use Rattle.lts.specs.Names.{isName}
+use Rattle.lts.specs.Names.{isName, nameLength, nameEnd}
 use Rattle.lts.specs.Text.{labelLine}
 use Rattle.lts.specs.Reading.{firstLine, labelLaidOut}
-use Rattle.lts.specs.Lines.{NoLineAt, Labelled, nameLength}
+use Rattle.lts.specs.Lines.{NoLineAt, Labelled}
 use Rattle.lts.proofs.Lists.{and-true-of, and-true-to}
 use Rattle.lts.proofs.Laws.LinesRead.{NoEnd, line-here, line-parts, drop-further, column-front, column-back, byte-within, byte-front, byte-back, column-peeled}
 use Rattle.lts.proofs.Laws.NameRuns.{High, name-high, name-short, run-is-name, name-is-run}
 use Rattle.lts.proofs.Laws.Layout.{no-end, never, value-first, drop-later}
 
 module _ (s : List ℕ) (at : ℕ) where
-  module _ (number n end : ℕ) (a : ColumnAt s at number) (blank : getD s (at + 6) 256 ≡ 32)
-      (run : n ≡ nameLength (drop (at + 7) s)) (some : 0 < n) (stop : end ≡ at + 7 + n) (e : getD s end 256 ≡ 10) where
+  module _ (number end : ℕ) (a : ColumnAt s at number) (blank : getD s (at + 6) 256 ≡ 32)
+      (stop : end ≡ nameEnd s (at + 7)) (some : end ≡ at + 7 → ⊥) (e : getD s end 256 ≡ 10) where
+    abbrev n : ℕ
+    n = nameLength (drop (at + 7) s)
+
+    some-byte : 0 < n
+    some-byte = omega (arith, stop, some)
+
     abbrev name : List ℕ
     name = take n (drop (at + 7) s)
 
     is-name : isName name ≡ true
-    is-name = subst (λ k. isName (take k (drop (at + 7) s)) ≡ true) (sym run) (run-is-name (drop (at + 7) s) (omega arith) .1)
+    is-name = run-is-name (drop (at + 7) s) some-byte .1
 
     abbrev label-line : List ℕ
     label-line = labelLine number name
@@ -58,7 +64,7 @@ module _ (s : List ℕ) (at : ℕ) where
       };
       numbered = number-first;
       starts = omega arith;
-      ends = omega (arith, length-take-le n (drop (at + 7) s) (omega (arith, run-is-name (drop (at + 7) s) (omega arith) .0)), name-short name is-name .1);
+      ends = omega (arith, length-take-le n (drop (at + 7) s) (run-is-name (drop (at + 7) s) some-byte .0), name-short name is-name .1);
       name = let long : n ≡ end - (at + 7) = omega arith in name-behind ∙ ap (λ k. take k (drop (at + 7) s)) long;
     }
 
@@ -74,9 +80,11 @@ module _ (s : List ℕ) (at : ℕ) where
       let two = byte-back s (at + 6) (at + 7) 32 (drop 7 l ++ (10 ∷ rest)) (omega arith) (one .1) in
       h (valueAt 0 l) (drop 7 l) rest (one .0) (two .0) (both .1) (two .1))
 
-  -- What a name with an LF behind it says of the run of name bytes.
-  pub run-of-name : (name rest : List ℕ) → isName name ≡ true → drop (at + 7) s ≡ name ++ (10 ∷ rest) → (n : ℕ) → n ≡ nameLength (drop (at + 7) s) → (0 < n) × (getD s (at + 7 + n) 256 ≡ 10)
-  run-of-name name rest e d n r =
-      let long : n ≡ length name = r ∙ ap nameLength d ∙ name-is-run name rest e in
-      let behind : drop (at + 7 + n) s ≡ 10 ∷ rest = sym (drop-further s (at + 7) n (at + 7 + n) refl) ∙ ap (drop n) d ∙ drop-at name (10 ∷ rest) n (sym long) in
-      (omega (arith, name-short name e .0), byte-back s (at + 7 + n) (at + 7 + n + 1) 10 rest refl behind .0)
+  -- Where a name with an LF behind it ends.
+  pub end-of-name : (name rest : List ℕ) → isName name ≡ true → drop (at + 7) s ≡ name ++ (10 ∷ rest) → (end : ℕ) → end ≡ nameEnd s (at + 7)
+      → (end ≡ at + 7 → ⊥) × (getD s end 256 ≡ 10)
+  end-of-name name rest e d end r =
+      let n = nameLength (drop (at + 7) s) in
+      let long : n ≡ length name = ap nameLength d ∙ name-is-run 10 rest refl name e in
+      let behind : drop end s ≡ 10 ∷ rest = sym (drop-further s (at + 7) n end (sym r)) ∙ ap (drop n) d ∙ drop-at name (10 ∷ rest) n (sym long) in
+      ((λ z. omega (arith, name-short name e .0)), byte-back s end (end + 1) 10 rest refl behind .0)

@@ -1,5 +1,5 @@
--- Laws of the bytes of a name at the start of a text.
-use mathlib.Core.Path.{_≡_, refl, sym, ap, ap₂, _∙_}
+-- Laws of the longest name that a text starts with: how a loop finds it, that it is a name, and which names are it.
+use mathlib.Core.Path.{_≡_, refl, ap, ap₂, _∙_}
 use mathlib.Core.Logic.{_⊎_, inl, inr}
 use mathlib.Core.Bool.{Bool, true, false, cond, false≢true, _&&_, _||_}
 use mathlib.Core.List.{List, [], _∷_, _++_}
@@ -11,8 +11,7 @@ use lib.Dec.{leb, eqb}
 use lib.ListN.{length, getD, take, drop, drop-of-length-le}
 use lib.Seq.{drop-cons}
 use Rattle.columns.proofs.Laws.Compared.{Each}
-use Rattle.lts.specs.Names.{isLower, isNameByte, atMost, isName}
-use Rattle.lts.specs.Lines.{nameRun, nameLength}
+use Rattle.lts.specs.Names.{isLower, isNameByte, atMost, isName, nameRun, nameLength, nameEnd}
 use Rattle.lts.proofs.Lists.{and-true-of, or-true-of}
 
 run-none : (k : ℕ) → nameRun k [] ≡ 0
@@ -23,19 +22,21 @@ run-none (suc k) = refl
 pub record NameSoFar (s : List ℕ) (at n : ℕ) : Type 0 where
   pub some-byte : 1 ≤ n
   pub few : n ≤ 12
+  pub within : at + n ≤ length s
   pub left : nameLength (drop at s) ≡ n + nameRun (12 - n) (drop (at + n) s)
 
 module _ (s : List ℕ) (at : ℕ) where
-  pub no-text : length s ≤ at → 0 ≡ nameLength (drop at s)
-  no-text h = sym (ap nameLength (drop-of-length-le s h))
+  pub no-text : length s ≤ at → at ≡ nameEnd s at
+  no-text h = let none : nameLength (drop at s) ≡ 0 = ap nameLength (drop-of-length-le s h) in omega arith
 
-  pub no-letter : at < length s → isLower (getD s at 0) ≡ false → 0 ≡ nameLength (drop at s)
-  no-letter h e = sym (ap nameLength (drop-cons s at 0 h) ∙ rw e)
+  pub no-letter : at < length s → isLower (getD s at 0) ≡ false → at ≡ nameEnd s at
+  no-letter h e = let none : nameLength (drop at s) ≡ 0 = ap nameLength (drop-cons s at 0 h) ∙ rw e in omega arith
 
   pub run-starts : at < length s → isLower (getD s at 0) ≡ true → NameSoFar s at 1
   run-starts h e = record {
     some-byte = omega arith;
     few = omega arith;
+    within = omega arith;
     left = ap nameLength (drop-cons s at 0 h) ∙ rw (e, add-one) one-more;
   }
     where
@@ -43,12 +44,12 @@ module _ (s : List ℕ) (at : ℕ) where
       one-more = omega arith
 
   module _ (n : ℕ) (r : NameSoFar s at n) where
-    pub run-at-end : length s ≤ at + n → n ≡ nameLength (drop at s)
+    pub run-at-end : length s ≤ at + n → at + n ≡ nameEnd s at
     run-at-end h =
         let none : nameRun (12 - n) (drop (at + n) s) ≡ 0 = ap (nameRun (12 - n)) (drop-of-length-le s h) ∙ run-none (12 - n) in
         omega (arith, r .left)
 
-    pub run-full : 12 ≤ n → n ≡ nameLength (drop at s)
+    pub run-full : 12 ≤ n → at + n ≡ nameEnd s at
     run-full h =
         let f = r .few in
         let none : 12 - n ≡ 0 = omega arith in
@@ -61,7 +62,7 @@ module _ (s : List ℕ) (at : ℕ) where
         let left : 12 - n ≡ suc (12 - (n + 1)) = omega arith in
         ap₂ nameRun left (drop-cons s (at + n) 0 k)
 
-    pub run-stops : n < 12 → at + n < length s → isNameByte (getD s (at + n) 0) ≡ false → n ≡ nameLength (drop at s)
+    pub run-stops : n < 12 → at + n < length s → isNameByte (getD s (at + n) 0) ≡ false → at + n ≡ nameEnd s at
     run-stops h k e =
         let none : nameRun (12 - n) (drop (at + n) s) ≡ 0 = run-opened h k ∙ ap (λ t. cond t (suc (nameRun (12 - (n + 1)) (drop (suc (at + n)) s))) 0) e in
         omega (arith, r .left)
@@ -75,6 +76,7 @@ module _ (s : List ℕ) (at : ℕ) where
         record {
           some-byte = omega arith;
           few = omega arith;
+          within = omega arith;
           left = omega (arith, r .left);
         }
 
@@ -134,13 +136,14 @@ run-is-name (b ∷ s) h = step (isLower b) refl h (run-at-most 11 s)
     step true e k h = (omega arith, rw e (h .1))
     step false e k h = absurd (omega arith)
 
--- A name with an LF behind it is a run.
-at-most-run : (n : ℕ) (l rest : List ℕ) → atMost n l ≡ true → nameRun n (l ++ (10 ∷ rest)) ≡ length l
-at-most-run zero [] rest e = refl
-at-most-run (suc n) [] rest e = refl
-at-most-run zero (b ∷ l) rest e = absurd (false≢true e)
-at-most-run (suc n) (b ∷ l) rest e = let d = and-true-of (isNameByte b) (atMost n l) e in rw (d .0) (ap suc (at-most-run n l rest (d .1)))
+-- A name with a byte behind it that no name has is the longest one there.
+module _ (stop : ℕ) (rest : List ℕ) (foreign : isNameByte stop ≡ false) where
+  at-most-run : (n : ℕ) (l : List ℕ) → atMost n l ≡ true → nameRun n (l ++ (stop ∷ rest)) ≡ length l
+  at-most-run zero [] e = refl
+  at-most-run (suc n) [] e = ap (λ t. cond t (suc (nameRun n rest)) 0) foreign
+  at-most-run zero (b ∷ l) e = absurd (false≢true e)
+  at-most-run (suc n) (b ∷ l) e = let d = and-true-of (isNameByte b) (atMost n l) e in rw (d .0) (ap suc (at-most-run n l (d .1)))
 
-pub name-is-run : (l rest : List ℕ) → isName l ≡ true → nameLength (l ++ (10 ∷ rest)) ≡ length l
-name-is-run [] rest e = absurd (false≢true e)
-name-is-run (b ∷ l) rest e = let d = and-true-of (isLower b) (atMost 11 l) e in rw (d .0) (ap suc (at-most-run 11 l rest (d .1)))
+  pub name-is-run : (l : List ℕ) → isName l ≡ true → nameLength (l ++ (stop ∷ rest)) ≡ length l
+  name-is-run [] e = absurd (false≢true e)
+  name-is-run (b ∷ l) e = let d = and-true-of (isLower b) (atMost 11 l) e in rw (d .0) (ap suc (at-most-run 11 l (d .1)))

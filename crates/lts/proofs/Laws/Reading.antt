@@ -11,7 +11,7 @@ use Rattle.lts.specs.Steps.{Step, Table}
 use Rattle.lts.specs.Names.{isName}
 use Rattle.lts.specs.Text.{ended, transitionLine, transitionLines}
 use Rattle.lts.specs.Reading.{Line, missing, line, firstLine, onLine, Header, used, stepOf, stepLaidOut, stepInRange, above, readTransitions}
-use Rattle.lts.proofs.Laws.Tests.{Counts, step-range-of}
+use Rattle.lts.proofs.Laws.Tests.{CountsInRange, step-range-of}
 use Rattle.lts.proofs.Laws.Grown.{Grown}
 use Rattle.lts.proofs.Laws.Lines.{first-line-of, first-line-to, step-of, step-laid-out, step-unbroken}
 
@@ -69,7 +69,7 @@ module _ (h : Header) (names : List (List ℕ)) (left : ℕ) (steps : List Step)
       record { this = l; rest = rest; first = first; laid-out = p .0; in-range = q .0; rises = r .0; goes-on = r .1 }
 
 -- All the transitions.
-module _ (h : Header) (c : Counts h) (names : List (List ℕ)) where
+module _ (h : Header) (c : CountsInRange h) (names : List (List ℕ)) where
   pub transitions-read : (steps more : List Step) → Added h steps more
       → readTransitions h names (length more) steps (transitionLines more) ≡ accepted (tableOf h names (steps ++ more))
   unfolding readTransitions

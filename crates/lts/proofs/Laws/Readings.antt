@@ -12,9 +12,9 @@ use Rattle.lts.specs.Names.{isName}
 use Rattle.lts.specs.Reading.{Header, atEnd, readTransitions, readLabels}
 use Rattle.lts.specs.Slots.{nameBytes, stepBytes}
 use Rattle.lts.specs.Lines.{header}
-use Rattle.lts.specs.Turns.{Refuses, NameRead, NamesRead, StepRead, StepsRead, TransitionTurn}
-use Rattle.lts.specs.declared.reading.Counts.{Counts}
-use Rattle.lts.specs.declared.reading.Turn.the-variants.{Next}
+use Rattle.lts.specs.Progress.{Refuses, NameRead, NamesRead, TransitionLineRead, StepsRead, TransitionProgress}
+use Rattle.lts.specs.declared.reading.HeaderFields.{HeaderFields}
+use Rattle.lts.specs.declared.reading.Progress.the-variants.{Next}
 use Rattle.lts.specs.declared.TableReply.{TableReply}
 use Rattle.lts.specs.declared.TableReply.the-variants.{NotLaidOut}
 use Rattle.lts.proofs.Laws.SlotBytes.{names-snoc}
@@ -100,7 +100,7 @@ module _ (h : Header) (s : List ℕ) (from : ℕ) (names : List (List ℕ)) wher
         → Refuses (readTransitions h names (h .transitions) [] (drop from s)) t
     steps-refused k f = refuses-whole (steps-next k) f
 
-    pub steps-go-on : count < h .transitions → (to : ℕ) (d : List ℕ) → StepRead h s at to (h .transitions - (count + 1)) names (r .steps) d → StepsSoFar h s from names d to (count + 1)
+    pub steps-go-on : count < h .transitions → (to : ℕ) (d : List ℕ) → TransitionLineRead h s at to (h .transitions - (count + 1)) names (r .steps) d → StepsSoFar h s from names d to (count + 1)
     steps-go-on k to d f = record {
       steps = r .steps ++ (f .last ∷ []);
       counts = length-append (r .steps) (f .last ∷ []) ∙ omega (arith, r .counts);
@@ -134,21 +134,21 @@ module _ (h : Header) (s : List ℕ) (from : ℕ) (names : List (List ℕ)) wher
         kept = r .kept;
       }
 
--- A turn of the loop over transitions, whatever the names before them are.
-pub record InTurn (c : Counts) (s : List ℕ) (from : ℕ) (b : List ℕ) (at count : ℕ) : Type 0 where
+-- The loop over transitions, whatever the names before them are.
+pub record TransitionsSoFar (c : HeaderFields) (s : List ℕ) (from : ℕ) (b : List ℕ) (at count : ℕ) : Type 0 where
   pub within : at ≤ length s
   pub few : count ≤ c .transitions
   pub long : length b ≡ 3072
   pub so-far : (names : List (List ℕ)) → length names ≡ c .labels → StepsSoFar (header c) s from names b at count
 
-turn-within : (c : Counts) (s : List ℕ) (from : ℕ) (b : List ℕ) (at count : ℕ) → InTurn c s from b at count → (to : ℕ) (d : List ℕ)
-    → TransitionTurn (header c) s at count b d (Next to) → (names : List (List ℕ)) → length names ≡ c .labels → to ≤ length s
-turn-within c s from b at count i to d f names e = let r = i .so-far names e in f 0 names (r .steps) e (r .counts) (r .kept) .within
+line-within : (c : HeaderFields) (s : List ℕ) (from : ℕ) (b : List ℕ) (at count : ℕ) → TransitionsSoFar c s from b at count → (to : ℕ) (d : List ℕ)
+    → TransitionProgress (header c) s at count b d (Next to) → (names : List (List ℕ)) → length names ≡ c .labels → to ≤ length s
+line-within c s from b at count i to d f names e = let r = i .so-far names e in f 0 names (r .steps) e (r .counts) (r .kept) .within
 
-pub turn-taken : (c : Counts) (s : List ℕ) (from : ℕ) (b : List ℕ) (at count : ℕ) → InTurn c s from b at count → count < c .transitions → (to : ℕ) (d : List ℕ)
-    → TransitionTurn (header c) s at count b d (Next to) → length d ≡ length b → InTurn c s from d to (count + 1)
-turn-taken c s from b at count i k to d f e = record {
-  within = turn-within c s from b at count i to d f (replicate (c .labels) []) (length-replicate (c .labels) []);
+pub line-taken : (c : HeaderFields) (s : List ℕ) (from : ℕ) (b : List ℕ) (at count : ℕ) → TransitionsSoFar c s from b at count → count < c .transitions → (to : ℕ) (d : List ℕ)
+    → TransitionProgress (header c) s at count b d (Next to) → length d ≡ length b → TransitionsSoFar c s from d to (count + 1)
+line-taken c s from b at count i k to d f e = record {
+  within = line-within c s from b at count i to d f (replicate (c .labels) []) (length-replicate (c .labels) []);
   few = omega arith;
   long = e ∙ i .long;
   so-far = λ names g.

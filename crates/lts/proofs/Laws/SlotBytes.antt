@@ -1,4 +1,4 @@
--- Laws of the slots' bytes: one more slot is written behind the others, and the slots give back what they hold.
+-- Laws of the slots' bytes: one more slot is put behind the others, and the slots give back what they hold.
 use mathlib.Core.Path.{_≡_, refl, sym, ap, ap₂, _∙_}
 use mathlib.Core.Bool.{true}
 use mathlib.Core.List.{List, [], _∷_, _++_, map, append-assoc, append-nil}
@@ -8,14 +8,17 @@ use native.Mathlib.Omega.{arith}
 use lib.ListN.{length, getD, take, drop, replicate, length-append, length-replicate, replicate-append-replicate}
 use lib.Seq.{take-append-seam, drop-append-add, take-at, drop-at, drop-drop, getD-drop}
 use Rattle.columns.specs.Bytes.{padded}
+use Rattle.columns.specs.Write.{pasted}
 use Rattle.lts.specs.Lists.{upFrom, bind, every}
 use Rattle.lts.specs.Steps.{Step}
-use Rattle.lts.specs.Names.{isName}
+use Rattle.lts.specs.Names.{isName, lookup}
 use Rattle.lts.specs.Reading.{used, stepBelow, above}
 use Rattle.lts.specs.Prepared.{nameSlot, transitionSlot}
-use Rattle.lts.specs.Slots.{written, counted, storedName, storedNames, storedStep, risesAfter, nameBytes, stepBytes}
+use Rattle.lts.specs.Slots.{counted, storedName, storedNames, storedStep, risesAfter, nameBytes, stepBytes}
 use Rattle.lts.proofs.Lists.{and-true-of, and-true-to, bind-append}
+use Rattle.lts.specs.Access.{isSome}
 use Rattle.lts.proofs.Laws.NameRuns.{name-short}
+use Rattle.lts.proofs.Laws.Names.{used-looked-up}
 
 -- Zeros behind a list.
 abbrev zeros : ℕ → List ℕ
@@ -26,11 +29,12 @@ drop-zeros zero n = let all : n ≡ n - 0 = omega arith in ap zeros all
 drop-zeros (suc k) zero = let none : 0 ≡ 0 - suc k = omega arith in ap zeros none
 drop-zeros (suc k) (suc n) = let same : n - k ≡ suc n - suc k = omega arith in drop-zeros k n ∙ ap zeros same
 
-pub padded-written : (w : ℕ) (m v : List ℕ) → length m + length v ≤ w → written (padded w m) (length m) v ≡ padded w (m ++ v)
+pub padded-written : (w : ℕ) (m v : List ℕ) → length m + length v ≤ w → pasted (padded w m) (length m) v ≡ padded w (m ++ v)
 padded-written w m v h =
     let left : w - length m - length v ≡ w - length (m ++ v) = omega (arith, length-append m v) in
-    ap₂ (λ x y. (x ++ v) ++ y) (take-append-seam m (replicate (w - length m) 0))
+    ap₂ (λ x y. x ++ (v ++ y)) (take-append-seam m (replicate (w - length m) 0))
     (drop-append-add m (replicate (w - length m) 0) (length v) ∙ drop-zeros (length v) (w - length m) ∙ ap (λ n. replicate n 0) left)
+    ∙ sym (append-assoc m v (replicate (w - length (m ++ v)) 0))
 
 pub padded-inner : (w u : ℕ) (m v : List ℕ) → length v ≤ u → length m + u ≤ w → padded w (m ++ v) ≡ padded w (m ++ padded u v)
 padded-inner w u m v h k =
@@ -51,10 +55,10 @@ names-length (n ∷ names) e =
     length-append (nameSlot n) (bind nameSlot names) ∙ omega (arith, slot-length n (name-short n (d .0) .1), names-length names (d .1))
 
 pub name-written : (names : List (List ℕ)) (name : List ℕ) (k : ℕ) → length names ≡ k → k < 40 → every isName names ≡ true → length name ≤ 12
-    → written (nameBytes names) (k * 16) (counted name) ≡ nameBytes (names ++ (name ∷ []))
+    → pasted (nameBytes names) (k * 16) (counted name) ≡ nameBytes (names ++ (name ∷ []))
 name-written names name k c h e s =
     let long : length (bind nameSlot names) ≡ k * 16 = names-length names e ∙ ap (λ n. n * 16) c in
-    ap (λ i. written (nameBytes names) i (counted name)) (sym long)
+    ap (λ i. pasted (nameBytes names) i (counted name)) (sym long)
     ∙ padded-written 640 (bind nameSlot names) (counted name) (omega arith)
     ∙ padded-inner 640 16 (bind nameSlot names) (counted name) (omega arith) (omega arith)
     ∙ ap (λ z. padded 640 (bind nameSlot names ++ z)) (sym (append-nil (nameSlot name)))
@@ -86,18 +90,18 @@ names-snoc (n ∷ names) name e d =
     and-true-to (isName n) (every isName (names ++ (name ∷ []))) (f .0) (names-snoc names name (f .1) d)
 
 pub used-stored : (b : List ℕ) (count : ℕ) (names : List (List ℕ)) (name : List ℕ) → length names ≡ count → every isName names ≡ true → b ≡ nameBytes names
-    → used (storedNames b count) name ≡ used names name
-used-stored b count names name c e k = ap (λ l. used l name) (ap₂ storedNames k (sym c) ∙ names-stored names e)
+    → isSome (lookup (storedNames b count) name) ≡ used names name
+used-stored b count names name c e k = ap (λ l. isSome (lookup l name)) (ap₂ storedNames k (sym c) ∙ names-stored names e) ∙ sym (used-looked-up names name)
 
 -- Transitions.
 steps-length : (steps : List Step) → length (bind transitionSlot steps) ≡ length steps * 3
 steps-length [] = refl
 steps-length (x ∷ steps) = let d = steps-length steps in omega arith
 
-pub step-written : (steps : List Step) (st : Step) (k : ℕ) → length steps ≡ k → k < 1024 → written (stepBytes steps) (k * 3) (transitionSlot st) ≡ stepBytes (steps ++ (st ∷ []))
+pub step-written : (steps : List Step) (st : Step) (k : ℕ) → length steps ≡ k → k < 1024 → pasted (stepBytes steps) (k * 3) (transitionSlot st) ≡ stepBytes (steps ++ (st ∷ []))
 step-written steps st k c h =
     let long : length (bind transitionSlot steps) ≡ k * 3 = steps-length steps ∙ ap (λ n. n * 3) c in
-    ap (λ i. written (stepBytes steps) i (transitionSlot st)) (sym long)
+    ap (λ i. pasted (stepBytes steps) i (transitionSlot st)) (sym long)
     ∙ padded-written 3072 (bind transitionSlot steps) (transitionSlot st) (omega arith)
     ∙ ap (λ z. padded 3072 z) (sym (bind-append transitionSlot steps (st ∷ [])))
 

@@ -14,11 +14,11 @@ use Rattle.lts.specs.Prepared.{tableLength, tableBytes}
 use Rattle.lts.specs.Replies.{tableReply, tableReading, tableReplied, tableLeft}
 use Rattle.lts.specs.Slots.{nameBytes, stepBytes, headBytes}
 use Rattle.lts.specs.Lines.{LineAt, NoLineAt}
-use Rattle.lts.specs.Turns.{Refuses}
+use Rattle.lts.specs.Progress.{Refuses}
 use Rattle.lts.specs.declared.TableReply.{TableReply}
 use Rattle.lts.specs.declared.TableReply.the-variants.{NotLaidOut, OutOfRange}
 use Rattle.lts.proofs.Lists.{and-true-of}
-use Rattle.lts.proofs.Laws.Turns.{no-line, a-line, passed, failed}
+use Rattle.lts.proofs.Laws.Progress.{no-line, a-line, passed, failed}
 
 -- Line 1.
 abbrev laidHeader : List ℕ → Bool

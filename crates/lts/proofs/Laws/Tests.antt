@@ -81,14 +81,14 @@ step-range-to h st a b c =
     (and-true-to (ltb (st .from) (h .states)) (leb (st .label) (h .labels)) (lt-ltb _ _ a) (le-leb _ _ b)) (lt-ltb _ _ c)
 
 -- Ranges of the counts.
-pub record Counts (h : Header) : Type 0 where
+pub record CountsInRange (h : Header) : Type 0 where
   pub some-state : 1 ≤ h .states
   pub few-states : h .states ≤ 256
   pub few-labels : h .labels ≤ 40
   pub few-transitions : h .transitions ≤ 1024
   pub starts : h .start < h .states
 
-pub counts-of : (h : Header) → headerInRange h ≡ true → Counts h
+pub counts-of : (h : Header) → headerInRange h ≡ true → CountsInRange h
 counts-of h e =
     let p = and-true-of (leb 1 (h .states) && leb (h .states) 256 && leb (h .labels) 40 && leb (h .transitions) 1024) _ e in
     let q = and-true-of (leb 1 (h .states) && leb (h .states) 256 && leb (h .labels) 40) _ (p .0) in
@@ -102,7 +102,7 @@ counts-of h e =
       starts = ltb-true _ _ (p .1);
     }
 
-pub counts-to : (h : Header) → Counts h → headerInRange h ≡ true
+pub counts-to : (h : Header) → CountsInRange h → headerInRange h ≡ true
 counts-to h c =
     and-true-to (leb 1 (h .states) && leb (h .states) 256 && leb (h .labels) 40 && leb (h .transitions) 1024) _
     (and-true-to (leb 1 (h .states) && leb (h .states) 256 && leb (h .labels) 40) _

@@ -11,7 +11,7 @@ use Rattle.lts.specs.Steps.{Step, Table, labels}
 use Rattle.lts.specs.Range.{Below, Differ, InRange}
 use Rattle.lts.specs.Text.{ended, headerLine, labelLines, transitionLines, tableText}
 use Rattle.lts.specs.Reading.{Line, line, firstLine, onLine, Header, headerOf, headerLaidOut, headerInRange, readLabels, readTable, stepInRange}
-use Rattle.lts.proofs.Laws.Tests.{Counts, counts-of, counts-to, step-range-of, step-range-to, above-of, above-to, used-of, used-to}
+use Rattle.lts.proofs.Laws.Tests.{CountsInRange, counts-of, counts-to, step-range-of, step-range-to, above-of, above-to, used-of, used-to}
 use Rattle.lts.proofs.Laws.Grown.{grown-of, grown-to}
 use Rattle.lts.proofs.Laws.Lines.{first-line-of, first-line-to, header-of, header-laid-out, header-unbroken}
 use Rattle.lts.proofs.Laws.Reading.{Named, Added, tableOf, unless-to, unless-of, on-line-of, transitions-read, TransitionsRead, transitions-were-read}
@@ -30,7 +30,7 @@ added-to t r = grown-to _ _ Below above-of above-to [] (t .transitions) in-range
     in-range : (st : Step) → List·Memᴰ st (t .transitions) → stepInRange (headerIn t) st ≡ true
     in-range st m = let k = r .steps-in-range st m in step-range-to (headerIn t) st (k .leaves) (k .labelled) (k .enters)
 
-pub counts-in : (t : Table) → InRange t → Counts (headerIn t)
+pub counts-in : (t : Table) → InRange t → CountsInRange (headerIn t)
 counts-in t r = record {
   some-state = r .some-state;
   few-states = r .few-states;
@@ -40,7 +40,7 @@ counts-in t r = record {
 }
 
 -- A table that reading puts together is in range.
-pub range-of : (h : Header) (names : List (List ℕ)) (steps : List Step) → Counts h → length names ≡ h .labels → length steps ≡ h .transitions
+pub range-of : (h : Header) (names : List (List ℕ)) (steps : List Step) → CountsInRange h → length names ≡ h .labels → length steps ≡ h .transitions
     → Named [] names → Added h [] steps → InRange (tableOf h names steps)
 range-of h names steps c p q n a =
     let u = grown-of _ _ Differ (λ l x d e. used-of l x e) used-to [] names tt n in
@@ -84,7 +84,7 @@ text-of-read text t e =
     let s = transitions-were-read (headerOf l) (k .more) (headerOf l .transitions) [] (k .rest) t (k .goes-on) in
     join l rest first (p .0) (counts-of (headerOf l) (q .0)) k s
   where
-    join : (l rest : List ℕ) → firstLine text ≡ line l rest → headerLaidOut (headerOf l) l ≡ true → Counts (headerOf l)
+    join : (l rest : List ℕ) → firstLine text ≡ line l rest → headerLaidOut (headerOf l) l ≡ true → CountsInRange (headerOf l)
         → (k : LabelsRead (headerOf l) (headerOf l .labels) [] rest t)
         → TransitionsRead (headerOf l) (k .more) (headerOf l .transitions) [] (k .rest) t → (text ≡ tableText t) × InRange t
     join l rest first laid c k s =

@@ -19,7 +19,7 @@ use Rattle.lts.specs.Check.{WellFormed}
 use Rattle.lts.proofs.Lists.{mem-index, rising-pairs, rising-adjacent}
 use Rattle.lts.proofs.Laws.Tests.{below-trans, name-shape}
 use Rattle.lts.proofs.Laws.Contents.{labels-in, transitions-in, name-in, transition-in}
-use Rattle.lts.proofs.Laws.Names.{name-length}
+use Rattle.lts.proofs.Laws.SlotNames.{name-length}
 use Rattle.lts.proofs.Laws.Filled.{bind-map, take-bytes, take-zeros, filled}
 use Rattle.lts.proofs.Laws.Prepared.{prepared-to}
 
@@ -71,7 +71,7 @@ module _ (b : List ℕ) (w : WellFormed b) where
         let few : k < 40 = omega (arith, w .counts .few-labels) in
         let held = w .names k h .0 in
         let size : ℕ = byteAt b (6 + k * 16) in
-        let sized : length (nameAt b k) ≡ size = name-length b k (w .long) few (bytes (6 + k * 16)) in
+        let sized : length (nameAt b k) ≡ size = name-length b (w .long) k few (bytes (6 + k * 16)) in
         let short : size ≤ 12 = omega (arith, name-shape (nameAt b k) (held .name) .short) in
         let behind : List ℕ = drop (7 + k * 16) b in
         let room : size + (15 - size) ≤ length behind = omega (arith, length-drop (7 + k * 16) b, w .long) in

@@ -3,7 +3,7 @@ use native.Mathlib.Omega.{arith}
 use mathlib.Core.Path.{_≡_, refl, sym}
 use Prim.Native.Nat.{ℕ, _+_, _≤_}
 use Rattle.actl.specs.Prepared.{slotAt}
-use Rattle.actl.proofs.Laws.Slots.{Shape, shape-of, slot-by-parts, slot-bare, slot-with-first}
+use Rattle.actl.proofs.Laws.Slots.{Shape, shape-of, slot-by-parts, slot-without-masks, slot-with-first}
 use borrow.Author.Needs.{needs}
 use Rattle.actl.proofs.node.node_at.Statement.{statement}
 use Rattle.actl.proofs.node.node_at.Tie as tie
@@ -71,22 +71,22 @@ mask-requires-5 c κs = search needs
 returns : tie.Need-returns
 returns c =
     let start = c .before .before .before in
-    slot-bare (slotAt (start .args .formula .now) (start .args .k)) (start .pre .1 .1) (c .match .keys1) refl refl
+    slot-without-masks (slotAt (start .args .formula .now) (start .args .k)) (start .pre .1 .1) (c .match .keys1) refl refl
 
 returns-2 : tie.Need-returns-2
 returns-2 c =
     let start = c .before .before .before in
-    slot-bare (slotAt (start .args .formula .now) (start .args .k)) (start .pre .1 .1) (c .match .keys2) refl refl
+    slot-without-masks (slotAt (start .args .formula .now) (start .args .k)) (start .pre .1 .1) (c .match .keys2) refl refl
 
 returns-3 : tie.Need-returns-3
 returns-3 c =
     let start = c .before .before .before in
-    slot-bare (slotAt (start .args .formula .now) (start .args .k)) (start .pre .1 .1) (c .match .keys3) refl refl
+    slot-without-masks (slotAt (start .args .formula .now) (start .args .k)) (start .pre .1 .1) (c .match .keys3) refl refl
 
 returns-4 : tie.Need-returns-4
 returns-4 c =
     let start = c .before .before .before in
-    slot-bare (slotAt (start .args .formula .now) (start .args .k)) (start .pre .1 .1) (c .match .keys4) refl refl
+    slot-without-masks (slotAt (start .args .formula .now) (start .args .k)) (start .pre .1 .1) (c .match .keys4) refl refl
 
 returns-5 : tie.Need-returns-5
 returns-5 c =
@@ -96,7 +96,7 @@ returns-5 c =
 returns-6 : tie.Need-returns-6
 returns-6 c =
     let start = c .before .before .before in
-    slot-bare (slotAt (start .args .formula .now) (start .args .k)) (start .pre .1 .1) (c .match .keys6) refl refl
+    slot-without-masks (slotAt (start .args .formula .now) (start .args .k)) (start .pre .1 .1) (c .match .keys6) refl refl
 
 returns-7 : tie.Need-returns-7
 returns-7 c =

@@ -3,7 +3,8 @@ use mathlib.Core.Path.{_≡_, sym, ap, _∙_, subst}
 use Prim.Native.Nat.{_+_, _*_, _<_}
 use native.Mathlib.Omega.{arith}
 use borrow.Author.Tests.{not-true, not-false}
-use Rattle.actl.specs.Check.{slotsFit, zerosFrom, Decides, SpelledClassed}
+use Rattle.lts.specs.Access.{Decides}
+use Rattle.actl.specs.Check.{slotsFit, zerosFrom, SpelledClassed}
 use Rattle.actl.proofs.Laws.Decided.{short-bytes, many-nodes, slots-foreign, not-zeros, decided}
 use borrow.Author.Needs.{needs}
 use Rattle.actl.proofs.prepared.is_prepared.Statement.{statement}
@@ -55,7 +56,7 @@ returns-5 c =
     (sym (ap (slotsFit n b) count) ∙ (sym (c .before .before .before .before .slots-fit .ensures) ∙ not-false (c .before .before .before .before .slots-fit .result) (c .before .before .before .if3 .left)))
     (sym (ap (λ k. zerosFrom b (1 + k * 17)) count) ∙ (sym (c .before .before .zeros-from .ensures) ∙ not-false (c .before .before .zeros-from .result) (c .before .if4 .left)))
     (c .spelled .result)
-    (subst (λ k. Decides (c .spelled .result) (SpelledClassed b k)) count (c .spelled .ensures))
+    (subst (λ k. Decides (SpelledClassed b k) (c .spelled .result)) count (c .spelled .ensures))
 
 pub is-prepared-spec : {M : Type 1} → statement M
 is-prepared-spec =

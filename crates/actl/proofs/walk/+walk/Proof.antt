@@ -3,10 +3,10 @@ use borrow.Author.Needs.{needs}
 use mathlib.Core.Path.{_≡_, refl, sym, ap, _∙_, subst}
 use native.Mathlib.Omega.{arith}
 use lib.ListN.{length, set}
-use Rattle.actl.specs.Walk.{Walks, Found, Spelled, armOf}
+use Rattle.actl.specs.Walk.{Walks, Traversed, Spelled, armOf}
 use Rattle.actl.proofs.Laws.Table.{arm-low}
 use Rattle.actl.proofs.Laws.Unique.{no-kind, no-arm, no-right, spelled-fits}
-use Rattle.actl.proofs.Laws.Walks.{Known, known-kind, found-noted, found-T, found-unary, found-or}
+use Rattle.actl.proofs.Laws.Walks.{Known, known-kind, traversed-noted, traversed-T, traversed-unary, traversed-or}
 use Prim.Native.Nat.{ℕ, _+_, _-_, _≤_, _<_}
 use borrow.Fn.Kinds.{In}
 use borrow.Fn.PlainCycle.{Measures, is, falls, and}
@@ -79,7 +79,7 @@ walk-returns-2 t c =
     let K = start .args .kinds .now in
     let k = start .args .k in
     let known = known-kind K k (c .before .before .before .before .before .before .before .before .before .kind-at .result) (c .before .before .before .before .before .before .before .before .before .kind-at .ensures) (c .before .before .before .before .before .before .before .before .if1 .left) in
-    found-noted (c .before .before .before .before .note .ensures .0) (c .before .before .before .before .note .ensures .1) (found-T K (start .args .ends .now) (start .args .classes .now) k (known .inside) (known .here ∙ c .before .before .before .before .before .before .before .if2 .taken))
+    traversed-noted (c .before .before .before .before .note .ensures .0) (c .before .before .before .before .note .ensures .1) (traversed-T K (start .args .ends .now) (start .args .classes .now) k (known .inside) (known .here ∙ c .before .before .before .before .before .before .before .if2 .taken))
 
 walk-add-walk : (t : ℕ) → walk-lts.Need-add-walk (walk-claims t) (walk-at t) walk.Post
 walk-add-walk t c =
@@ -131,7 +131,7 @@ walk-class-from-requires t c κs =
     let E1 = c .before .before .before .before .before .before .before .before .walk .last .1 .1 .0 in
     let C1 = c .before .before .before .before .before .before .before .before .walk .last .1 .1 .1 .0 in
     let middle = c .before .before .middle .given .0 .0 in
-    let arm : Found K E E1 C C1 (k + 1) middle (c .before .before .middle .given .0 .1 .0) = subst (Walks K E E1 C C1 (k + 1)) (c .before .before .middle .given .1) (c .before .before .before .before .before .before .before .before .walk .ensures) in
+    let arm : Traversed K E E1 C C1 (k + 1) middle (c .before .before .middle .given .0 .1 .0) = subst (Walks K E E1 C C1 (k + 1)) (c .before .before .middle .given .1) (c .before .before .before .before .before .before .before .before .walk .ensures) in
     (omega (arith, known .high), omega (arith, arm .as-arm, arm-low (arm .formula)))
 
 walk-note-requires-2 : (t : ℕ) → walk-lts.Need-note-requires-2 (walk-claims t) (walk-at t) walk.Post
@@ -145,7 +145,7 @@ walk-note-requires-2 t c κs =
     let E1 = c .before .before .before .before .before .before .before .before .before .before .before .walk .last .1 .1 .0 in
     let C1 = c .before .before .before .before .before .before .before .before .before .before .before .walk .last .1 .1 .1 .0 in
     let middle = c .before .before .before .before .before .middle .given .0 .0 in
-    let arm : Found K E E1 C C1 (k + 1) middle (c .before .before .before .before .before .middle .given .0 .1 .0) = subst (Walks K E E1 C C1 (k + 1)) (c .before .before .before .before .before .middle .given .1) (c .before .before .before .before .before .before .before .before .before .before .before .walk .ensures) in
+    let arm : Traversed K E E1 C C1 (k + 1) middle (c .before .before .before .before .before .middle .given .0 .1 .0) = subst (Walks K E E1 C C1 (k + 1)) (c .before .before .before .before .before .middle .given .1) (c .before .before .before .before .before .before .before .before .before .before .before .walk .ensures) in
     omega (arith, known .inside, start .pre .1, c .before .before .before .before .before .before .before .before .before .before .before .walk .kept .1 .1 .0, c .before .before .before .before .before .before .before .before .before .before .before .walk .kept .1 .1 .1 .0, arm .behind, spelled-fits K (k + 1) (arm .formula) (arm .spelled))
 
 walk-same-length-5 : (t : ℕ) → walk-lts.Need-same-length-5 (walk-claims t) (walk-at t) walk.Post
@@ -165,13 +165,13 @@ walk-returns-4 t c =
     let E1 = c .before .before .before .before .before .before .before .before .before .before .before .before .before .before .before .before .walk .last .1 .1 .0 in
     let C1 = c .before .before .before .before .before .before .before .before .before .before .before .before .before .before .before .before .walk .last .1 .1 .1 .0 in
     let middle = c .before .before .before .before .before .before .before .before .before .before .middle .given .0 .0 in
-    let arm : Found K E E1 C C1 (k + 1) middle (c .before .before .before .before .before .before .before .before .before .before .middle .given .0 .1 .0) = subst (Walks K E E1 C C1 (k + 1)) (c .before .before .before .before .before .before .before .before .before .before .middle .given .1) (c .before .before .before .before .before .before .before .before .before .before .before .before .before .before .before .before .walk .ensures) in
+    let arm : Traversed K E E1 C C1 (k + 1) middle (c .before .before .before .before .before .before .before .before .before .before .middle .given .0 .1 .0) = subst (Walks K E E1 C C1 (k + 1)) (c .before .before .before .before .before .before .before .before .before .before .middle .given .1) (c .before .before .before .before .before .before .before .before .before .before .before .before .before .before .before .before .walk .ensures) in
     let kind = c .before .before .before .before .before .before .before .before .before .before .before .before .before .before .before .before .before .before .before .before .before .kind-at .result in
     let n = c .before .before .before .before .before .before .before .before .before .before .before .before .before .before .before .before .before .before .before .before .if1 .left in
     let m = c .before .before .before .before .before .before .before .before .before .before .before .before .before .before .before .before .before .before .before .if2 .left in
     let e = c .before .before .before .before .before .before .before .class-from .ensures in
-    let found = found-unary K E C k (known .inside) arm kind (above-one n m) (known .high) (c .before .before .before .before .before .before .before .before .if3 .taken) (known .here) in
-    found-noted (c .before .before .before .before .note2 .ensures .0) (c .before .before .before .before .note2 .ensures .1) (subst (λ x. Found K E (set E1 k middle) C (set C1 k x) k middle x) (sym e) found)
+    let found = traversed-unary K E C k (known .inside) arm kind (above-one n m) (known .high) (c .before .before .before .before .before .before .before .before .if3 .taken) (known .here) in
+    traversed-noted (c .before .before .before .before .note2 .ensures .0) (c .before .before .before .before .note2 .ensures .1) (subst (λ x. Traversed K E (set E1 k middle) C (set C1 k x) k middle x) (sym e) found)
 
 walk-walk-requires-2 : (t : ℕ) → walk-lts.Need-walk-requires-2 (walk-claims t) (walk-at t) walk.Post
 walk-walk-requires-2 t c κs =
@@ -184,7 +184,7 @@ walk-walk-requires-2 t c κs =
     let E1 = c .before .before .before .before .before .before .before .before .before .before .walk .last .1 .1 .0 in
     let C1 = c .before .before .before .before .before .before .before .before .before .before .walk .last .1 .1 .1 .0 in
     let middle = c .before .before .before .before .middle .given .0 .0 in
-    let arm : Found K E E1 C C1 (k + 1) middle (c .before .before .before .before .middle .given .0 .1 .0) = subst (Walks K E E1 C C1 (k + 1)) (c .before .before .before .before .middle .given .1) (c .before .before .before .before .before .before .before .before .before .before .walk .ensures) in
+    let arm : Traversed K E E1 C C1 (k + 1) middle (c .before .before .before .before .middle .given .0 .1 .0) = subst (Walks K E E1 C C1 (k + 1)) (c .before .before .before .before .middle .given .1) (c .before .before .before .before .before .before .before .before .before .before .walk .ensures) in
     (omega (arith, known .inside, start .pre .0, arm .behind), omega (arith, start .pre .1, c .before .before .before .before .before .before .before .before .before .before .walk .kept .1 .1 .0, c .before .before .before .before .before .before .before .before .before .before .walk .kept .1 .1 .1 .0))
 
 walk-enum-known-end : (t : ℕ) → walk-lts.Need-enum-known-end (walk-claims t) (walk-at t) walk.Post
@@ -210,7 +210,7 @@ walk-returns-5 t c =
     let E1 = c .before .before .before .before .before .before .before .before .before .before .before .before .before .before .before .before .before .walk .last .1 .1 .0 in
     let C1 = c .before .before .before .before .before .before .before .before .before .before .before .before .before .before .before .before .before .walk .last .1 .1 .1 .0 in
     let middle = c .before .before .before .before .before .before .before .before .before .before .before .middle .given .0 .0 in
-    let arm : Found K E E1 C C1 (k + 1) middle (c .before .before .before .before .before .before .before .before .before .before .before .middle .given .0 .1 .0) = subst (Walks K E E1 C C1 (k + 1)) (c .before .before .before .before .before .before .before .before .before .before .before .middle .given .1) (c .before .before .before .before .before .before .before .before .before .before .before .before .before .before .before .before .before .walk .ensures) in
+    let arm : Traversed K E E1 C C1 (k + 1) middle (c .before .before .before .before .before .before .before .before .before .before .before .middle .given .0 .1 .0) = subst (Walks K E E1 C C1 (k + 1)) (c .before .before .before .before .before .before .before .before .before .before .before .middle .given .1) (c .before .before .before .before .before .before .before .before .before .before .before .before .before .before .before .before .before .walk .ensures) in
     let broken = subst (Walks K E1 (c .before .before .before .before .before .before .walk2 .last .1 .1 .0) C1 (c .before .before .before .before .before .before .walk2 .last .1 .1 .1 .0) middle) (c .enum-told2 .given .1) (c .before .before .before .before .before .before .walk2 .ensures) in
     no-right K k (known .here ∙ c .before .before .before .before .before .before .before .before .before .if3 .left) (arm .formula) (arm .spelled) (λ g s. broken g (subst (λ x. Spelled K x g) (sym (arm .behind)) s))
 
@@ -225,10 +225,10 @@ walk-class-of-or-requires t c κs =
     let E1 = c .before .before .before .before .before .before .before .before .before .before .before .before .before .before .before .before .before .before .walk .last .1 .1 .0 in
     let C1 = c .before .before .before .before .before .before .before .before .before .before .before .before .before .before .before .before .before .before .walk .last .1 .1 .1 .0 in
     let middle = c .before .before .before .before .before .before .before .before .before .before .before .before .middle .given .0 .0 in
-    let arm : Found K E E1 C C1 (k + 1) middle (c .before .before .before .before .before .before .before .before .before .before .before .before .middle .given .0 .1 .0) = subst (Walks K E E1 C C1 (k + 1)) (c .before .before .before .before .before .before .before .before .before .before .before .before .middle .given .1) (c .before .before .before .before .before .before .before .before .before .before .before .before .before .before .before .before .before .before .walk .ensures) in
+    let arm : Traversed K E E1 C C1 (k + 1) middle (c .before .before .before .before .before .before .before .before .before .before .before .before .middle .given .0 .1 .0) = subst (Walks K E E1 C C1 (k + 1)) (c .before .before .before .before .before .before .before .before .before .before .before .before .middle .given .1) (c .before .before .before .before .before .before .before .before .before .before .before .before .before .before .before .before .before .before .walk .ensures) in
     let E2 = c .before .before .before .before .before .before .before .walk2 .last .1 .1 .0 in
     let C2 = c .before .before .before .before .before .before .before .walk2 .last .1 .1 .1 .0 in
-    let other : Found K E1 E2 C1 C2 middle (c .before .end .given .0 .0) (c .before .end .given .0 .1 .0) = subst (Walks K E1 E2 C1 C2 middle) (c .before .end .given .1) (c .before .before .before .before .before .before .before .walk2 .ensures) in
+    let other : Traversed K E1 E2 C1 C2 middle (c .before .end .given .0 .0) (c .before .end .given .0 .1 .0) = subst (Walks K E1 E2 C1 C2 middle) (c .before .end .given .1) (c .before .before .before .before .before .before .before .walk2 .ensures) in
     (omega (arith, arm .as-arm, arm-low (arm .formula)), omega (arith, other .as-arm, arm-low (other .formula)))
 
 walk-note-requires-3 : (t : ℕ) → walk-lts.Need-note-requires-3 (walk-claims t) (walk-at t) walk.Post
@@ -242,10 +242,10 @@ walk-note-requires-3 t c κs =
     let E1 = c .before .before .before .before .before .before .before .before .before .before .before .before .before .before .before .before .before .before .before .before .before .walk .last .1 .1 .0 in
     let C1 = c .before .before .before .before .before .before .before .before .before .before .before .before .before .before .before .before .before .before .before .before .before .walk .last .1 .1 .1 .0 in
     let middle = c .before .before .before .before .before .before .before .before .before .before .before .before .before .before .before .middle .given .0 .0 in
-    let arm : Found K E E1 C C1 (k + 1) middle (c .before .before .before .before .before .before .before .before .before .before .before .before .before .before .before .middle .given .0 .1 .0) = subst (Walks K E E1 C C1 (k + 1)) (c .before .before .before .before .before .before .before .before .before .before .before .before .before .before .before .middle .given .1) (c .before .before .before .before .before .before .before .before .before .before .before .before .before .before .before .before .before .before .before .before .before .walk .ensures) in
+    let arm : Traversed K E E1 C C1 (k + 1) middle (c .before .before .before .before .before .before .before .before .before .before .before .before .before .before .before .middle .given .0 .1 .0) = subst (Walks K E E1 C C1 (k + 1)) (c .before .before .before .before .before .before .before .before .before .before .before .before .before .before .before .middle .given .1) (c .before .before .before .before .before .before .before .before .before .before .before .before .before .before .before .before .before .before .before .before .before .walk .ensures) in
     let E2 = c .before .before .before .before .before .before .before .before .before .before .walk2 .last .1 .1 .0 in
     let C2 = c .before .before .before .before .before .before .before .before .before .before .walk2 .last .1 .1 .1 .0 in
-    let other : Found K E1 E2 C1 C2 middle (c .before .before .before .before .end .given .0 .0) (c .before .before .before .before .end .given .0 .1 .0) = subst (Walks K E1 E2 C1 C2 middle) (c .before .before .before .before .end .given .1) (c .before .before .before .before .before .before .before .before .before .before .walk2 .ensures) in
+    let other : Traversed K E1 E2 C1 C2 middle (c .before .before .before .before .end .given .0 .0) (c .before .before .before .before .end .given .0 .1 .0) = subst (Walks K E1 E2 C1 C2 middle) (c .before .before .before .before .end .given .1) (c .before .before .before .before .before .before .before .before .before .before .walk2 .ensures) in
     omega (arith, known .inside, start .pre .1, c .before .before .before .before .before .before .before .before .before .before .before .before .before .before .before .before .before .before .before .before .before .walk .kept .1 .1 .0, c .before .before .before .before .before .before .before .before .before .before .before .before .before .before .before .before .before .before .before .before .before .walk .kept .1 .1 .1 .0, c .before .before .before .before .before .before .before .before .before .before .walk2 .kept .1 .1 .0, c .before .before .before .before .before .before .before .before .before .before .walk2 .kept .1 .1 .1 .0, other .behind, spelled-fits K middle (other .formula) (other .spelled))
 
 walk-same-length-9 : (t : ℕ) → walk-lts.Need-same-length-9 (walk-claims t) (walk-at t) walk.Post
@@ -265,14 +265,14 @@ walk-returns-6 t c =
     let E1 = c .before .before .before .before .before .before .before .before .before .before .before .before .before .before .before .before .before .before .before .before .before .before .before .before .before .before .walk .last .1 .1 .0 in
     let C1 = c .before .before .before .before .before .before .before .before .before .before .before .before .before .before .before .before .before .before .before .before .before .before .before .before .before .before .walk .last .1 .1 .1 .0 in
     let middle = c .before .before .before .before .before .before .before .before .before .before .before .before .before .before .before .before .before .before .before .before .middle .given .0 .0 in
-    let arm : Found K E E1 C C1 (k + 1) middle (c .before .before .before .before .before .before .before .before .before .before .before .before .before .before .before .before .before .before .before .before .middle .given .0 .1 .0) = subst (Walks K E E1 C C1 (k + 1)) (c .before .before .before .before .before .before .before .before .before .before .before .before .before .before .before .before .before .before .before .before .middle .given .1) (c .before .before .before .before .before .before .before .before .before .before .before .before .before .before .before .before .before .before .before .before .before .before .before .before .before .before .walk .ensures) in
+    let arm : Traversed K E E1 C C1 (k + 1) middle (c .before .before .before .before .before .before .before .before .before .before .before .before .before .before .before .before .before .before .before .before .middle .given .0 .1 .0) = subst (Walks K E E1 C C1 (k + 1)) (c .before .before .before .before .before .before .before .before .before .before .before .before .before .before .before .before .before .before .before .before .middle .given .1) (c .before .before .before .before .before .before .before .before .before .before .before .before .before .before .before .before .before .before .before .before .before .before .before .before .before .before .walk .ensures) in
     let E2 = c .before .before .before .before .before .before .before .before .before .before .before .before .before .before .before .walk2 .last .1 .1 .0 in
     let C2 = c .before .before .before .before .before .before .before .before .before .before .before .before .before .before .before .walk2 .last .1 .1 .1 .0 in
-    let other : Found K E1 E2 C1 C2 middle (c .before .before .before .before .before .before .before .before .before .end .given .0 .0) (c .before .before .before .before .before .before .before .before .before .end .given .0 .1 .0) = subst (Walks K E1 E2 C1 C2 middle) (c .before .before .before .before .before .before .before .before .before .end .given .1) (c .before .before .before .before .before .before .before .before .before .before .before .before .before .before .before .walk2 .ensures) in
+    let other : Traversed K E1 E2 C1 C2 middle (c .before .before .before .before .before .before .before .before .before .end .given .0 .0) (c .before .before .before .before .before .before .before .before .before .end .given .0 .1 .0) = subst (Walks K E1 E2 C1 C2 middle) (c .before .before .before .before .before .before .before .before .before .end .given .1) (c .before .before .before .before .before .before .before .before .before .before .before .before .before .before .before .walk2 .ensures) in
     let end = c .before .before .before .before .before .before .before .before .before .end .given .0 .0 in
     let e = c .before .before .before .before .before .before .before .class-of-or .ensures in
-    let found = found-or K E C k (known .inside) arm (known .here ∙ c .before .before .before .before .before .before .before .before .before .before .before .before .before .before .before .before .before .before .if3 .left) other in
-    found-noted (c .before .before .before .before .note3 .ensures .0) (c .before .before .before .before .note3 .ensures .1) (subst (λ x. Found K E (set E2 k end) C (set C2 k x) k end x) (sym e) found)
+    let found = traversed-or K E C k (known .inside) arm (known .here ∙ c .before .before .before .before .before .before .before .before .before .before .before .before .before .before .before .before .before .before .if3 .left) other in
+    traversed-noted (c .before .before .before .before .note3 .ensures .0) (c .before .before .before .before .note3 .ensures .1) (subst (λ x. Traversed K E (set E2 k end) C (set C2 k x) k end x) (sym e) found)
 
 pub +walk-spec : {M : Type 1} → statement M
 +walk-spec = close μ-walk λ t. walk-lts.spec (walk-claims t)

@@ -2,6 +2,7 @@
 use mathlib.Core.Path.{_≡_, sym, ap, _∙_, subst}
 use native.Mathlib.Omega.{arith}
 use lib.ListN.{length, take, replicate}
+use Rattle.lts.proofs.Laws.Decides.{decided-no}
 use Rattle.actl.specs.Walk.{Walks}
 use Rattle.actl.proofs.Laws.Walked.{length-kinds-in, not-spelled, not-ending, spelled-decided}
 use borrow.Author.Needs.{needs}
@@ -39,14 +40,14 @@ returns c =
     let a = c .before .before .before .before .before .before .before .before .before .before .args in
     let w = c .before .before .before .before .walk in
     let broken = subst (Walks (take (a .count) (c .before .before .before .before .before .before .before .before .kinds-in .result)) (replicate 40 0) (w .last .1 .1 .0) (replicate 40 0) (w .last .1 .1 .1 .0) 0) (c .enum-told .given .1) (w .ensures) in
-    not-spelled (a .formula .now) (a .count) (c .before .before .before .before .before .before .before .before .kinds-in .ensures) broken
+    decided-no (not-spelled (a .formula .now) (a .count) (c .before .before .before .before .before .before .before .before .kinds-in .ensures) broken)
 
 returns-2 : tie.Need-returns-2
 returns-2 c =
     let a = c .before .before .before .before .before .before .before .before .before .before .before .before .args in
     let w = c .before .before .before .before .before .before .walk in
     let found = subst (Walks (take (a .count) (c .before .before .before .before .before .before .before .before .before .before .kinds-in .result)) (replicate 40 0) (w .last .1 .1 .0) (replicate 40 0) (w .last .1 .1 .1 .0) 0) (c .before .before .end .given .1) (w .ensures) in
-    not-ending (a .formula .now) (a .count) (c .before .before .before .before .before .before .before .before .before .before .kinds-in .ensures) found (c .if1 .taken)
+    decided-no (not-ending (a .formula .now) (a .count) (c .before .before .before .before .before .before .before .before .before .before .kinds-in .ensures) found (c .if1 .taken))
 
 returns-3 : tie.Need-returns-3
 returns-3 c =

@@ -4,7 +4,7 @@ use mathlib.Core.Path.{refl, _∙_}
 use Prim.Native.Nat.{_%_}
 use native.Mathlib.Omega.{arith}
 use lib.ListN.{length-set}
-use Rattle.actl.proofs.ReadingBytes.{node-placed}
+use Rattle.actl.proofs.ReadingBytes.{node-pasted}
 use Rattle.actl.proofs.writing.put_node.Statement.{statement}
 use Rattle.actl.proofs.writing.put_node.Tie as tie
 
@@ -30,7 +30,7 @@ same-length : tie.Need-same-length
 same-length c = let a = c .before .before .before .before .before .before .before .before .before .args in let l = length-set (a .formula .now) (a .at) (a .kind % 256) in let p = c .before .before .before .before .before .before .before .before .before .pre in c .before .before .put-mask2 .kept .0 ∙ (c .before .before .before .before .before .before .put-mask .kept .0 ∙ l)
 
 returns : tie.Need-returns
-returns c = let a = c .before .before .before .before .before .before .before .before .before .args in let l = length-set (a .formula .now) (a .at) (a .kind % 256) in let p = c .before .before .before .before .before .before .before .before .before .pre in node-placed (a .at) (a .kind) (a .first) (a .second) (a .formula .now) _ _ _ p refl (c .before .before .before .before .before .before .put-mask .ensures) (c .before .before .put-mask2 .ensures)
+returns c = let a = c .before .before .before .before .before .before .before .before .before .args in let l = length-set (a .formula .now) (a .at) (a .kind % 256) in let p = c .before .before .before .before .before .before .before .before .before .pre in node-pasted (a .at) (a .kind) (a .first) (a .second) (a .formula .now) _ _ _ p refl (c .before .before .before .before .before .before .put-mask .ensures) (c .before .before .put-mask2 .ensures)
 
 pub put-node-spec : {M : Type 1} → statement M
 put-node-spec =

@@ -3,13 +3,14 @@ use mathlib.Core.Path.{_≡_, refl, ap, _∙_}
 use Prim.Native.Nat.{_-_, _≤_}
 use native.Mathlib.Omega.{arith}
 use lib.ListN.{length}
-use Rattle.actl.specs.Writing.{placed, cellBytes}
+use Rattle.columns.specs.Write.{pasted}
+use Rattle.actl.specs.Writing.{cellBytes}
 use Rattle.actl.proofs.ReadingBytes.{nodes-none, nodes-more}
 use Rattle.actl.proofs.writing.put_nodes.Statement.{statement}
 use Rattle.actl.proofs.writing.put_nodes.Tie as tie
 
 abbrev Inv-loop : tie.InvT-loop
-Inv-loop cells n formula₀ k₀ formula k = (k ≤ n) × (length formula ≡ length formula₀) × (formula ≡ placed 1 (cellBytes cells k) formula₀)
+Inv-loop cells n formula₀ k₀ formula k = (k ≤ n) × (length formula ≡ length formula₀) × (formula ≡ pasted formula₀ 1 (cellBytes cells k))
 
 abbrev μ-loop : tie.MeasureT-loop
 μ-loop cells n formula₀ k₀ formula k = n - k
@@ -76,7 +77,7 @@ returns c =
     let a = c .before .before .before .args in
     let l = c .before .loop in
     let e : l .k ≡ a .n = omega arith in
-    l .inv .2 ∙ ap (λ k. placed 1 (cellBytes (a .cells .now) k) (a .formula .now)) e
+    l .inv .2 ∙ ap (λ k. pasted (a .formula .now) 1 (cellBytes (a .cells .now) k)) e
 
 pub put-nodes-spec : {M : Type 1} → statement M
 put-nodes-spec =

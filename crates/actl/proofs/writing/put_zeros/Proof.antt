@@ -1,15 +1,15 @@
 -- `put_zeros` writes zeros up to the end of the prepared bytes.
 use Prim.Native.Nat.{_-_, _≤_}
 use native.Mathlib.Omega.{arith}
-use Rattle.actl.specs.Writing.{placed}
 use mathlib.Core.Path.{_≡_, refl, ap, _∙_}
 use lib.ListN.{length, replicate, length-set}
+use Rattle.columns.specs.Write.{pasted}
 use Rattle.actl.proofs.ReadingBytes.{zeros-none, zeros-more}
 use Rattle.actl.proofs.writing.put_zeros.Statement.{statement}
 use Rattle.actl.proofs.writing.put_zeros.Tie as tie
 
 abbrev Inv-loop : tie.InvT-loop
-Inv-loop formula₀ from i₀ formula i = (from ≤ i) × (i ≤ 681) × (formula ≡ placed from (replicate (i - from) 0) formula₀) × (length formula ≡ length formula₀)
+Inv-loop formula₀ from i₀ formula i = (from ≤ i) × (i ≤ 681) × (formula ≡ pasted formula₀ from (replicate (i - from) 0)) × (length formula ≡ length formula₀)
 
 abbrev μ-loop : tie.MeasureT-loop
 μ-loop formula₀ from i₀ formula i = 681 - i
@@ -40,7 +40,7 @@ returns c =
     let a = c .before .before .args in
     let l = c .before .loop in
     let e : l .i ≡ 681 = omega arith in
-    l .inv .2 ∙ ap (λ n. placed (a .from) (replicate (n - a .from) 0) (a .formula .now)) e
+    l .inv .2 ∙ ap (λ n. pasted (a .formula .now) (a .from) (replicate (n - a .from) 0)) e
 
 pub put-zeros-spec : {M : Type 1} → statement M
 put-zeros-spec =

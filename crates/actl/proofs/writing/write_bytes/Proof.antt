@@ -3,7 +3,7 @@ use borrow.Author.Needs.{needs}
 use mathlib.Core.Path.{refl, _∙_}
 use native.Mathlib.Omega.{arith}
 use lib.ListN.{length-set}
-use Rattle.actl.proofs.ReadingBytes.{bytes-placed}
+use Rattle.actl.proofs.ReadingBytes.{bytes-pasted}
 use Rattle.actl.proofs.writing.write_bytes.Statement.{statement}
 use Rattle.actl.proofs.writing.write_bytes.Tie as tie
 
@@ -40,7 +40,7 @@ returns c =
     let a = c .before .before .before .before .before .before .before .before .before .args in
     let p = c .before .before .before .before .before .before .before .before .before .pre in
     let e = a .formula .now in
-    bytes-placed (a .cells .now) (a .n) e _ _ _ (p .1) (p .2) refl (c .before .before .before .before .before .before .put-nodes .ensures) (c .before .before .put-zeros .ensures)
+    bytes-pasted (a .cells .now) (a .n) e _ _ _ (p .1) (p .2) refl (c .before .before .before .before .before .before .put-nodes .ensures) (c .before .before .put-zeros .ensures)
 
 pub write-bytes-spec : {M : Type 1} → statement M
 write-bytes-spec =

@@ -3,7 +3,7 @@ use borrow.Author.Needs.{needs}
 use mathlib.Core.Path.{_≡_, refl, sym, ap, _∙_}
 use Rattle.lts.specs.Steps.{silent}
 use Rattle.actl.specs.Actions.{Cond, meets}
-use Rattle.actl.specs.Access.{condOf}
+use Rattle.actl.specs.Access.{condIn}
 use Rattle.labelling.proofs.conditions.meets.Statement.{statement}
 use Rattle.labelling.proofs.conditions.meets.Tie as tie
 
@@ -18,11 +18,11 @@ in-set-requires c κs = search needs
 
 returns : tie.Need-returns
 unfolding meets silent
-returns c = sym (ap (λ x. meets (condOf x) (c .before .before .args .label)) (c .enum-told .given .1))
+returns c = sym (ap (λ x. meets (condIn x) (c .before .before .args .label)) (c .enum-told .given .1))
 
 returns-2 : tie.Need-returns-2
 unfolding meets
-returns-2 c = c .in-set .ensures ∙ sym (ap (λ x. meets (condOf x) (c .before .before .before .before .args .label)) (c .before .before .condition .given .1))
+returns-2 c = c .in-set .ensures ∙ sym (ap (λ x. meets (condIn x) (c .before .before .before .before .args .label)) (c .before .before .condition .given .1))
 
 pub meets-spec : {M : Type 1} → statement M
 meets-spec = tie.close (tie.spec enum-told enum-known-condition in-set-requires returns returns-2)

@@ -6,7 +6,7 @@ use Rattle.lts.specs.Steps.{stepsFrom}
 use Rattle.lts.specs.Prepared.{tableIn}
 use Rattle.lts.proofs.Lists.{or-true-left}
 use Rattle.actl.specs.Actions.{meets}
-use Rattle.actl.specs.Access.{condOf}
+use Rattle.actl.specs.Access.{condIn}
 use Rattle.actl.specs.declared.node.Node.{Node}
 use Rattle.labelling.specs.Flags.{flagAt, leadsTo, atOnce}
 use Rattle.labelling.proofs.Laws.Flags.{every-not-some}
@@ -76,7 +76,7 @@ returns-5 c = c .some-step .ensures ∙ sym (ap (value (c .before .before .befor
 returns-6 : tie.Need-returns-6
 returns-6 c =
     let start = c .before .before .before .before .before in
-    ap not (c .some-step2 .ensures) ∙ (every-not-some (leadsTo (condOf (c .before .before .node2 .given .0 .0)) (flagAt (start .args .arm .now))) (stepsFrom (tableIn (start .args .table .now)) (start .args .s)) ∙ sym (ap (value start) (c .before .before .node2 .given .1)))
+    ap not (c .some-step2 .ensures) ∙ (every-not-some (leadsTo (condIn (c .before .before .node2 .given .0 .0)) (flagAt (start .args .arm .now))) (stepsFrom (tableIn (start .args .table .now)) (start .args .s)) ∙ sym (ap (value start) (c .before .before .node2 .given .1)))
 
 returns-7 : tie.Need-returns-7
 returns-7 c = sym (ap (value (c .before .before .before .before)) (c .before .enum-told4 .given .1))

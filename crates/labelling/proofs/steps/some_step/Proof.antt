@@ -10,7 +10,7 @@ use Rattle.lts.specs.Lists.{some}
 use Rattle.lts.specs.Steps.{Step, idleAt}
 use Rattle.lts.specs.Prepared.{tableIn}
 use Rattle.lts.specs.Access.{stepIn}
-use Rattle.actl.specs.Access.{condOf}
+use Rattle.actl.specs.Access.{condIn}
 use Rattle.labelling.specs.Flags.{flagAt, leadsAsWanted, someStep}
 use Rattle.labelling.proofs.Laws.Transitions.{Exits, exits-of, few-transitions, transition-read, label-in-mask}
 use Rattle.labelling.specs.Links.{transitionOf}
@@ -21,7 +21,7 @@ use Rattle.labelling.proofs.steps.some_step.Tie as tie
 abbrev Inv-loop : tie.InvT-loop
 Inv-loop table begins wanted condition arm s end k₀ k = (k ≤ end)
     × (end ≤ length (tableIn table .transitions))
-    × (someStep (tableIn table) wanted (condOf condition) (flagAt arm) s ≡ some (leadsAsWanted wanted (condOf condition) (flagAt arm)) (slice k end (tableIn table .transitions)))
+    × (someStep (tableIn table) wanted (condIn condition) (flagAt arm) s ≡ some (leadsAsWanted wanted (condIn condition) (flagAt arm)) (slice k end (tableIn table .transitions)))
 
 abbrev μ-loop : tie.MeasureT-loop
 μ-loop table begins wanted condition arm s end k₀ k = end - k
@@ -33,12 +33,12 @@ differs : (a b : ℕ) → a ≤ b → (a ≡ b → ⊥) → a < b
 differs a b h n = omega arith
 
 -- What the call answered of transition k.
-outcome : (c : tie.After-leads2 Inv-loop μ-loop) → leadsAsWanted (c .before .before .before .before .before .before .before .before .before .args .wanted) (condOf (c .before .before .before .before .before .before .before .before .before .args .condition)) (flagAt (c .before .before .before .before .before .before .before .before .before .args .arm .now))
+outcome : (c : tie.After-leads2 Inv-loop μ-loop) → leadsAsWanted (c .before .before .before .before .before .before .before .before .before .args .wanted) (condIn (c .before .before .before .before .before .before .before .before .before .args .condition)) (flagAt (c .before .before .before .before .before .before .before .before .before .args .arm .now))
     (transitionOf (tableIn (c .before .before .before .before .before .before .before .before .before .args .table .now)) (c .before .before .before .before .loop .k)) ≡ c .leads2 .result
 outcome c =
     let loop = c .before .before .before .before in
     let start = loop .before .before .before .before .before in
-    let p : Step → Bool = leadsAsWanted (start .args .wanted) (condOf (start .args .condition)) (flagAt (start .args .arm .now)) in
+    let p : Step → Bool = leadsAsWanted (start .args .wanted) (condIn (start .args .condition)) (flagAt (start .args .arm .now)) in
     ap p (sym (transition-read _ (start .pre .0) (loop .loop .k) (omega (arith, loop .loop .inv .1)) _ (c .before .before .transition-at .ensures))) ∙ sym (c .leads2 .ensures)
 
 add-end : tie.Need-add-end Inv-loop μ-loop
@@ -71,14 +71,14 @@ leads-requires c κs = omega arith
 returns : tie.Need-returns Inv-loop μ-loop
 returns c =
     let start = c .before .before .before .before .before .before in
-    let p : Step → Bool = leadsAsWanted (start .args .wanted) (condOf (start .args .condition)) (flagAt (start .args .arm .now)) in
+    let p : Step → Bool = leadsAsWanted (start .args .wanted) (condIn (start .args .condition)) (flagAt (start .args .arm .now)) in
     sym (ap (some p) (exits start .idle (c .before .before .if1 .taken)) ∙ some-one p (idleAt (start .args .s)) (c .leads .result) (sym (c .leads .ensures)))
 
 loop-holds : tie.Need-loop-holds Inv-loop μ-loop
 loop-holds c =
     let start = c .before .before .before .before in
     let some-exit : getD (start .args .begins .now) (start .args .s) 0 < getD (start .args .begins .now) (start .args .s + 1) 0 = differs _ _ (exits start .ordered) (c .if1 .left) in
-    let p : Step → Bool = leadsAsWanted (start .args .wanted) (condOf (start .args .condition)) (flagAt (start .args .arm .now)) in
+    let p : Step → Bool = leadsAsWanted (start .args .wanted) (condIn (start .args .condition)) (flagAt (start .args .arm .now)) in
     (exits start .ordered, exits start .few, ap (some p) (exits start .together some-exit))
 
 transition-at-requires : tie.Need-transition-at-requires Inv-loop μ-loop
@@ -96,7 +96,7 @@ returns-2 : tie.Need-returns-2 Inv-loop μ-loop
 returns-2 c =
     let loop = c .before .before .before .before .before in
     let start = loop .before .before .before .before .before in
-    let p : Step → Bool = leadsAsWanted (start .args .wanted) (condOf (start .args .condition)) (flagAt (start .args .arm .now)) in
+    let p : Step → Bool = leadsAsWanted (start .args .wanted) (condIn (start .args .condition)) (flagAt (start .args .arm .now)) in
     sym (loop .loop .inv .2 ∙ some-found p _ (idleAt 0) _ (loop .loop .inv .1) (loop .loop .k) (c .before .before .before .before .loop-test .taken) (outcome (c .before) ∙ c .if2 .taken))
 
 add-k : tie.Need-add-k Inv-loop μ-loop
@@ -109,13 +109,13 @@ loop-again : tie.Need-loop-again Inv-loop μ-loop
 loop-again c =
     let loop = c .before .before .before .before .before in
     let start = loop .before .before .before .before .before in
-    let p : Step → Bool = leadsAsWanted (start .args .wanted) (condOf (start .args .condition)) (flagAt (start .args .arm .now)) in
+    let p : Step → Bool = leadsAsWanted (start .args .wanted) (condIn (start .args .condition)) (flagAt (start .args .arm .now)) in
     (omega (arith, c .before .before .before .before .loop-test .taken), loop .loop .inv .1, loop .loop .inv .2 ∙ some-later p _ (idleAt 0) _ (loop .loop .inv .1) (loop .loop .k) (c .before .before .before .before .loop-test .taken) (outcome (c .before) ∙ c .if2 .left))
 
 returns-3 : tie.Need-returns-3 Inv-loop μ-loop
 returns-3 c =
     let start = c .before .before .before .before .before .before in
-    let p : Step → Bool = leadsAsWanted (start .args .wanted) (condOf (start .args .condition)) (flagAt (start .args .arm .now)) in
+    let p : Step → Bool = leadsAsWanted (start .args .wanted) (condIn (start .args .condition)) (flagAt (start .args .arm .now)) in
     let done : c .before .loop .k ≡ getD (start .args .begins .now) (start .args .s + 1) 0 = omega arith in
     sym (c .before .loop .inv .2 ∙ some-none p _ _ _ done)
 

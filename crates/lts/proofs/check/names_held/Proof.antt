@@ -8,7 +8,7 @@ use Rattle.lts.specs.Steps.{labels}
 use Rattle.lts.specs.Prepared.{tableIn, byteAt}
 use Rattle.lts.specs.Check.{NameHeld, NewName}
 use Rattle.lts.proofs.Laws.Decides.{decided-yes, decided-no}
-use Rattle.lts.proofs.Laws.Spelling.{spelled-of}
+use Rattle.lts.proofs.Laws.SlotNames.{name-few}
 use Rattle.lts.proofs.check.names_held.Statement.{statement}
 use Rattle.lts.proofs.check.names_held.Tie as tie
 
@@ -41,11 +41,10 @@ new-name-requires c κs =
     let b = start .args .table .now in
     let k = c .before .before .before .loop .k in
     let inv = c .before .before .before .loop .inv in
-    let few : k < labels (tableIn b) = omega (arith, inv .1, c .before .before .loop-test .taken) in
+    let few : k < 40 = omega (arith, inv .1, start .pre .1, c .before .before .loop-test .taken) in
     let small : byteAt b (6 + k * 16) < 256 = omega (arith, c .before .before .before .before .before .shared-slice-known .given (6 + k * 16)) in
     let held = c .before .name-held .ensures .yes (not-false _ (c .if1 .left)) in
-    let short : byteAt b (6 + k * 16) ≤ 12 = spelled-of b k (start .pre .0) (omega (arith, start .pre .1)) small (held .name) .short in
-    (start .pre .0, (start .pre .1, (few, short)))
+    (start .pre .0, (few, name-few b (start .pre .0) k few small (held .name) .1))
 
 returns-2 : tie.Need-returns-2 Inv-loop μ-loop
 returns-2 c =

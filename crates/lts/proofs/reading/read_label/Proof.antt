@@ -1,23 +1,48 @@
 -- `read_label` says what one more line of a label makes of the reading, and keeps its name.
 use borrow.Author.Needs.{needs}
-use mathlib.Core.Path.{sym, ap, ap₂, _∙_, subst}
-use Prim.Native.Nat.{_+_, _-_, _*_}
-use lib.ListN.{take, drop, length-take}
+use mathlib.Core.Path.{_≡_, sym, ap, ap₂, _∙_, subst}
+use mathlib.Core.Bool.{Bool, true, false}
+use mathlib.Core.List.{List}
+use Prim.Native.Nat.{ℕ, _+_, _-_, _*_}
+use lib.ListN.{length, take, drop, length-take}
 use native.Mathlib.Omega.{arith}
-use Rattle.lts.proofs.Laws.Turns.{label-refused, label-out-of-turn, label-repeated, label-accepted}
+use Rattle.lts.proofs.Laws.Progress.{label-refused, label-out-of-order, label-repeated, label-accepted}
 use Rattle.lts.proofs.Laws.SlotBytes.{name-written, used-stored}
 use Rattle.lts.proofs.Laws.NameRuns.{name-short}
 use Rattle.lts.proofs.Lists.{and-true-of}
-use Rattle.lts.specs.Slots.{written, counted}
-use Rattle.lts.specs.Lines.{LabelSays}
+use Rattle.lts.specs.Lists.{every}
+use Rattle.lts.specs.Slots.{counted, nameBytes}
+use Rattle.lts.specs.Lines.{Labelled, LabelSays}
 use Rattle.lts.specs.Reading.{used}
 use Rattle.lts.specs.Text.{labelLine}
 use Rattle.lts.specs.Names.{isName}
+use Rattle.lts.specs.Access.{isSome, foundIn}
 use Rattle.columns.specs.Columns.{valueAt}
+use Rattle.columns.specs.Write.{pasted}
 use Rattle.columns.specs.Bytes.{sameBytes}
 use Rattle.lts.proofs.reading.read_label.Statement.{statement}
 use Rattle.lts.proofs.reading.read_label.Tie as tie
-use Rattle.lts.proofs.reading.read_label.Reads as reads
+
+-- The line that was read, and where it was.
+abbrev entry : tie.After-known-told → tie.Start
+entry c = c .before .before .before .before .before .before
+
+abbrev end : tie.After-known-told → ℕ
+end c = c .before .number .given .0 .1 .0
+
+line : (c : tie.After-known-told) → Labelled (entry c .args .text .now) (entry c .args .at) (c .before .number .given .0 .0) (end c)
+line c = subst (LabelSays (entry c .args .text .now) (entry c .args .at)) (c .before .number .given .1) (c .before .before .before .label-line .ensures)
+
+-- Whether its name was found among those before it.
+abbrev known : tie.After-find → tie.After-known-told
+known c = c .before .before .before .before
+
+used-before : (c : tie.After-find) (t : Bool) → isSome (foundIn (c .find .result)) ≡ t → (names : List (List ℕ)) → length names ≡ entry (known c) .args .count
+    → every isName names ≡ true → entry (known c) .args .names .now ≡ nameBytes names → used names (drop 7 (line (known c) .bytes)) ≡ t
+used-before c t h names e f g =
+    let a = entry (known c) .args in
+    let name = take (end (known c) - (a .at + 7)) (drop (a .at + 7) (a .text .now)) in
+    ap (used names) (line (known c) .name) ∙ sym (used-stored (a .names .now) (a .count) names name e f g) ∙ sym (ap isSome (c .find .ensures)) ∙ h
 
 add-line : tie.Need-add-line
 add-line c = search needs
@@ -33,8 +58,9 @@ enum-told c = search needs
 
 returns : tie.Need-returns
 returns c =
-    let s = c .before .before .before .before .before .args .text .now in
-    let at = c .before .before .before .before .before .args .at in
+    let start = c .before .before .before .before .before in
+    let s = start .args .text .now in
+    let at = start .args .at in
     λ h left names e f g. label-refused h s at left names _ (omega arith) (subst (LabelSays s at) (c .enum-told .given .1) (c .before .before .label-line .ensures))
 
 add-if1 : tie.Need-add-if1
@@ -42,122 +68,90 @@ add-if1 c = search needs
 
 returns-2 : tie.Need-returns-2
 returns-2 c =
-    let s = c .before .before .before .before .before .before .before .args .text .now in
-    let at = c .before .before .before .before .before .before .before .args .at in
-    let count = c .before .before .before .before .before .before .before .args .count in
-    let l = subst (LabelSays s at) (c .before .before .number .given .1) (c .before .before .before .before .label-line .ensures) in
-    let end = c .before .before .number .given .0 .1 .0 in
-    λ h left names e f g. label-out-of-turn h s at left names (end + 1) (l .bytes) (l .lies) _ (omega arith) (λ z. c .if1 .taken (omega (arith, l .numbered)))
+    let a = entry (c .before) .args in
+    let l = line (c .before) in
+    λ h left names e f g.
+    label-out-of-order h (a .text .now) (a .at) left names (end (c .before) + 1) (l .bytes) (l .lies) _ (omega arith) (λ z. c .if1 .taken (omega (arith, l .numbered)))
 
 add-from : tie.Need-add-from
 add-from c = search needs
 
-sub-name-used : tie.Need-sub-name-used
-sub-name-used c =
-    let s = c .before .before .before .before .before .before .before .before .args .text .now in
-    let at = c .before .before .before .before .before .before .before .before .args .at in
-    let count = c .before .before .before .before .before .before .before .before .args .count in
-    let l = subst (LabelSays s at) (c .before .before .before .number .given .1) (c .before .before .before .before .before .label-line .ensures) in
-    omega (arith, l .starts)
+sub-find : tie.Need-sub-find
+sub-find c = omega (arith, line (c .before .before) .starts)
 
-part-name-used-start : tie.Need-part-name-used-start
-part-name-used-start c =
-    let s = c .before .before .before .before .before .before .before .before .args .text .now in
-    let at = c .before .before .before .before .before .before .before .before .args .at in
-    let count = c .before .before .before .before .before .before .before .before .args .count in
-    let l = subst (LabelSays s at) (c .before .before .before .number .given .1) (c .before .before .before .before .before .label-line .ensures) in
-    omega (arith, l .starts)
+part-find-start : tie.Need-part-find-start
+part-find-start c = omega (arith, line (c .before .before) .starts)
 
-part-name-used-end : tie.Need-part-name-used-end
-part-name-used-end c =
-    let s = c .before .before .before .before .before .before .before .before .args .text .now in
-    let at = c .before .before .before .before .before .before .before .before .args .at in
-    let count = c .before .before .before .before .before .before .before .before .args .count in
-    let l = subst (LabelSays s at) (c .before .before .before .number .given .1) (c .before .before .before .before .before .label-line .ensures) in
-    omega (arith, l .lies .within)
+part-find-end : tie.Need-part-find-end
+part-find-end c = omega (arith, line (c .before .before) .lies .within)
 
-name-used-requires : tie.Need-name-used-requires
-name-used-requires c κs =
-    let s = c .before .before .before .before .before .before .before .before .before .args .text .now in
-    let at = c .before .before .before .before .before .before .before .before .before .args .at in
-    let count = c .before .before .before .before .before .before .before .before .before .args .count in
-    let l = subst (LabelSays s at) (c .before .before .before .before .number .given .1) (c .before .before .before .before .before .before .label-line .ensures) in
-    let end = c .before .before .before .before .number .given .0 .1 .0 in
-    omega (arith, l .ends, length-take (end - (at + 7)) (drop (at + 7) s))
+find-requires : tie.Need-find-requires
+find-requires c κs =
+    let read = c .before .before .before in
+    let a = entry read .args in
+    omega (arith, line read .ends, length-take (end read - (a .at + 7)) (drop (a .at + 7) (a .text .now)))
+
+enum-told-2 : tie.Need-enum-told-2
+enum-told-2 c = search needs
 
 same-length : tie.Need-same-length
 same-length c = search needs
 
 returns-3 : tie.Need-returns-3
 returns-3 c =
-    let s = c .before .before .before .before .before .before .before .before .before .before .before .args .text .now in
-    let at = c .before .before .before .before .before .before .before .before .before .before .before .args .at in
-    let count = c .before .before .before .before .before .before .before .before .before .before .before .args .count in
-    let l = subst (LabelSays s at) (c .before .before .before .before .before .before .number .given .1) (c .before .before .before .before .before .before .before .before .label-line .ensures) in
-    let end = c .before .before .before .before .before .before .number .given .0 .1 .0 in
+    let numbered = c .before .before .before .before .before in
+    let read = numbered .before in
+    let a = entry read .args in
+    let l = line read in
     λ h left names e f g.
-    label-repeated h s at left names (end + 1) (l .bytes) (l .lies) _ (omega arith) (omega (arith, l .numbered, c .before .before .before .before .if1 .left))
-    (ap (used names) (l .name) ∙ sym (used-stored (c .before .before .before .before .before .before .before .before .before .before .before .args .names .now) count names (take (c .before .before .before .before .before .before .number .given .0 .1 .0 - (at + 7)) (drop (at + 7) s)) e f g) ∙ sym (c .before .name-used .ensures) ∙ c .if2 .taken)
+    label-repeated h (a .text .now) (a .at) left names (end read + 1) (l .bytes) (l .lies) _ (omega arith) (omega (arith, l .numbered, numbered .if1 .left))
+    (used-before (c .before .before) true (ap (λ r. isSome (foundIn r)) (c .enum-told2 .given .1)) names e f g)
+
+enum-told-3 : tie.Need-enum-told-3
+enum-told-3 c = search needs
 
 sub-write-name : tie.Need-sub-write-name
-sub-write-name c =
-    let s = c .before .before .before .before .before .before .before .before .before .before .before .before .args .text .now in
-    let at = c .before .before .before .before .before .before .before .before .before .before .before .before .args .at in
-    let count = c .before .before .before .before .before .before .before .before .before .before .before .before .args .count in
-    let l = subst (LabelSays s at) (c .before .before .before .before .before .before .before .number .given .1) (c .before .before .before .before .before .before .before .before .before .label-line .ensures) in
-    omega (arith, l .starts)
+sub-write-name c = omega (arith, line (c .before .before .before .before .before .before .before) .starts)
 
 part-write-name-start : tie.Need-part-write-name-start
-part-write-name-start c =
-    let s = c .before .before .before .before .before .before .before .before .before .before .before .before .args .text .now in
-    let at = c .before .before .before .before .before .before .before .before .before .before .before .before .args .at in
-    let count = c .before .before .before .before .before .before .before .before .before .before .before .before .args .count in
-    let l = subst (LabelSays s at) (c .before .before .before .before .before .before .before .number .given .1) (c .before .before .before .before .before .before .before .before .before .label-line .ensures) in
-    omega (arith, l .starts)
+part-write-name-start c = omega (arith, line (c .before .before .before .before .before .before .before) .starts)
 
 part-write-name-end : tie.Need-part-write-name-end
-part-write-name-end c =
-    let s = c .before .before .before .before .before .before .before .before .before .before .before .before .args .text .now in
-    let at = c .before .before .before .before .before .before .before .before .before .before .before .before .args .at in
-    let count = c .before .before .before .before .before .before .before .before .before .before .before .before .args .count in
-    let l = subst (LabelSays s at) (c .before .before .before .before .before .before .before .number .given .1) (c .before .before .before .before .before .before .before .before .before .label-line .ensures) in
-    omega (arith, l .lies .within)
+part-write-name-end c = omega (arith, line (c .before .before .before .before .before .before .before) .lies .within)
 
 write-name-requires : tie.Need-write-name-requires
 write-name-requires c κs =
-    let s = c .before .before .before .before .before .before .before .before .before .before .before .before .before .args .text .now in
-    let at = c .before .before .before .before .before .before .before .before .before .before .before .before .before .args .at in
-    let count = c .before .before .before .before .before .before .before .before .before .before .before .before .before .args .count in
-    let l = subst (LabelSays s at) (c .before .before .before .before .before .before .before .before .number .given .1) (c .before .before .before .before .before .before .before .before .before .before .label-line .ensures) in
-    let end = c .before .before .before .before .before .before .before .before .number .given .0 .1 .0 in
-    omega (arith, l .ends, length-take (end - (at + 7)) (drop (at + 7) s), c .before .before .before .before .before .before .before .before .before .before .before .before .before .pre)
+    let read = c .before .before .before .before .before .before .before .before in
+    let a = entry read .args in
+    omega (arith, line read .ends, length-take (end read - (a .at + 7)) (drop (a .at + 7) (a .text .now)), entry read .pre)
 
-add-t11 : tie.Need-add-t11
-add-t11 c =
-    let s = c .before .before .before .before .before .before .before .before .before .before .before .before .before .before .before .before .args .text .now in
-    let at = c .before .before .before .before .before .before .before .before .before .before .before .before .before .before .before .before .args .at in
-    let count = c .before .before .before .before .before .before .before .before .before .before .before .before .before .before .before .before .args .count in
-    let l = subst (LabelSays s at) (c .before .before .before .before .before .before .before .before .before .before .before .number .given .1) (c .before .before .before .before .before .before .before .before .before .before .before .before .before .label-line .ensures) in
-    omega (arith, l .lies .within, c .before .before .before .before .before .before .before .before .before .before .before .before .before .before .before .before .good .0 .0)
+add-t12 : tie.Need-add-t12
+add-t12 c =
+    let read = c .before .before .before .before .before .before .before .before .before .before .before in
+    omega (arith, line read .lies .within, entry read .good .0 .0)
 
 same-length-2 : tie.Need-same-length-2
 same-length-2 c = search needs
 
 returns-4 : tie.Need-returns-4
 returns-4 c =
-    let s = c .before .before .before .before .before .before .before .before .before .before .before .before .before .before .before .before .args .text .now in
-    let at = c .before .before .before .before .before .before .before .before .before .before .before .before .before .before .before .before .args .at in
-    let count = c .before .before .before .before .before .before .before .before .before .before .before .before .before .before .before .before .args .count in
-    let l = subst (LabelSays s at) (c .before .before .before .before .before .before .before .before .before .before .before .number .given .1) (c .before .before .before .before .before .before .before .before .before .before .before .before .before .label-line .ensures) in
-    let end = c .before .before .before .before .before .before .before .before .before .before .before .number .given .0 .1 .0 in
-    let named = and-true-of (sameBytes (l .bytes) (labelLine (valueAt 0 (l .bytes)) (drop 7 (l .bytes)))) (isName (drop 7 (l .bytes))) (l .lies .laid-out) .1 in
+    let told = c .before .before .before .before .before in
+    let found = told .before .before in
+    let read = known found in
+    let start = entry read in
+    let count = start .args .count in
+    let l = line read in
+    let bytes = l .bytes in
+    let named = and-true-of (sameBytes bytes (labelLine (valueAt 0 bytes) (drop 7 bytes))) (isName (drop 7 bytes)) (l .lies .laid-out) .1 in
+    let fresh = used-before found false (ap (λ r. isSome (foundIn r)) (told .enum-told3 .given .1)) in
     λ h left names e f g. record {
-      name = drop 7 (l .bytes);
+      name = drop 7 bytes;
       is-name = named;
       within = l .lies .within;
-      reads = label-accepted h s at left names (end + 1) (l .bytes) (l .lies) (omega (arith, l .numbered, c .before .before .before .before .before .before .before .before .before .if1 .left)) (ap (used names) (l .name) ∙ sym (used-stored (c .before .before .before .before .before .before .before .before .before .before .before .before .before .before .before .before .args .names .now) count names (take (c .before .before .before .before .before .before .before .before .before .before .before .number .given .0 .1 .0 - (at + 7)) (drop (at + 7) s)) e f g) ∙ sym (c .before .before .before .before .before .before .name-used .ensures) ∙ c .before .before .before .before .before .if2 .left);
-      kept = c .before .before .write-name .ensures ∙ ap₂ (λ x y. written x (count * 16) (counted y)) g (sym (l .name))
-          ∙ name-written names (drop 7 (l .bytes)) count e (c .before .before .before .before .before .before .before .before .before .before .before .before .before .before .before .before .pre .1 .1) f (name-short (drop 7 (l .bytes)) named .1);
+      reads = label-accepted h (start .args .text .now) (start .args .at) left names (end read + 1) bytes (l .lies)
+          (omega (arith, l .numbered, found .before .before .before .if1 .left)) (fresh names e f g);
+      kept = c .before .before .write-name .ensures ∙ ap₂ (λ x y. pasted x (count * 16) (counted y)) g (sym (l .name))
+          ∙ name-written names (drop 7 bytes) count e (start .pre .1 .1) f (name-short (drop 7 bytes) named .1);
     }
 
 pub read-label-spec : {M : Type 1} → statement M
@@ -172,16 +166,18 @@ read-label-spec =
     add-if1
     returns-2
     add-from
-    sub-name-used
-    part-name-used-start
-    part-name-used-end
-    name-used-requires
+    sub-find
+    part-find-start
+    part-find-end
+    find-requires
+    enum-told-2
     same-length
     returns-3
+    enum-told-3
     sub-write-name
     part-write-name-start
     part-write-name-end
     write-name-requires
-    add-t11
+    add-t12
     same-length-2
     returns-4)

@@ -6,7 +6,7 @@ use borrow.Author.Needs.{needs}
 use native.Mathlib.Omega.{arith}
 use Rattle.lts.proofs.Laws.Readings.{NamesSoFar, names-start, names-refused, names-go-on, names-end}
 use Rattle.lts.specs.Lines.{header}
-use Rattle.lts.specs.Turns.{LabelTurn, LabelsRead}
+use Rattle.lts.specs.Progress.{LabelProgress, LabelsRead}
 use Rattle.lts.proofs.reading.read_labels.Statement.{statement}
 use Rattle.lts.proofs.reading.read_labels.Tie as tie
 
@@ -24,14 +24,16 @@ loop-holds c =
 read-label-requires : tie.Need-read-label-requires Inv-loop μ-loop
 read-label-requires c κs = let l = c .before .before .before .loop in omega (arith, l .inv .0 .within, l .inv .0 .few)
 
-enum-known-turn : tie.Need-enum-known-turn Inv-loop μ-loop
-enum-known-turn c = search needs
+enum-known-progress : tie.Need-enum-known-progress Inv-loop μ-loop
+enum-known-progress c = search needs
 
 enum-told : tie.Need-enum-told Inv-loop μ-loop
 enum-told c = search needs
 
 same-length : tie.Need-same-length Inv-loop μ-loop
-same-length c = c .before .before .before .before .read-label .kept .1 .1 .0 ∙ c .before .before .before .before .before .before .before .before .loop .inv .1 ∙ sym (ap length (c .before .before .before .before .before .before .before .before .before .before .before .pre .1 .0))
+same-length c =
+    let begin = c .before .before .before .before .before .before .before .before in
+    c .before .before .before .before .read-label .kept .1 .1 .0 ∙ begin .loop .inv .1 ∙ sym (ap length (begin .before .before .before .pre .1 .0))
 
 returns : tie.Need-returns Inv-loop μ-loop
 returns c =
@@ -41,9 +43,10 @@ returns c =
     let l = c .before .before .before .before .before .before .before .before .loop in
     let d = c .before .before .before .before .read-label .last .1 .1 .0 in
     let r = l .inv .0 in
-    let f = subst (LabelTurn s (l .at) (l .count) (l .names) d) (c .enum-told .given .1) (c .before .before .before .before .read-label .ensures) in
+    let f = subst (LabelProgress s (l .at) (l .count) (l .names) d) (c .enum-told .given .1) (c .before .before .before .before .read-label .ensures) in
     subst (LabelsRead h s (a .from) d) (sym (c .enum-told .given .1))
-    (names-refused h s (a .from) (l .names) (l .at) (l .count) r (c .before .before .before .before .before .before .if1 .taken) (f h (h .labels - (l .count + 1)) (r .names) (r .counts) (r .all-names) (r .kept)))
+    (names-refused h s (a .from) (l .names) (l .at) (l .count) r (c .before .before .before .before .before .before .if1 .taken)
+    (f h (h .labels - (l .count + 1)) (r .names) (r .counts) (r .all-names) (r .kept)))
 
 add-count : tie.Need-add-count Inv-loop μ-loop
 add-count c = omega arith
@@ -59,8 +62,9 @@ loop-again c =
     let l = c .before .before .before .before .before .before .before .before .before .loop in
     let d = c .before .before .before .before .before .read-label .last .1 .1 .0 in
     let r = l .inv .0 in
-    let f = subst (LabelTurn s (l .at) (l .count) (l .names) d) (c .before .turn .given .1) (c .before .before .before .before .before .read-label .ensures) in (
-      names-go-on h s (a .from) (l .names) (l .at) (l .count) r (c .before .before .before .before .before .before .before .if1 .taken) (c .before .turn .given .0 .0) d (f h (h .labels - (l .count + 1)) (r .names) (r .counts) (r .all-names) (r .kept)),
+    let f = subst (LabelProgress s (l .at) (l .count) (l .names) d) (c .before .progress .given .1) (c .before .before .before .before .before .read-label .ensures) in (
+      names-go-on h s (a .from) (l .names) (l .at) (l .count) r (c .before .before .before .before .before .before .before .if1 .taken) (c .before .progress .given .0 .0) d
+          (f h (h .labels - (l .count + 1)) (r .names) (r .counts) (r .all-names) (r .kept)),
       c .before .before .before .before .before .read-label .kept .1 .1 .0 ∙ l .inv .1,
     )
 
@@ -83,7 +87,7 @@ read-labels-spec =
     μ-loop
     loop-holds
     read-label-requires
-    enum-known-turn
+    enum-known-progress
     enum-told
     same-length
     returns

@@ -1,23 +1,57 @@
 -- `read_table` answers `tableReplied` and leaves `tableLeft`.
 use borrow.Author.Needs.{needs}
-use mathlib.Core.Path.{refl, sym, ap, ap₂, _∙_, subst}
+use Prim.Native.Nat.{ℕ}
+use mathlib.Core.Path.{_≡_, refl, sym, ap, ap₂, _∙_, subst}
 use borrow.Author.Tests.{not-true, not-false}
-use mathlib.Core.List.{_++_}
-use Rattle.lts.proofs.Laws.Tables.{header-refused, header-out-of-range, header-accepted, header-bounds, table-bytes, short-replies, refused-replies, accepted-replies}
+use mathlib.Core.Bool.{true}
+use lib.ListN.{drop}
+use mathlib.Core.List.{List, [], _++_}
+use Rattle.lts.proofs.Laws.Tables.{header-refused, header-out-of-range, header-accepted, HeaderBounds, header-bounds, table-bytes, short-replies, refused-replies, accepted-replies}
 use Rattle.lts.proofs.Laws.Readings.{refuses-whole}
 use Rattle.lts.specs.Slots.{headBytes}
+use Rattle.lts.specs.Reading.{Header, headerInRange, readLabels, readTable}
 use Rattle.lts.specs.Lines.{header, HeaderSays}
-use Rattle.lts.specs.Turns.{LabelsRead, TransitionsRead}
+use Rattle.lts.specs.Progress.{LabelsRead, NamesRead, TransitionsRead}
 use Rattle.lts.specs.Reply.{overwritten}
 use Rattle.lts.proofs.reading.read_table.Statement.{statement}
 use Rattle.lts.proofs.reading.read_table.Tie as tie
-use Rattle.lts.proofs.reading.read_table.Reads as reads
+
+-- A header in range.
+abbrev entry : tie.Else2 → tie.Start
+entry c = c .before .before .before .before .before .before .before .before .before
+
+abbrev text : tie.Else2 → List ℕ
+text c = entry c .args .text .now
+
+abbrev fields : tie.Else2 → Header
+fields c = header (c .before .before .before .counts .given .0 .0)
+
+in-range : (c : tie.Else2) → headerInRange (fields c) ≡ true
+in-range c = sym (c .before .header-in-range .ensures) ∙ not-false _ (c .if2 .left)
+
+bounds : (c : tie.Else2) → HeaderBounds (fields c)
+bounds c = header-bounds (fields c) (in-range c)
+
+labels-left : (c : tie.Else2) → readTable (text c) ≡ readLabels (fields c) (fields c .labels) [] (drop 25 (text c))
+labels-left c =
+    let (l, lies, values) = subst (HeaderSays (text c)) (c .before .before .before .counts .given .1) (c .before .before .before .before .before .header-line .ensures) in
+    header-accepted (text c) l lies (fields c) values (in-range c)
+
+-- All names read.
+abbrev begun : tie.After-labels-read2 → tie.Else2
+begun c = c .before .before .before .before .before
+
+abbrev behind : tie.After-labels-read2 → ℕ
+behind c = c .labels-read2 .given .0 .0
+
+abbrev name-slots : tie.After-labels-read2 → List ℕ
+name-slots c = c .before .before .before .read-labels .last .1 .1 .1 .0
+
+names : (c : tie.After-labels-read2) → NamesRead (fields (begun c)) (text (begun c)) 25 (behind c) (name-slots c)
+names c = subst (LabelsRead (fields (begun c)) (text (begun c)) 25 (name-slots c)) (c .labels-read2 .given .1) (c .before .before .before .read-labels .ensures)
 
 returns : tie.Need-returns
-returns c =
-    let s = c .before .before .before .args .text .now in
-    let b = c .before .before .before .args .table .now in
-    short-replies s b (c .if1 .taken)
+returns c = let a = c .before .before .before .args in short-replies (a .text .now) (a .table .now) (c .if1 .taken)
 
 header-line-requires : tie.Need-header-line-requires
 header-line-requires c κs = search needs
@@ -30,32 +64,29 @@ enum-told c = search needs
 
 returns-2 : tie.Need-returns-2
 returns-2 c =
-    let s = c .before .before .before .before .before .before .args .text .now in
-    let b = c .before .before .before .before .before .before .args .table .now in
-    refused-replies s b (c .before .before .before .if1 .left) (header-refused s (subst (HeaderSays s) (c .enum-told .given .1) (c .before .before .header-line .ensures)))
+    let a = c .before .before .before .before .before .before .args in
+    let s = a .text .now in
+    refused-replies s (a .table .now) (c .before .before .before .if1 .left) (header-refused s (subst (HeaderSays s) (c .enum-told .given .1) (c .before .before .header-line .ensures)))
 
 header-in-range-requires : tie.Need-header-in-range-requires
 header-in-range-requires c κs = search needs
 
 returns-3 : tie.Need-returns-3
 returns-3 c =
-    let s = c .before .before .before .before .before .before .before .before .before .args .text .now in
-    let b = c .before .before .before .before .before .before .before .before .before .args .table .now in
+    let a = c .before .before .before .before .before .before .before .before .before .args in
+    let s = a .text .now in
     let h = header (c .before .before .before .counts .given .0 .0) in
     let (l, lies, values) = subst (HeaderSays s) (c .before .before .before .counts .given .1) (c .before .before .before .before .before .header-line .ensures) in
-    refused-replies s b (c .before .before .before .before .before .before .if1 .left) (header-out-of-range s l lies h values (sym (c .before .header-in-range .ensures) ∙ not-true _ (c .if2 .taken)))
+    refused-replies s (a .table .now) (c .before .before .before .before .before .before .if1 .left) (header-out-of-range s l lies h values (sym (c .before .header-in-range .ensures) ∙ not-true _ (c .if2 .taken)))
 
 slice-aggregate-read-labels : tie.Need-slice-aggregate-read-labels
 slice-aggregate-read-labels c = search needs
 
 read-labels-requires : tie.Need-read-labels-requires
 read-labels-requires c κs =
-    let s = c .before .before .before .before .before .before .before .before .before .before .args .text .now in
-    let b = c .before .before .before .before .before .before .before .before .before .before .args .table .now in
-    let h = header (c .before .before .before .before .counts .given .0 .0) in
+    let s = text (c .before) in
     let (l, lies, values) = subst (HeaderSays s) (c .before .before .before .before .counts .given .1) (c .before .before .before .before .before .before .header-line .ensures) in
-    let bounds = header-bounds h (sym (c .before .before .header-in-range .ensures) ∙ not-false _ (c .before .if2 .left)) in
-    (lies .within, (refl, bounds .labels))
+    (lies .within, (refl, bounds (c .before) .labels))
 
 enum-known-labels-read : tie.Need-enum-known-labels-read
 enum-known-labels-read c = search needs
@@ -68,13 +99,9 @@ slice-aggregate-read-transitions c = search needs
 
 read-transitions-requires : tie.Need-read-transitions-requires
 read-transitions-requires c κs =
-    let s = c .before .before .before .before .before .before .before .before .before .before .before .before .before .before .before .before .args .text .now in
-    let b = c .before .before .before .before .before .before .before .before .before .before .before .before .before .before .before .before .args .table .now in
-    let h = header (c .before .before .before .before .before .before .before .before .before .before .counts .given .0 .0) in
-    let (l, lies, values) = subst (HeaderSays s) (c .before .before .before .before .before .before .before .before .before .before .counts .given .1) (c .before .before .before .before .before .before .before .before .before .before .before .before .header-line .ensures) in
-    let bounds = header-bounds h (sym (c .before .before .before .before .before .before .before .before .header-in-range .ensures) ∙ not-false _ (c .before .before .before .before .before .before .before .if2 .left)) in
-    let read = subst (LabelsRead h s 25 (c .before .before .before .before .before .read-labels .last .1 .1 .1 .0)) (c .before .before .labels-read2 .given .1) (c .before .before .before .before .before .read-labels .ensures) in
-    ((read .within, refl), (bounds .states, (bounds .labels, bounds .transitions)))
+    let named = c .before .before in
+    let fits = bounds (begun named) in
+    ((names named .within, refl), (fits .states, (fits .labels, fits .transitions)))
 
 enum-known-transitions-read : tie.Need-enum-known-transitions-read
 enum-known-transitions-read c = search needs
@@ -90,50 +117,44 @@ slice-aggregate-write-table-2 c = search needs
 
 write-table-requires : tie.Need-write-table-requires
 write-table-requires c κs =
-    let s = c .before .before .before .before .before .before .before .before .before .before .before .before .before .before .before .before .before .before .before .before .before .before .before .args .text .now in
-    let b = c .before .before .before .before .before .before .before .before .before .before .before .before .before .before .before .before .before .before .before .before .before .before .before .args .table .now in
-    let h = header (c .before .before .before .before .before .before .before .before .before .before .before .before .before .before .before .before .before .counts .given .0 .0) in
-    let (l, lies, values) = subst (HeaderSays s) (c .before .before .before .before .before .before .before .before .before .before .before .before .before .before .before .before .before .counts .given .1) (c .before .before .before .before .before .before .before .before .before .before .before .before .before .before .before .before .before .before .before .header-line .ensures) in
-    let bounds = header-bounds h (sym (c .before .before .before .before .before .before .before .before .before .before .before .before .before .before .before .header-in-range .ensures) ∙ not-false _ (c .before .before .before .before .before .before .before .before .before .before .before .before .before .before .if2 .left)) in (
-      (c .before .before .before .before .before .before .before .before .before .before .before .before .before .before .before .before .before .before .before .before .if1 .left, (c .before .before .before .before .before .before .before .before .before .before .before .before .read-labels .kept .1 .1 .1 .0, c .before .before .before .before .before .before .read-transitions .kept .1 .1 .1 .0)),
-      (bounds .states, (bounds .labels, (bounds .transitions, bounds .start))),
-    )
+    let begin = c .before .before .before .before .before .before .before .before .before .before .before .before .before .before in
+    let fits = bounds begin in
+    let long = begin .before .before .before .before .before .before .if1 .left in
+    ((long, (c .before .before .before .before .before .before .before .before .before .before .before .before .read-labels .kept .1 .1 .1 .0, c .before .before .before .before .before .before .read-transitions .kept .1 .1 .1 .0)), (fits .states, (fits .labels, (fits .transitions, fits .start))))
 
 returns-4 : tie.Need-returns-4
 returns-4 c =
-    let s = c .before .before .before .before .before .before .before .before .before .before .before .before .before .before .before .args .text .now in
-    let b = c .before .before .before .before .before .before .before .before .before .before .before .before .before .before .before .args .table .now in
-    let h = header (c .before .before .before .before .before .before .before .before .before .counts .given .0 .0) in
-    let (l, lies, values) = subst (HeaderSays s) (c .before .before .before .before .before .before .before .before .before .counts .given .1) (c .before .before .before .before .before .before .before .before .before .before .before .header-line .ensures) in
-    let read = subst (LabelsRead h s 25 (c .before .before .before .before .read-labels .last .1 .1 .1 .0)) (c .before .labels-read .given .1) (c .before .before .before .before .read-labels .ensures) in
-    refused-replies s b (c .before .before .before .before .before .before .before .before .before .before .before .before .if1 .left) (refuses-whole (header-accepted s l lies h values (sym (c .before .before .before .before .before .before .before .header-in-range .ensures) ∙ not-false _ (c .before .before .before .before .before .before .if2 .left))) read)
+    let begin = c .before .before .before .before .before .before in
+    let after = c .before .before .before .before .read-labels in
+    let refusal = subst (LabelsRead (fields begin) (text begin) 25 (after .last .1 .1 .1 .0)) (c .before .labels-read .given .1) (after .ensures) in
+    let long = begin .before .before .before .before .before .before .if1 .left in
+    refused-replies (text begin) (entry begin .args .table .now) long (refuses-whole (labels-left begin) refusal)
 
 returns-5 : tie.Need-returns-5
 returns-5 c =
-    let s = c .before .before .before .before .before .before .before .before .before .before .before .before .before .before .before .before .before .before .before .before .before .args .text .now in
-    let b = c .before .before .before .before .before .before .before .before .before .before .before .before .before .before .before .before .before .before .before .before .before .args .table .now in
-    let h = header (c .before .before .before .before .before .before .before .before .before .before .before .before .before .before .before .counts .given .0 .0) in
-    let (l, lies, values) = subst (HeaderSays s) (c .before .before .before .before .before .before .before .before .before .before .before .before .before .before .before .counts .given .1) (c .before .before .before .before .before .before .before .before .before .before .before .before .before .before .before .before .before .header-line .ensures) in
-    let read = subst (LabelsRead h s 25 (c .before .before .before .before .before .before .before .before .before .before .read-labels .last .1 .1 .1 .0)) (c .before .before .before .before .before .before .before .labels-read2 .given .1) (c .before .before .before .before .before .before .before .before .before .before .read-labels .ensures) in
-    let at = c .before .before .before .before .before .before .before .labels-read2 .given .0 .0 in
-    let rest = subst (TransitionsRead h s at (c .before .before .before .before .read-transitions .last .1 .1 .1 .0)) (c .before .transitions-read .given .1) (c .before .before .before .before .read-transitions .ensures) in
-    refused-replies s b (c .before .before .before .before .before .before .before .before .before .before .before .before .before .before .before .before .before .before .if1 .left) (refuses-whole (header-accepted s l lies h values (sym (c .before .before .before .before .before .before .before .before .before .before .before .before .before .header-in-range .ensures) ∙ not-false _ (c .before .before .before .before .before .before .before .before .before .before .before .before .if2 .left)) ∙ read .reads) (rest (read .names) (read .counts)))
+    let named = c .before .before .before .before .before .before .before in
+    let begin = begun named in
+    let after = c .before .before .before .before .read-transitions in
+    let refusal = subst (TransitionsRead (fields begin) (text begin) (behind named) (after .last .1 .1 .1 .0)) (c .before .transitions-read .given .1) (after .ensures) in
+    let long = begin .before .before .before .before .before .before .if1 .left in
+    refused-replies (text begin) (entry begin .args .table .now) long
+    (refuses-whole (labels-left begin ∙ names named .reads) (refusal (names named .names) (names named .counts)))
 
 same-length : tie.Need-same-length
 same-length c = search needs
 
 returns-6 : tie.Need-returns-6
 returns-6 c =
-    let s = c .before .before .before .before .before .before .before .before .before .before .before .before .before .before .before .before .before .before .before .before .before .before .before .before .before .before .args .text .now in
-    let b = c .before .before .before .before .before .before .before .before .before .before .before .before .before .before .before .before .before .before .before .before .before .before .before .before .before .before .args .table .now in
-    let h = header (c .before .before .before .before .before .before .before .before .before .before .before .before .before .before .before .before .before .before .before .before .counts .given .0 .0) in
-    let (l, lies, values) = subst (HeaderSays s) (c .before .before .before .before .before .before .before .before .before .before .before .before .before .before .before .before .before .before .before .before .counts .given .1) (c .before .before .before .before .before .before .before .before .before .before .before .before .before .before .before .before .before .before .before .before .before .before .header-line .ensures) in
-    let read = subst (LabelsRead h s 25 (c .before .before .before .before .before .before .before .before .before .before .before .before .before .before .before .read-labels .last .1 .1 .1 .0)) (c .before .before .before .before .before .before .before .before .before .before .before .before .labels-read2 .given .1) (c .before .before .before .before .before .before .before .before .before .before .before .before .before .before .before .read-labels .ensures) in
-    let at = c .before .before .before .before .before .before .before .before .before .before .before .before .labels-read2 .given .0 .0 in
-    let d = c .before .before .before .before .before .before .before .before .before .read-transitions .last .1 .1 .1 .0 in
-    let rest = subst (TransitionsRead h s at d) (c .before .before .before .before .before .before .enum-told2 .given .1) (c .before .before .before .before .before .before .before .before .before .read-transitions .ensures) in
+    let named = c .before .before .before .before .before .before .before .before .before .before .before .before in
+    let begin = begun named in
+    let h = fields begin in
+    let b = entry begin .args .table .now in
+    let read = names named in
+    let after = c .before .before .before .before .before .before .before .before .before .read-transitions in
+    let rest = subst (TransitionsRead h (text begin) (behind named) (after .last .1 .1 .1 .0)) (c .before .before .before .before .before .before .enum-told2 .given .1) (after .ensures) in
     let steps = rest (read .names) (read .counts) in
-    accepted-replies s b (c .before .before .before .before .before .before .before .before .before .before .before .before .before .before .before .before .before .before .before .before .before .before .before .if1 .left) _ (header-accepted s l lies h values (sym (c .before .before .before .before .before .before .before .before .before .before .before .before .before .before .before .before .before .before .header-in-range .ensures) ∙ not-false _ (c .before .before .before .before .before .before .before .before .before .before .before .before .before .before .before .before .before .if2 .left)) ∙ read .reads ∙ steps .reads) _
+    let long = begin .before .before .before .before .before .before .if1 .left in
+    accepted-replies (text begin) b long _ (labels-left begin ∙ read .reads ∙ steps .reads) _
     (c .before .before .write-table .ensures
     ∙ ap (λ x. overwritten x b) (ap₂ (λ x y. headBytes h ++ (x ++ y)) (read .kept) (steps .kept) ∙ table-bytes h (read .names) (steps .steps) (read .counts) (steps .counts)))
 

@@ -1,17 +1,37 @@
 -- `read_transition` says what one more line of a transition makes of the reading, and keeps it.
 use borrow.Author.Needs.{needs}
-use mathlib.Core.Path.{sym, ap, _∙_, subst}
+use mathlib.Core.Path.{_≡_, sym, ap, _∙_, subst}
+use mathlib.Core.Bool.{true}
 use borrow.Author.Tests.{not-true, not-false}
 use Prim.Native.Nat.{_+_, _*_}
 use native.Mathlib.Omega.{arith}
-use Rattle.lts.proofs.Laws.Turns.{transition-refused, transition-out-of-range, transition-not-rising, transition-accepted, in-range}
+use Rattle.lts.proofs.Laws.Progress.{transition-refused, transition-out-of-range, transition-not-rising, transition-accepted, in-range}
 use Rattle.lts.proofs.Laws.SlotBytes.{step-written, rises-stored}
-use Rattle.lts.specs.Slots.{written}
+use Rattle.columns.specs.Write.{pasted}
 use Rattle.lts.specs.Lines.{TransitionSays, header, step}
+use Rattle.lts.specs.Reading.{stepInRange}
 use Rattle.lts.specs.Prepared.{transitionSlot}
+use Rattle.lts.specs.declared.reading.Transition.{Transition}
+use Rattle.lts.specs.declared.reading.TransitionLine.the-variants.{Row}
 use Rattle.lts.proofs.reading.read_transition.Statement.{statement}
 use Rattle.lts.proofs.reading.read_transition.Tie as tie
-use Rattle.lts.proofs.reading.read_transition.Reads as reads
+
+-- The line that was read.
+abbrev entry : tie.After-known-told → tie.Start
+entry c = c .before .before .before .before .before .before .before
+
+abbrev read : tie.After-known-told → Transition
+read c = c .before .t .given .0 .0
+
+says : (c : tie.After-known-told) → TransitionSays (entry c .args .text .now) (entry c .args .at) (Row (read c))
+says c = subst (TransitionSays (entry c .args .text .now) (entry c .args .at)) (c .before .t .given .1) (c .before .before .before .transition-line .ensures)
+
+-- A transition in range, and whether it rises.
+abbrev known : tie.Else1 → tie.After-known-told
+known c = c .before .before
+
+in-bounds : (c : tie.Else1) → stepInRange (header (entry (known c) .args .counts)) (step (read (known c))) ≡ true
+in-bounds c = sym (c .before .transition-in-range .ensures) ∙ not-false _ (c .if1 .left)
 
 add-line : tie.Need-add-line
 add-line c = search needs
@@ -30,22 +50,21 @@ enum-told c = search needs
 
 returns : tie.Need-returns
 returns c =
-    let s = c .before .before .before .before .before .before .args .text .now in
-    let at = c .before .before .before .before .before .before .args .at in
-    let h = header (c .before .before .before .before .before .before .args .counts) in
-    λ left names steps e f g. transition-refused h s at left names steps _ (omega arith) (subst (TransitionSays s at) (c .enum-told .given .1) (c .before .before .transition-line .ensures))
+    let a = c .before .before .before .before .before .before .args in
+    let s = a .text .now in
+    λ left names steps e f g. transition-refused (header (a .counts)) s (a .at) left names steps _ (omega arith)
+    (subst (TransitionSays s (a .at)) (c .enum-told .given .1) (c .before .before .transition-line .ensures))
 
 transition-in-range-requires : tie.Need-transition-in-range-requires
 transition-in-range-requires c κs = search needs
 
 returns-2 : tie.Need-returns-2
 returns-2 c =
-    let s = c .before .before .before .before .before .before .before .before .before .args .text .now in
-    let at = c .before .before .before .before .before .before .before .before .before .args .at in
-    let h = header (c .before .before .before .before .before .before .before .before .before .args .counts) in
-    let t = c .before .before .before .t .given .0 .0 in
-    let (l, lies, values) = subst (TransitionSays s at) (c .before .before .before .t .given .1) (c .before .before .before .before .before .transition-line .ensures) in
-    λ left names steps e f g. transition-out-of-range h s at left names steps (at + 19) l lies (step t) values _ (omega arith) (sym (c .before .transition-in-range .ensures) ∙ not-true _ (c .if1 .taken))
+    let row = c .before .before in
+    let a = entry row .args in
+    let (l, lies, values) = says row in
+    λ left names steps e f g. transition-out-of-range (header (a .counts)) (a .text .now) (a .at) left names steps (a .at + 19) l lies (step (read row)) values _ (omega arith)
+    (sym (c .before .transition-in-range .ensures) ∙ not-true _ (c .if1 .taken))
 
 rises-requires : tie.Need-rises-requires
 rises-requires c κs = search needs
@@ -55,21 +74,20 @@ same-length c = search needs
 
 returns-3 : tie.Need-returns-3
 returns-3 c =
-    let s = c .before .before .before .before .before .before .before .before .before .before .before .before .args .text .now in
-    let at = c .before .before .before .before .before .before .before .before .before .before .before .before .args .at in
-    let h = header (c .before .before .before .before .before .before .before .before .before .before .before .before .args .counts) in
-    let t = c .before .before .before .before .before .before .t .given .0 .0 in
-    let (l, lies, values) = subst (TransitionSays s at) (c .before .before .before .before .before .before .t .given .1) (c .before .before .before .before .before .before .before .before .transition-line .ensures) in
-    λ left names steps e f g. transition-not-rising h s at left names steps (at + 19) l lies (step t) values _ (omega arith)
-    (sym (c .before .before .before .before .transition-in-range .ensures) ∙ not-false _ (c .before .before .before .if1 .left))
-    (sym (rises-stored (c .before .before .before .before .before .before .before .before .before .before .before .before .args .slots .now) (c .before .before .before .before .before .before .before .before .before .before .before .before .args .count) steps (step t) f g) ∙ sym (c .before .rises .ensures) ∙ not-true _ (c .if2 .taken))
+    let ranged = c .before .before .before in
+    let row = known ranged in
+    let a = entry row .args in
+    let t = step (read row) in
+    let (l, lies, values) = says row in
+    λ left names steps e f g. transition-not-rising (header (a .counts)) (a .text .now) (a .at) left names steps (a .at + 19) l lies t values _ (omega arith) (in-bounds ranged)
+    (sym (rises-stored (a .slots .now) (a .count) steps t f g) ∙ sym (c .before .rises .ensures) ∙ not-true _ (c .if2 .taken))
 
 write-transition-requires : tie.Need-write-transition-requires
 write-transition-requires c κs =
-    let h = header (c .before .before .before .before .before .before .before .before .before .before .before .before .before .args .counts) in
-    let t = c .before .before .before .before .before .before .before .t .given .0 .0 in
-    let r = in-range h (step t) (sym (c .before .before .before .before .before .transition-in-range .ensures) ∙ not-false _ (c .before .before .before .before .if1 .left)) in
-    let p = c .before .before .before .before .before .before .before .before .before .before .before .before .before .pre in
+    let ranged = c .before .before .before .before in
+    let row = known ranged in
+    let r = in-range (header (entry row .args .counts)) (step (read row)) (in-bounds ranged) in
+    let p = entry row .pre in
     omega arith
 
 add-t8 : tie.Need-add-t8
@@ -80,17 +98,19 @@ same-length-2 c = search needs
 
 returns-4 : tie.Need-returns-4
 returns-4 c =
-    let s = c .before .before .before .before .before .before .before .before .before .before .before .before .before .before .before .before .args .text .now in
-    let at = c .before .before .before .before .before .before .before .before .before .before .before .before .before .before .before .before .args .at in
-    let h = header (c .before .before .before .before .before .before .before .before .before .before .before .before .before .before .before .before .args .counts) in
-    let t = c .before .before .before .before .before .before .before .before .before .before .t .given .0 .0 in
-    let (l, lies, values) = subst (TransitionSays s at) (c .before .before .before .before .before .before .before .before .before .before .t .given .1) (c .before .before .before .before .before .before .before .before .before .before .before .before .transition-line .ensures) in
+    let risen = c .before .before .before .before in
+    let ranged = risen .before .before .before in
+    let row = known ranged in
+    let start = entry row in
+    let a = start .args in
+    let t = step (read row) in
+    let (l, lies, values) = says row in
     λ left names steps e f g. record {
-      last = step t;
+      last = t;
       within = lies .within;
-      reads = transition-accepted h s at left names steps (at + 19) l lies (step t) values (sym (c .before .before .before .before .before .before .before .before .transition-in-range .ensures) ∙ not-false _ (c .before .before .before .before .before .before .before .if1 .left))
-          (sym (rises-stored (c .before .before .before .before .before .before .before .before .before .before .before .before .before .before .before .before .args .slots .now) (c .before .before .before .before .before .before .before .before .before .before .before .before .before .before .before .before .args .count) steps (step t) f g) ∙ sym (c .before .before .before .before .before .rises .ensures) ∙ not-false _ (c .before .before .before .before .if2 .left));
-      kept = c .before .before .write-transition .ensures ∙ ap (λ b. written b (c .before .before .before .before .before .before .before .before .before .before .before .before .before .before .before .before .args .count * 3) (transitionSlot (step t))) g ∙ step-written steps (step t) (c .before .before .before .before .before .before .before .before .before .before .before .before .before .before .before .before .args .count) f (c .before .before .before .before .before .before .before .before .before .before .before .before .before .before .before .before .pre .0 .1 .1);
+      reads = transition-accepted (header (a .counts)) (a .text .now) (a .at) left names steps (a .at + 19) l lies t values (in-bounds ranged)
+          (sym (rises-stored (a .slots .now) (a .count) steps t f g) ∙ sym (risen .before .rises .ensures) ∙ not-false _ (risen .if2 .left));
+      kept = c .before .before .write-transition .ensures ∙ ap (λ b. pasted b (a .count * 3) (transitionSlot t)) g ∙ step-written steps t (a .count) f (start .pre .0 .1 .1);
     }
 
 pub read-transition-spec : {M : Type 1} → statement M

@@ -1,17 +1,17 @@
--- `read_transitions` reads every transition and the end of the text: the invariant is `InTurn`.
+-- `read_transitions` reads every transition and the end of the text: the invariant is `TransitionsSoFar`.
 use mathlib.Core.Path.{_≡_, refl, sym, ap, _∙_, subst}
 use Prim.Native.Nat.{_+_, _-_}
 use lib.ListN.{length}
 use borrow.Author.Needs.{needs}
 use native.Mathlib.Omega.{arith}
-use Rattle.lts.proofs.Laws.Readings.{steps-start, steps-refused, text-follows, steps-end, InTurn, turn-taken}
+use Rattle.lts.proofs.Laws.Readings.{steps-start, steps-refused, text-follows, steps-end, TransitionsSoFar, line-taken}
 use Rattle.lts.specs.Lines.{header}
-use Rattle.lts.specs.Turns.{TransitionTurn, TransitionsRead}
+use Rattle.lts.specs.Progress.{TransitionProgress, TransitionsRead}
 use Rattle.lts.proofs.reading.read_transitions.Statement.{statement}
 use Rattle.lts.proofs.reading.read_transitions.Tie as tie
 
 abbrev Inv-loop : tie.InvT-loop
-Inv-loop text from counts slots₀ at₀ count₀ slots at count = InTurn counts text from slots at count
+Inv-loop text from counts slots₀ at₀ count₀ slots at count = TransitionsSoFar counts text from slots at count
 
 abbrev μ-loop : tie.MeasureT-loop
 μ-loop text from counts slots₀ at₀ count₀ slots at count = counts .transitions - count
@@ -29,14 +29,16 @@ loop-holds c =
 read-transition-requires : tie.Need-read-transition-requires Inv-loop μ-loop
 read-transition-requires c κs = let l = c .before .before .before .loop in let p = c .before .before .before .before .before .before .pre in omega (arith, l .inv .within, l .inv .few, l .inv .long)
 
-enum-known-turn : tie.Need-enum-known-turn Inv-loop μ-loop
-enum-known-turn c = search needs
+enum-known-progress : tie.Need-enum-known-progress Inv-loop μ-loop
+enum-known-progress c = search needs
 
 enum-told : tie.Need-enum-told Inv-loop μ-loop
 enum-told c = search needs
 
 same-length : tie.Need-same-length Inv-loop μ-loop
-same-length c = c .before .before .before .before .read-transition .kept .1 .1 .1 .0 ∙ c .before .before .before .before .before .before .before .before .loop .inv .long ∙ sym (ap length (c .before .before .before .before .before .before .before .before .before .before .before .pre .0 .1))
+same-length c =
+    let begin = c .before .before .before .before .before .before .before .before in
+    c .before .before .before .before .read-transition .kept .1 .1 .1 .0 ∙ begin .loop .inv .long ∙ sym (ap length (begin .before .before .before .pre .0 .1))
 
 returns : tie.Need-returns Inv-loop μ-loop
 returns c =
@@ -45,10 +47,11 @@ returns c =
     let s = a .text .now in
     let l = c .before .before .before .before .before .before .before .before .loop in
     let d = c .before .before .before .before .read-transition .last .1 .1 .1 .0 in
-    let f = subst (TransitionTurn h s (l .at) (l .count) (l .slots) d) (c .enum-told .given .1) (c .before .before .before .before .read-transition .ensures) in
+    let f = subst (TransitionProgress h s (l .at) (l .count) (l .slots) d) (c .enum-told .given .1) (c .before .before .before .before .read-transition .ensures) in
     subst (TransitionsRead h s (a .from) d) (sym (c .enum-told .given .1)) (λ names e.
     let r = l .inv .so-far names e in
-    steps-refused h s (a .from) names (l .slots) (l .at) (l .count) r (c .before .before .before .before .before .before .if1 .taken) (f (h .transitions - (l .count + 1)) names (r .steps) e (r .counts) (r .kept)))
+    steps-refused h s (a .from) names (l .slots) (l .at) (l .count) r (c .before .before .before .before .before .before .if1 .taken)
+    (f (h .transitions - (l .count + 1)) names (r .steps) e (r .counts) (r .kept)))
 
 add-count : tie.Need-add-count Inv-loop μ-loop
 add-count c = omega arith
@@ -63,9 +66,10 @@ loop-again c =
     let s = a .text .now in
     let l = c .before .before .before .before .before .before .before .before .before .loop in
     let d = c .before .before .before .before .before .read-transition .last .1 .1 .1 .0 in
-    let to = c .before .turn .given .0 .0 in
-    let f = subst (TransitionTurn h s (l .at) (l .count) (l .slots) d) (c .before .turn .given .1) (c .before .before .before .before .before .read-transition .ensures) in
-    turn-taken (a .counts) s (a .from) (l .slots) (l .at) (l .count) (l .inv) (c .before .before .before .before .before .before .before .if1 .taken) to d f (c .before .before .before .before .before .read-transition .kept .1 .1 .1 .0)
+    let to = c .before .progress .given .0 .0 in
+    let f = subst (TransitionProgress h s (l .at) (l .count) (l .slots) d) (c .before .progress .given .1) (c .before .before .before .before .before .read-transition .ensures) in
+    line-taken (a .counts) s (a .from) (l .slots) (l .at) (l .count) (l .inv) (c .before .before .before .before .before .before .before .if1 .taken) to d f
+    (c .before .before .before .before .before .read-transition .kept .1 .1 .1 .0)
 
 add-t14 : tie.Need-add-t14 Inv-loop μ-loop
 add-t14 c = omega (arith, c .before .before .before .before .before .before .before .pre)
@@ -105,7 +109,7 @@ read-transitions-spec =
     μ-loop
     loop-holds
     read-transition-requires
-    enum-known-turn
+    enum-known-progress
     enum-told
     same-length
     returns

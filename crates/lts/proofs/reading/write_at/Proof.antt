@@ -1,8 +1,8 @@
--- `write_at` leaves `written`: the invariant is that the first i bytes are pasted.
+-- `write_at` leaves `pasted`: the invariant is that the first i bytes are.
 use mathlib.Core.Path.{_≡_, refl, sym, ap, _∙_}
 use Prim.Native.Nat.{_+_, _-_, _≤_}
 use native.Mathlib.Numerals.{add-one}
-use mathlib.Core.List.{_++_}
+use mathlib.Core.List.{_++_, append-assoc}
 use lib.ListN.{length, getD, take, drop, set, length-set}
 use lib.Seq.{paste, paste-zero, paste-suc, take-length}
 use native.Mathlib.Omega.{arith}
@@ -51,7 +51,9 @@ returns c =
     let a = c .before .before .args in
     let l = c .before .loop in
     let all : l .i ≡ length (a .part .now) = omega arith in
-    l .inv .0 ∙ ap (paste (a .bytes .now) (a .at) (a .part .now)) all ∙ ap (λ p. (take (a .at) (a .bytes .now) ++ p) ++ drop (a .at + length (a .part .now)) (a .bytes .now)) (take-length (a .part .now))
+    let rest = drop (a .at + length (a .part .now)) (a .bytes .now) in
+    l .inv .0 ∙ ap (paste (a .bytes .now) (a .at) (a .part .now)) all ∙ ap (λ p. (take (a .at) (a .bytes .now) ++ p) ++ rest) (take-length (a .part .now))
+    ∙ append-assoc (take (a .at) (a .bytes .now)) (a .part .now) rest
 
 pub write-at-spec : {M : Type 1} → statement M
 write-at-spec =

@@ -1,10 +1,10 @@
--- `write_name` leaves a name with its length `written`.
+-- `write_name` leaves a name with its length `pasted`.
 use borrow.Author.Needs.{needs}
 use mathlib.Core.Path.{_∙_}
 use Prim.Native.Nat.{_*_}
 use lib.ListN.{length-set}
 use native.Mathlib.Omega.{arith}
-use Rattle.lts.proofs.Laws.SlotsWritten.{written-more}
+use Rattle.lts.proofs.Laws.Pasted.{pasted-first}
 use Rattle.lts.proofs.reading.write_name.Statement.{statement}
 use Rattle.lts.proofs.reading.write_name.Tie as tie
 
@@ -29,7 +29,7 @@ same-length c = c .before .before .write-at .kept .0 ∙ simp length-set
 returns : tie.Need-returns
 returns c =
     let a = c .before .before .before .before .before .before in
-    c .before .before .write-at .ensures ∙ written-more (a .args .names .now) (a .args .count * 16) _ (a .args .name .now) (omega arith)
+    c .before .before .write-at .ensures ∙ pasted-first (a .args .names .now) (a .args .count * 16) _ (a .args .name .now) (omega arith)
 
 pub write-name-spec : {M : Type 1} → statement M
 write-name-spec =

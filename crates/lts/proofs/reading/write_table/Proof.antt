@@ -1,8 +1,9 @@
 -- `write_table` leaves the head, the names and the transitions, one behind the other.
 use borrow.Author.Needs.{needs}
 use mathlib.Core.Path.{refl, ap, _∙_}
-use Rattle.lts.proofs.Laws.SlotsWritten.{table-written}
-use Rattle.lts.specs.Slots.{headBytes, written}
+use Rattle.lts.proofs.Laws.Pasted.{table-pasted}
+use Rattle.columns.specs.Write.{pasted}
+use Rattle.lts.specs.Slots.{headBytes}
 use Rattle.lts.specs.Lines.{header}
 use Rattle.lts.proofs.reading.write_table.Statement.{statement}
 use Rattle.lts.proofs.reading.write_table.Tie as tie
@@ -60,12 +61,15 @@ same-length c = search needs
 
 returns : tie.Need-returns
 returns c =
-    let a = c .before .before .before .before .before .before .before .before .before .before .before .before .before .before .before .before .before .before .before .before .before .before .args in
+    let second = c .before .before .before .before .before .before in
+    let first = second .before .before .before .before in
+    let start = c .before .before .before .before .before .before .before .before .before .before .before .before .before .before .before .before .before .before .before .before .before .before in
+    let a = start .args in
     let head = headBytes (header (a .counts)) in
     let d = a .table .now in
     c .before .before .write-at3 .ensures
-    ∙ ap (λ x. written x 646 (a .slots .now)) (c .before .before .before .before .before .before .write-at2 .ensures ∙ ap (λ x. written x 6 (a .names .now)) (c .before .before .before .before .before .before .before .before .before .before .write-at .ensures))
-    ∙ table-written head (a .names .now) (a .slots .now) d refl (c .before .before .before .before .before .before .before .before .before .before .before .before .before .before .before .before .before .before .before .before .before .before .pre .0 .1 .0) (c .before .before .before .before .before .before .before .before .before .before .before .before .before .before .before .before .before .before .before .before .before .before .pre .0 .1 .1)
+    ∙ ap (λ x. pasted x 646 (a .slots .now)) (second .write-at2 .ensures ∙ ap (λ x. pasted x 6 (a .names .now)) (first .write-at .ensures))
+    ∙ table-pasted head (a .names .now) (a .slots .now) d refl (start .pre .0 .1 .0) (start .pre .0 .1 .1)
 
 pub write-table-spec : {M : Type 1} → statement M
 write-table-spec =

@@ -1,9 +1,9 @@
--- `write_transition` leaves the slot of its transition `written`.
+-- `write_transition` leaves the slot of its transition `pasted`.
 use borrow.Author.Needs.{needs}
-use mathlib.Core.Path.{_≡_}
+use mathlib.Core.Path.{_≡_, _∙_}
 use Prim.Native.Nat.{suc, _+_, _*_}
-use mathlib.Core.List.{[], _∷_}
-use lib.ListN.{length-set}
+use mathlib.Core.List.{[], _∷_, append-assoc}
+use lib.ListN.{take, drop, length-set}
 use lib.Seq.{sets-eq}
 use native.Mathlib.Omega.{arith}
 use Rattle.lts.proofs.reading.write_transition.Statement.{statement}
@@ -46,7 +46,8 @@ returns c =
     let l = a .slots .now in
     let second : i + 1 ≡ suc i = omega arith in
     let third : i + 2 ≡ suc (suc i) = omega arith in
-    rw (second, third) (sets-eq (a .t .from ∷ a .t .label ∷ a .t .to ∷ []) l i (c .before .before .before .pre .0))
+    let slot = a .t .from ∷ a .t .label ∷ a .t .to ∷ [] in
+    rw (second, third) (sets-eq slot l i (c .before .before .before .pre .0) ∙ append-assoc (take i l) slot (drop (i + 3) l))
 
 pub write-transition-spec : {M : Type 1} → statement M
 write-transition-spec =

@@ -115,7 +115,7 @@ pub operand-enum-told-3 : (t : ℕ) → operand-lts.Need-enum-told-3 (operand-cl
 operand-enum-told-3 t c = search needs
 
 pub operand-name-requires : (t : ℕ) → operand-lts.Need-name-requires (operand-claims t) (operand-at t) operand.Post
-operand-name-requires t c κs = tt
+operand-name-requires t c κs = search needs
 
 pub operand-enum-known-d-4 : (t : ℕ) → operand-lts.Need-enum-known-d-4 (operand-claims t) (operand-at t) operand.Post
 operand-enum-known-d-4 t c = search needs

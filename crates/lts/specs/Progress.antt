@@ -11,8 +11,8 @@ use Rattle.lts.specs.Names.{isName}
 use Rattle.lts.specs.Reading.{Header, readLabels, readTransitions}
 use Rattle.lts.specs.Replies.{tableReply}
 use Rattle.lts.specs.declared.TableReply.{TableReply}
-use Rattle.lts.specs.declared.reading.Turn.{Turn}
-use Rattle.lts.specs.declared.reading.Turn.the-variants.{Next, Refused}
+use Rattle.lts.specs.declared.reading.Progress.{Progress}
+use Rattle.lts.specs.declared.reading.Progress.the-variants.{Next, Refused}
 use Rattle.lts.specs.Slots.{nameBytes, stepBytes}
 
 -- A reading that ends in the refusal that an answer says.
@@ -30,13 +30,13 @@ pub record NameRead (h : Header) (s : List ℕ) (at to left : ℕ) (names : List
   pub reads : readLabels h (suc left) names (drop at s) ≡ readLabels h left (names ++ (name ∷ [])) (drop to s)
   pub kept : b ≡ nameBytes (names ++ (name ∷ []))
 
-abbrev pub NameReads : Header → List ℕ → ℕ → ℕ → List (List ℕ) → List ℕ → Turn → Type 0
+abbrev pub NameReads : Header → List ℕ → ℕ → ℕ → List (List ℕ) → List ℕ → Progress → Type 0
 NameReads h s at left names b (Next to) = NameRead h s at to left names b
 NameReads h s at left names b (Refused t) = Refuses (readLabels h (suc left) names (drop at s)) t
 
 -- The line of a label at `at`, if the slots hold the names before it: b before, and d after.
-abbrev pub LabelTurn : List ℕ → ℕ → ℕ → List ℕ → List ℕ → Turn → Type 0
-LabelTurn s at count b d r = (h : Header) (left : ℕ) (names : List (List ℕ)) → length names ≡ count → every isName names ≡ true → b ≡ nameBytes names
+abbrev pub LabelProgress : List ℕ → ℕ → ℕ → List ℕ → List ℕ → Progress → Type 0
+LabelProgress s at count b d r = (h : Header) (left : ℕ) (names : List (List ℕ)) → length names ≡ count → every isName names ≡ true → b ≡ nameBytes names
     → NameReads h s at left names d r
 
 -- All names are read, and the slots hold them.
@@ -47,24 +47,24 @@ pub record NamesRead (h : Header) (s : List ℕ) (from to : ℕ) (b : List ℕ) 
   pub reads : readLabels h (h .labels) [] (drop from s) ≡ readTransitions h names (h .transitions) [] (drop to s)
   pub kept : b ≡ nameBytes names
 
-abbrev pub LabelsRead : Header → List ℕ → ℕ → List ℕ → Turn → Type 0
+abbrev pub LabelsRead : Header → List ℕ → ℕ → List ℕ → Progress → Type 0
 LabelsRead h s from b (Next to) = NamesRead h s from to b
 LabelsRead h s from b (Refused t) = Refuses (readLabels h (h .labels) [] (drop from s)) t
 
 -- The same of transitions.
-pub record StepRead (h : Header) (s : List ℕ) (at to left : ℕ) (names : List (List ℕ)) (steps : List Step) (b : List ℕ) : Type 0 where
+pub record TransitionLineRead (h : Header) (s : List ℕ) (at to left : ℕ) (names : List (List ℕ)) (steps : List Step) (b : List ℕ) : Type 0 where
   pub last : Step
   pub within : to ≤ length s
   pub reads : readTransitions h names (suc left) steps (drop at s) ≡ readTransitions h names left (steps ++ (last ∷ [])) (drop to s)
   pub kept : b ≡ stepBytes (steps ++ (last ∷ []))
 
-abbrev pub StepReads : Header → List ℕ → ℕ → ℕ → List (List ℕ) → List Step → List ℕ → Turn → Type 0
-StepReads h s at left names steps b (Next to) = StepRead h s at to left names steps b
-StepReads h s at left names steps b (Refused t) = Refuses (readTransitions h names (suc left) steps (drop at s)) t
+abbrev pub TransitionLineReads : Header → List ℕ → ℕ → ℕ → List (List ℕ) → List Step → List ℕ → Progress → Type 0
+TransitionLineReads h s at left names steps b (Next to) = TransitionLineRead h s at to left names steps b
+TransitionLineReads h s at left names steps b (Refused t) = Refuses (readTransitions h names (suc left) steps (drop at s)) t
 
-abbrev pub TransitionTurn : Header → List ℕ → ℕ → ℕ → List ℕ → List ℕ → Turn → Type 0
-TransitionTurn h s at count b d r = (left : ℕ) (names : List (List ℕ)) (steps : List Step) → length names ≡ h .labels → length steps ≡ count → b ≡ stepBytes steps
-    → StepReads h s at left names steps d r
+abbrev pub TransitionProgress : Header → List ℕ → ℕ → ℕ → List ℕ → List ℕ → Progress → Type 0
+TransitionProgress h s at count b d r = (left : ℕ) (names : List (List ℕ)) (steps : List Step) → length names ≡ h .labels → length steps ≡ count → b ≡ stepBytes steps
+    → TransitionLineReads h s at left names steps d r
 
 pub record StepsRead (h : Header) (s : List ℕ) (from : ℕ) (names : List (List ℕ)) (b : List ℕ) : Type 0 where
   pub steps : List Step
@@ -72,9 +72,9 @@ pub record StepsRead (h : Header) (s : List ℕ) (from : ℕ) (names : List (Lis
   pub reads : readTransitions h names (h .transitions) [] (drop from s) ≡ accepted (record { states = h .states; names = names; transitions = steps; start = h .start })
   pub kept : b ≡ stepBytes steps
 
-abbrev pub StepsReads : Header → List ℕ → ℕ → List (List ℕ) → List ℕ → Turn → Type 0
+abbrev pub StepsReads : Header → List ℕ → ℕ → List (List ℕ) → List ℕ → Progress → Type 0
 StepsReads h s from names b (Next to) = StepsRead h s from names b
 StepsReads h s from names b (Refused t) = Refuses (readTransitions h names (h .transitions) [] (drop from s)) t
 
-abbrev pub TransitionsRead : Header → List ℕ → ℕ → List ℕ → Turn → Type 0
+abbrev pub TransitionsRead : Header → List ℕ → ℕ → List ℕ → Progress → Type 0
 TransitionsRead h s from b r = (names : List (List ℕ)) → length names ≡ h .labels → StepsReads h s from names b r

@@ -12,7 +12,7 @@ use Rattle.lts.specs.Reply.{Reply, refusal, unless}
 use Rattle.lts.specs.Steps.{Step, Table}
 use Rattle.lts.specs.Reading.{Header, Line, missing, line, firstLine, onLine, labelLaidOut, used, stepOf, stepLaidOut, stepInRange, above, readTransitions, readLabels}
 use Rattle.lts.specs.Lines.{LineAt, NoLineAt}
-use Rattle.lts.specs.Turns.{Refuses}
+use Rattle.lts.specs.Progress.{Refuses}
 use Rattle.lts.proofs.Lists.{and-true-of}
 use Rattle.lts.specs.declared.TableReply.the-variants.{NotLaidOut, OutOfRange, NameRepeated, NotRising}
 
@@ -50,8 +50,8 @@ module _ (h : Header) (s : List ℕ) (at left : ℕ) (names : List (List ℕ)) w
     unfolding readLabels
     label-opened = a-line labelLaidOut (2 + length names) (firstLine (drop at s)) _ l (drop to s) (g .is-line) (g .laid-out)
 
-    pub label-out-of-turn : (n : ℕ) → n ≡ length names + 2 → (valueAt 0 l ≡ length names + 1 → ⊥) → Refuses (readLabels h (suc left) names (drop at s)) (OutOfRange n)
-    label-out-of-turn n f d = record {
+    pub label-out-of-order : (n : ℕ) → n ≡ length names + 2 → (valueAt 0 l ≡ length names + 1 → ⊥) → Refuses (readLabels h (suc left) names (drop at s)) (OutOfRange n)
+    label-out-of-order n f d = record {
       number = 2;
       figure = 2 + length names;
       reply = label-opened ∙ rw (ne-eqb (valueAt 0 l) (suc (length names)) (λ z. d (omega arith)));
