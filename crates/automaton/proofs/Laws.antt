@@ -4,7 +4,6 @@ pub mod Hops
 pub mod Loops
 pub mod Labels
 pub mod Survey
-pub mod Stepped
 pub mod Books
 pub mod Taken
 pub mod RowMoves

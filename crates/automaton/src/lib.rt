@@ -8,7 +8,6 @@ mod entering;
 mod finding;
 mod hops;
 mod slots;
-mod steps;
 
 ghost use mathlib.Core.Path.{_≡_};
 ghost use Rattle.automaton.specs.Replies.{buildReply, buildReplied, rowsLeft, edgesLeft};

@@ -9,7 +9,7 @@ use lib.ListN.{length}
 use Rattle.lts.specs.Lists.{some}
 use Rattle.lts.specs.Steps.{Step, Table, IsStep, stepsFrom}
 use Rattle.lts.proofs.Lists.{and-true-of, and-true-to, or-true-of, or-true-left, or-true-right, some-of, some-to}
-use Rattle.lts.proofs.Steps.{From, steps-are}
+use Rattle.lts.proofs.StepsFrom.{From, steps-are}
 use Rattle.actl.specs.Actions.{Mask, passes}
 use Rattle.labelling.specs.Runs.{Run}
 use Rattle.labelling.specs.Holds.{within}

@@ -5,7 +5,7 @@ use Prim.Native.Nat.{ℕ, zero, suc, _<_}
 use native.Mathlib.Omega.{arith}
 use lib.ListN.{length, getD}
 use Rattle.lts.specs.Steps.{Step, Table, IsStep}
-use Rattle.lts.proofs.Steps.{From, total}
+use Rattle.lts.proofs.StepsFrom.{From, total}
 use Rattle.labelling.specs.Runs.{Run}
 
 module _ (t : Table) where

@@ -9,7 +9,7 @@ use lib.ListN.{length}
 use Rattle.lts.specs.Lists.{some, every}
 use Rattle.lts.specs.Steps.{Step, Table, IsStep, stepsFrom}
 use Rattle.lts.proofs.Lists.{and-true-of, and-true-to, or-true-of, or-true-left, or-true-right, some-of, some-to, every-of, every-to}
-use Rattle.lts.proofs.Steps.{From, steps-are}
+use Rattle.lts.proofs.StepsFrom.{From, steps-are}
 use Rattle.actl.specs.Actions.{Mask, inSet, Cond, meets, passes}
 use Rattle.actl.specs.Formulas.{Formula, tru, not, or, ex, ax, eu, euThen}
 use Rattle.labelling.specs.Runs.{Run}

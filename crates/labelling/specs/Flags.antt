@@ -6,7 +6,7 @@ use Prim.Native.Nat.{ℕ, _+_, _*_, _<_}
 use lib.ListN.{length, getD}
 use Rattle.lts.specs.Lists.{some, every}
 use Rattle.lts.specs.Steps.{Step, Table, stepsFrom}
-use Rattle.actl.specs.Actions.{Cond, meets}
+use Rattle.actl.specs.Actions.{Cond, inSet, meets}
 use Rattle.actl.specs.Formulas.{Formula, tru, size, nodes}
 use Rattle.actl.specs.Access.{condIn}
 use Rattle.actl.specs.declared.node.Node.{Node}
@@ -25,22 +25,22 @@ abbrev pub same : Bool → Bool → Bool
 same true a = a
 same false a = negate a
 
--- Some step from s leads to where p holds; or, if that is not wanted, some step does not.
+-- Some step leads to where p holds; or, if that is not wanted, some step does not.
 abbrev pub leadsAsWanted : Bool → Cond → (ℕ → Bool) → Step → Bool
 leadsAsWanted wanted c p st = same wanted (leadsTo c p st)
 
-abbrev pub someStep : Table → Bool → Cond → (ℕ → Bool) → ℕ → Bool
-someStep t wanted c p s = some (leadsAsWanted wanted c p) (stepsFrom t s)
+abbrev pub someStep : Bool → Cond → (ℕ → Bool) → List Step → Bool
+someStep wanted c p steps = some (leadsAsWanted wanted c p) steps
 
--- What holds at s of a node whose arms hold where p and q do. Of an until: its end, without the steps before.
-abbrev pub atOnce : Table → Node → (ℕ → Bool) → (ℕ → Bool) → ℕ → Bool
-atOnce t True p q s = true
-atOnce t Not p q s = negate (p s)
-atOnce t Or p q s = p s || q s
-atOnce t (Ex c) p q s = some (leadsTo (condIn c) p) (stepsFrom t s)
-atOnce t (Ax c) p q s = every (leadsTo (condIn c) p) (stepsFrom t s)
-atOnce t (Until a) p q s = p s
-atOnce t (UntilThen a b) p q s = enters t b p s
+-- What holds at s, which the steps leave, of a node whose arms hold where p and q do. Of an until: its end, without the steps before.
+abbrev pub atOnce : Node → (ℕ → Bool) → (ℕ → Bool) → ℕ → List Step → Bool
+atOnce True p q s steps = true
+atOnce Not p q s steps = negate (p s)
+atOnce Or p q s steps = p s || q s
+atOnce (Ex c) p q s steps = some (leadsTo (condIn c) p) steps
+atOnce (Ax c) p q s steps = every (leadsTo (condIn c) p) steps
+atOnce (Until a) p q s steps = p s
+atOnce (UntilThen a b) p q s steps = some (λ st. inSet b (st .label) && p (st .to)) steps
 
 -- The same, with an until's steps before its end.
 abbrev pub nodeHolds : Table → Node → (ℕ → Bool) → (ℕ → Bool) → ℕ → Bool

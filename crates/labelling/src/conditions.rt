@@ -1,5 +1,6 @@
 // Whether a step's label meets a step condition, and whether an until's path passes it.
 use actl::node::Condition;
+use lts::steps::is_silent;
 ghost use mathlib.Core.Path.{_≡_};
 ghost use Prim.Native.Nat.{_<_};
 ghost use Rattle.actl.specs.Actions as actions;
@@ -9,7 +10,7 @@ pub fn in_set(set: u64, label: usize) -> bool
     requires { ⌜ label < 64 ⌝ }
     ensures { λ r. ⌜ r ≡ actions.inSet set label ⌝ }
 {
-    if label == 0 {
+    if is_silent(label) {
         false
     } else {
         (set >> label) % 2 == 1
@@ -21,7 +22,7 @@ pub fn meets(condition: Condition, label: usize) -> bool
     ensures { λ r. ⌜ r ≡ actions.meets (condIn condition) label ⌝ }
 {
     match condition {
-        Condition::Silent => label == 0,
+        Condition::Silent => is_silent(label),
         Condition::Labels(set) => in_set(set, label),
     }
 }
@@ -30,5 +31,9 @@ pub fn passes(set: u64, label: usize) -> bool
     requires { ⌜ label < 64 ⌝ }
     ensures { λ r. ⌜ r ≡ actions.passes set label ⌝ }
 {
-    if label == 0 { true } else { in_set(set, label) }
+    if is_silent(label) {
+        true
+    } else {
+        in_set(set, label)
+    }
 }

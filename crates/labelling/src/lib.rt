@@ -3,8 +3,8 @@ use actl::inputs::Inputs;
 use actl::inputs::Unprepared;
 use actl::inputs::check_inputs;
 use actl::walk::shape_of;
-use lts::prepared::first_exits;
 use lts::prepared::start_state;
+use lts::steps::steps_of;
 
 pub mod conditions;
 mod links;
@@ -32,10 +32,12 @@ fn holds_at_start(table: &[u8], formula: &[u8]) -> bool
     requires { ⌜ HoldsFormula (labels (tableIn (now table))) (now formula) ⌝ }
     ensures { λ r. ⌜ AtStart (now (table .entry)) (now (formula .entry)) r ⌝ }
 {
-    let begins = first_exits(table);
+    let all = steps_of(table);
+    let steps = all.steps;
+    let firsts = all.firsts;
     let shape = shape_of(formula);
     let ends = shape.ends;
-    let flags = nodes::label_nodes(table, &begins, formula, &ends);
+    let flags = nodes::label_nodes(table, &steps, &firsts, formula, &ends);
     let start = start_state(table);
     flags[start]
 }

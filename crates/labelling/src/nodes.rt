@@ -10,7 +10,8 @@ ghost use Prim.Native.Nat.{_+_, _<_};
 ghost use lib.ListN.{length, getD};
 ghost use Rattle.lts.specs.Steps.{labels};
 ghost use Rattle.lts.specs.Prepared.{tableIn};
-ghost use Rattle.lts.specs.Access.{HoldsTable, ExitsFound};
+ghost use Rattle.lts.specs.Access.{HoldsTable};
+ghost use Rattle.lts.specs.StepArray.{StepsOf};
 ghost use Rattle.labelling.specs.Flags.{flagAt, nodeHolds, Flags};
 ghost use Rattle.labelling.specs.Links.{Linked};
 ghost use Rattle.labelling.specs.Nodes.{HoldsFormula, ArmsEnd, RowRead, RowPut, RowsFrom, Labelled};
@@ -18,18 +19,19 @@ ghost use Rattle.labelling.specs.Nodes.{HoldsFormula, ArmsEnd, RowRead, 
 // Where a node holds, from where its arms hold.
 fn label_node(
     table: &[u8],
-    begins: &[u16; 257],
+    steps: &[u16; 1280],
+    firsts: &[u16; 257],
     links: &[u16; 1280],
     node: Node,
     arm: &[bool; 256],
     other: &[bool; 256],
 ) -> [bool; 256]
     requires { ⌜ HoldsTable (now table) ⌝ }
-    requires { ⌜ ExitsFound (now table) (now begins) ⌝ }
+    requires { ⌜ StepsOf (tableIn (now table)) (now steps) (now firsts) ⌝ }
     requires { ⌜ Linked (tableIn (now table)) (now links) ⌝ }
     ensures { λ r. ⌜ Flags (nodeHolds (tableIn (now (table .entry))) node (flagAt (now (arm .entry))) (flagAt (now (other .entry)))) r ⌝ }
 {
-    let flags = label_at_once(table, begins, node, arm, other);
+    let flags = label_at_once(steps, firsts, node, arm, other);
     match node {
         Node::True => flags,
         Node::Not => flags,
@@ -85,7 +87,8 @@ pub fn right_arm(ends: &[u8; 40], k: usize) -> usize
 
 fn label_row(
     table: &[u8],
-    begins: &[u16; 257],
+    steps: &[u16; 1280],
+    firsts: &[u16; 257],
     links: &[u16; 1280],
     formula: &[u8],
     ends: &[u8; 40],
@@ -93,7 +96,7 @@ fn label_row(
     k: usize,
 )
     requires { ⌜ HoldsTable (now table) ⌝ }
-    requires { ⌜ ExitsFound (now table) (now begins) ⌝ }
+    requires { ⌜ StepsOf (tableIn (now table)) (now steps) (now firsts) ⌝ }
     requires { ⌜ Linked (tableIn (now table)) (now links) ⌝ }
     requires { ⌜ HoldsFormula (labels (tableIn (now table))) (now formula) ⌝ }
     requires { ⌜ ArmsEnd (labels (tableIn (now table))) (now formula) (now ends) ⌝ }
@@ -104,19 +107,20 @@ fn label_row(
     let node = node_at(formula, k);
     let arm = row(flags, k + 1);
     let other = row(flags, right_arm(ends, k));
-    let found = label_node(table, begins, links, node, &arm, &other);
+    let found = label_node(table, steps, firsts, links, node, &arm, &other);
     put_row(flags, k, &found);
 }
 
 // Node k and state s at k * 256 + s.
 pub fn label_nodes(
     table: &[u8],
-    begins: &[u16; 257],
+    steps: &[u16; 1280],
+    firsts: &[u16; 257],
     formula: &[u8],
     ends: &[u8; 40],
 ) -> [bool; 10240]
     requires { ⌜ HoldsTable (now table) ⌝ }
-    requires { ⌜ ExitsFound (now table) (now begins) ⌝ }
+    requires { ⌜ StepsOf (tableIn (now table)) (now steps) (now firsts) ⌝ }
     requires { ⌜ HoldsFormula (labels (tableIn (now table))) (now formula) ⌝ }
     requires { ⌜ ArmsEnd (labels (tableIn (now table))) (now formula) (now ends) ⌝ }
     ensures { λ r. ⌜ Labelled (now (table .entry)) (now (formula .entry)) r ⌝ }
@@ -126,7 +130,7 @@ pub fn label_nodes(
     let mut k = node_count(formula);
     while 0 < k {
         k -= 1;
-        label_row(table, begins, &links, formula, ends, &mut flags, k);
+        label_row(table, steps, firsts, &links, formula, ends, &mut flags, k);
     }
     flags
 }

@@ -1,12 +1,13 @@
 // What holds at a state by the steps that leave it, idle steps included.
 use actl::node::Condition;
 use actl::node::Node;
-use lts::prepared::transition_at;
+use lts::steps::label_of;
+use lts::steps::leaving;
+use lts::steps::state_of;
 ghost use mathlib.Core.Path.{_≡_};
 ghost use mathlib.Core.Bool.{_&&_};
 ghost use Prim.Native.Nat.{_<_};
-ghost use Rattle.lts.specs.Prepared.{tableIn};
-ghost use Rattle.lts.specs.Access.{HoldsTable, ExitsFound};
+ghost use Rattle.lts.specs.StepArray.{stepsIn, StepsFit};
 ghost use Rattle.actl.specs.Actions as actions;
 ghost use Rattle.actl.specs.Access.{condIn};
 ghost use Rattle.labelling.specs.Flags.{flagAt, same, someStep, atOnce, Flags};
@@ -23,29 +24,25 @@ fn leads(wanted: bool, condition: Condition, label: usize, there: bool) -> bool
 }
 
 // Whether some step from s leads to the arm under the condition; or, if that is not wanted, whether some step does not.
-// A state's transitions stand together: `begins` says where.
 pub fn some_step(
-    table: &[u8],
-    begins: &[u16; 257],
+    steps: &[u16; 1280],
+    firsts: &[u16; 257],
     wanted: bool,
     condition: Condition,
     arm: &[bool; 256],
     s: usize,
 ) -> bool
-    requires { ⌜ HoldsTable (now table) ⌝ }
-    requires { ⌜ ExitsFound (now table) (now begins) ⌝ }
+    requires { ⌜ StepsFit (now steps) (now firsts) ⌝ }
     requires { ⌜ s < 256 ⌝ }
-    ensures { λ r. ⌜ r ≡ someStep (tableIn (now (table .entry))) wanted (condIn condition) (flagAt (now (arm .entry))) s ⌝ }
+    ensures { λ r. ⌜ r ≡ someStep wanted (condIn condition) (flagAt (now (arm .entry))) (stepsIn (now (steps .entry)) (now (firsts .entry)) s) ⌝ }
 {
-    let end = begins[s + 1] as usize;
-    let mut k = begins[s] as usize;
-    if k == end {
-        return leads(wanted, condition, 0, arm[s]);
-    }
+    let span = leaving(firsts, s);
+    let end = span.to;
+    let mut k = span.from;
     while k < end {
-        let step = transition_at(table, k);
-        let to = step.to;
-        if leads(wanted, condition, step.label, arm[to]) {
+        let step = steps[k];
+        let to = state_of(step);
+        if leads(wanted, condition, label_of(step), arm[to]) {
             return true;
         }
         k += 1;
@@ -55,44 +52,42 @@ pub fn some_step(
 
 // What holds at s of a node, from where its arms hold. Of an until: whether s is an end of its paths.
 pub fn at_once(
-    table: &[u8],
-    begins: &[u16; 257],
+    steps: &[u16; 1280],
+    firsts: &[u16; 257],
     node: Node,
     arm: &[bool; 256],
     other: &[bool; 256],
     s: usize,
 ) -> bool
-    requires { ⌜ HoldsTable (now table) ⌝ }
-    requires { ⌜ ExitsFound (now table) (now begins) ⌝ }
+    requires { ⌜ StepsFit (now steps) (now firsts) ⌝ }
     requires { ⌜ s < 256 ⌝ }
-    ensures { λ r. ⌜ r ≡ atOnce (tableIn (now (table .entry))) node (flagAt (now (arm .entry))) (flagAt (now (other .entry))) s ⌝ }
+    ensures { λ r. ⌜ r ≡ atOnce node (flagAt (now (arm .entry))) (flagAt (now (other .entry))) s (stepsIn (now (steps .entry)) (now (firsts .entry)) s) ⌝ }
 {
     match node {
         Node::True => true,
         Node::Not => !arm[s],
         Node::Or => arm[s] || other[s],
-        Node::Ex(condition) => some_step(table, begins, true, condition, arm, s),
-        Node::Ax(condition) => !some_step(table, begins, false, condition, arm, s),
+        Node::Ex(condition) => some_step(steps, firsts, true, condition, arm, s),
+        Node::Ax(condition) => !some_step(steps, firsts, false, condition, arm, s),
         Node::Until(_) => arm[s],
-        Node::UntilThen(_, last) => some_step(table, begins, true, Condition::Labels(last), arm, s),
+        Node::UntilThen(_, last) => some_step(steps, firsts, true, Condition::Labels(last), arm, s),
     }
 }
 
 pub fn label_at_once(
-    table: &[u8],
-    begins: &[u16; 257],
+    steps: &[u16; 1280],
+    firsts: &[u16; 257],
     node: Node,
     arm: &[bool; 256],
     other: &[bool; 256],
 ) -> [bool; 256]
-    requires { ⌜ HoldsTable (now table) ⌝ }
-    requires { ⌜ ExitsFound (now table) (now begins) ⌝ }
-    ensures { λ r. ⌜ Flags (atOnce (tableIn (now (table .entry))) node (flagAt (now (arm .entry))) (flagAt (now (other .entry)))) r ⌝ }
+    requires { ⌜ StepsFit (now steps) (now firsts) ⌝ }
+    ensures { λ r. ⌜ Flags (λ s. atOnce node (flagAt (now (arm .entry))) (flagAt (now (other .entry))) s (stepsIn (now (steps .entry)) (now (firsts .entry)) s)) r ⌝ }
 {
     let mut flags = [false; 256];
     let mut s = 0;
     while s < 256 {
-        flags[s] = at_once(table, begins, node, arm, other, s);
+        flags[s] = at_once(steps, firsts, node, arm, other, s);
         s += 1;
     }
     flags

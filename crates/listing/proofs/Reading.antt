@@ -10,7 +10,7 @@ use Rattle.lts.specs.Lists.{some}
 use Rattle.lts.specs.Steps.{Step, Table, IsStep, stepsFrom}
 use Rattle.lts.specs.Range.{InRange}
 use Rattle.lts.proofs.Lists.{and-true-of, and-true-to, some-of, some-to}
-use Rattle.lts.proofs.Steps.{steps-are}
+use Rattle.lts.proofs.StepsFrom.{steps-are}
 use Rattle.actl.specs.Formulas.{Formula, size, classOf}
 use Rattle.actl.proofs.Classes.{HasClass}
 use Rattle.listing.specs.Witnesses.{Witness, Counterexample}

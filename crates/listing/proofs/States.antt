@@ -8,7 +8,7 @@ use lib.ListN.{length}
 use Rattle.lts.specs.Lists.{every}
 use Rattle.lts.specs.Steps.{Step, Table, stepsFrom}
 use Rattle.lts.proofs.Lists.{or-true-of, or-true-left, or-true-right, not-true, not-false}
-use Rattle.lts.proofs.Steps.{From, steps-are}
+use Rattle.lts.proofs.StepsFrom.{From, steps-are}
 use Rattle.actl.specs.Actions.{Mask, inSet, Cond, meets, passes}
 use Rattle.actl.specs.Formulas.{Formula, tru, not, or, ex, ax, eu, euThen, isT}
 use Rattle.actl.proofs.Classes.{Witnessable, Refutable, arm-refutable}

@@ -13,7 +13,7 @@ ghost use lib.Dec.{eqb};
 ghost use lib.ListN.{length, getD};
 ghost use Rattle.actl.specs.Formulas.{Formula};
 ghost use Rattle.actl.specs.Prepared.{slotAt};
-ghost use Rattle.listing.specs.Masks.{bitIf, maskOfNode, finalOfNode, Spells, MasksFit, MasksOf, MasksOn, FinalsOf};
+ghost use Rattle.listing.specs.Masks.{bitIf, columnOf, maskOfNode, finalOfNode, Spells, MasksFit, MasksOf, MasksOn, FinalsOf};
 
 // Bit k, if it is wanted.
 fn bit_if(wanted: bool, k: usize) -> u64
@@ -90,6 +90,14 @@ fn is_true(formula: &[u8], k: usize) -> bool
     }
 }
 
+// The column of a label among the masks of a place.
+pub fn column(label: usize) -> usize
+    requires { ⌜ label ≤ 40 ⌝ }
+    ensures { λ r. ⌜ (r ≡ columnOf label) × (r < 41) ⌝ }
+{
+    label
+}
+
 // The masks of place k, from those of the places behind it.
 fn mask_place(formula: &[u8], ends: &[u8; 40], masks: &mut [u64; 1681], k: usize)
     requires { ⌜ (681 ≤ length (now formula)) × (k < getD (now formula) 0 0) ⌝ }
@@ -103,14 +111,15 @@ fn mask_place(formula: &[u8], ends: &[u8; 40], masks: &mut [u64; 1681], k: usize
     let right = other_arm(ends, k);
     let mut l: usize = 0;
     while l < 41 {
-        let arm = masks[(k + 1) * 41 + l];
-        let other = masks[right * 41 + l];
-        masks[k * 41 + l] = node_mask(node, end, k, l, last, arm, other);
+        let at = column(l);
+        let arm = masks[(k + 1) * 41 + at];
+        let other = masks[right * 41 + at];
+        masks[k * 41 + at] = node_mask(node, end, k, l, last, arm, other);
         l += 1;
     }
 }
 
-// The masks of every place: place k and label l at k * 41 + l. END has none.
+// The masks of every place: place k and label l at k * 41 + column(l). END has none.
 pub fn target_masks(formula: &[u8], ends: &[u8; 40]) -> [u64; 1681]
     requires { ⌜ 681 ≤ length (now formula) ⌝ }
     requires { ⌜ ((F : Formula) × Spells (now formula) (now ends) F) ⌝ }

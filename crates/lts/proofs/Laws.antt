@@ -1,6 +1,7 @@
 -- Laws that several proofs cite, by topic.
 pub mod Contents
 pub mod Exits
+pub mod StepArray
 pub mod Tests
 pub mod Grown
 pub mod Lines

@@ -1,4 +1,4 @@
 pub mod Lists
-pub mod Steps
+pub mod StepsFrom
 pub mod Laws
 pub mod Examples

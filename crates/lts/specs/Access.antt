@@ -1,11 +1,10 @@
 -- What the accessors of prepared bytes answer, and which bytes they take.
 use mathlib.Core.Path.{_≡_}
-use mathlib.Core.Bool.{Bool, true, false, cond}
-use mathlib.Core.List.{List, [], _∷_}
+use mathlib.Core.Bool.{Bool, true, false}
+use mathlib.Core.List.{List}
 use mathlib.Core.Option.{Option, none, some}
-use Prim.Native.Nat.{ℕ, suc, _≤_, _<_}
-use lib.Dec.{ltb}
-use lib.ListN.{length, getD}
+use Prim.Native.Nat.{ℕ, _≤_, _<_}
+use lib.ListN.{length}
 use Rattle.lts.specs.Steps.{Step}
 use Rattle.lts.specs.Range.{InRange}
 use Rattle.lts.specs.Prepared.{tableLength, tableIn, transitionAt}
@@ -36,17 +35,6 @@ pub record StepRead (b : List ℕ) (k : ℕ) (r : Transition) : Type 0 where
   pub from-byte : r .from < 256
   pub label-byte : r .label < 256
   pub to-byte : r .to < 256
-
--- How many of the steps leave a state below s.
-abbrev pub exitsBelow : List Step → ℕ → ℕ
-exitsBelow [] s = 0
-exitsBelow (st ∷ l) s = cond (ltb (st .from) s) (suc (exitsBelow l s)) (exitsBelow l s)
-
--- Where each state's transitions begin: those of s stand from r[s] to before r[s + 1].
-pub record ExitsFound (b r : List ℕ) : Type 0 where
-  pub states : length r ≡ 257
-  pub begins : (s : ℕ) → s ≤ 256 → getD r s 0 ≡ exitsBelow (tableIn b .transitions) s
-  pub few : (s : ℕ) → s ≤ 256 → getD r s 0 ≤ length (tableIn b .transitions)
 
 -- An answer to a question.
 pub record Decides (P : Type 0) (r : Bool) : Type 0 where

@@ -8,6 +8,7 @@ pub mod Reading
 pub mod Prepared
 pub mod Replies
 pub mod Access
+pub mod StepArray
 pub mod Check
 pub mod Lines
 pub mod Slots

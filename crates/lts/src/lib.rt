@@ -15,3 +15,4 @@ pub enum TableReply {
 pub mod check;
 pub mod names;
 pub mod prepared;
+pub mod steps;

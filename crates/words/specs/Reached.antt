@@ -9,14 +9,14 @@ use lib.Dec.{eqb}
 use lib.ListN.{length, getD}
 use Rattle.lts.specs.Reply.{Reply, accepted}
 use Rattle.lts.specs.Lists.{upFrom, some as any}
-use Rattle.lts.specs.Steps.{Step, Table, labels, stepsFrom}
+use Rattle.lts.specs.Steps.{Step, Table, labels}
 use Rattle.lts.specs.Prepared.{tableIn}
 use Rattle.actl.specs.Formulas.{Formula}
 use Rattle.actl.specs.Prepared.{preparedFormula}
 use Rattle.actl.specs.Reading.{unlessFound}
 use Rattle.labelling.specs.Flags.{flagAt}
 use Rattle.listing.specs.Listing.{onLabel}
-use Rattle.listing.specs.Masks.{bitAt}
+use Rattle.listing.specs.Masks.{bitAt, columnOf}
 use Rattle.listing.specs.Words.{accepts}
 use Rattle.listing.specs.Bytes.{bitOf}
 use Rattle.words.specs.Fronts.{stateIn, nowhere, emptied, brought, through}
@@ -25,7 +25,7 @@ use Rattle.words.specs.declared.WordReply.{WordReply}
 
 -- The target places of place k on label l, as `target_masks` leaves them.
 abbrev pub maskAt : List ℕ → ℕ → ℕ → ℕ
-maskAt masks k l = getD masks (k * 41 + l) 0
+maskAt masks k l = getD masks (k * 41 + columnOf l) 0
 
 -- The target places of a set of places: with those of place k, if it is in the set; and of all of them.
 abbrev pub targetsAdded : List ℕ → ℕ → ℕ → ℕ → ℕ → ℕ
@@ -42,24 +42,24 @@ unfoldable pub stepsTaken : ℕ → ℕ → List Step → List ℕ → List ℕ
 stepsTaken l places [] next = next
 stepsTaken l places (st ∷ steps) next = stepsTaken l places steps (stepTaken l places st next)
 
--- What a letter brings from the places of state s; from s, if it has places; and from all states.
-abbrev pub placesRead : Table → List ℕ → ℕ → ℕ → ℕ → List ℕ → List ℕ
-placesRead t masks places l s next = cond (eqb (targetsOf masks places l) 0) next (stepsTaken l (targetsOf masks places l) (stepsFrom t s) next)
+-- What a letter brings from places of a state, along the steps that leave it; from s, if it has places; and from all states.
+abbrev pub placesRead : List Step → List ℕ → ℕ → ℕ → List ℕ → List ℕ
+placesRead steps masks places l next = cond (eqb (targetsOf masks places l) 0) next (stepsTaken l (targetsOf masks places l) steps next)
 
-abbrev pub stateRead : Table → List ℕ → List ℕ → ℕ → ℕ → List ℕ → List ℕ
-stateRead t masks reached l s next = cond (stateIn reached s) (placesRead t masks (getD reached s 0) l s next) next
+abbrev pub stateRead : (ℕ → List Step) → List ℕ → List ℕ → ℕ → ℕ → List ℕ → List ℕ
+stateRead from masks reached l s next = cond (stateIn reached s) (placesRead (from s) masks (getD reached s 0) l next) next
 
-abbrev pub letterRead : Table → List ℕ → ℕ → List ℕ → List ℕ → List ℕ
-letterRead t masks l reached next = through (stateRead t masks reached l) 256 0 (emptied next)
+abbrev pub letterRead : (ℕ → List Step) → List ℕ → ℕ → List ℕ → List ℕ → List ℕ
+letterRead from masks l reached next = through (stateRead from masks reached l) 256 0 (emptied next)
 
 -- Two fronts take turns.
-unfoldable pub wordRead : Table → List ℕ → List ℕ → List ℕ → List ℕ → List ℕ
-wordRead t masks [] reached next = reached
-wordRead t masks (l ∷ w) reached next = wordRead t masks w (letterRead t masks l reached next) reached
+unfoldable pub wordRead : (ℕ → List Step) → List ℕ → List ℕ → List ℕ → List ℕ → List ℕ
+wordRead from masks [] reached next = reached
+wordRead from masks (l ∷ w) reached next = wordRead from masks w (letterRead from masks l reached next) reached
 
 -- The root at the start state alone.
-abbrev pub rootReached : Table → List ℕ
-rootReached t = brought (t .start) 1 nowhere
+abbrev pub rootReached : ℕ → List ℕ
+rootReached start = brought start 1 nowhere
 
 -- Some place of a set is final.
 abbrev pub finalIn : List Bool → ℕ → ℕ → Bool

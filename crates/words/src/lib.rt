@@ -9,8 +9,9 @@ use actl::walk::shape_of;
 use listing::masks::final_places;
 use listing::masks::target_masks;
 use lts::names::Lookup;
-use lts::prepared::first_exits;
 use lts::prepared::label_count;
+use lts::prepared::start_state;
+use lts::steps::steps_of;
 
 mod fronts;
 mod reading;
@@ -78,12 +79,15 @@ fn is_accepted(table: &[u8], formula: &[u8], word: &[u8]) -> bool
     requires { ⌜ Letters (now word) ⌝ }
     ensures { λ r. ⌜ Answers (now (table .entry)) (now (formula .entry)) (now (word .entry)) r ⌝ }
 {
-    let begins = first_exits(table);
+    let all = steps_of(table);
+    let steps = all.steps;
+    let firsts = all.firsts;
     let shape = shape_of(formula);
     let ends = shape.ends;
     let masks = target_masks(formula, &ends);
     let finals = final_places(formula, &ends);
-    some_final(&finals, read_word(table, &begins, &masks, word))
+    let start = start_state(table);
+    some_final(&finals, read_word(&steps, &firsts, &masks, start, word))
 }
 
 fn answer_of(found: bool) -> WordReply

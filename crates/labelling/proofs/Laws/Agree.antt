@@ -7,9 +7,9 @@ use Prim.Native.Nat.{ℕ, zero, suc, _≤_, _<_}
 use native.Mathlib.Omega.{arith}
 use lib.ListN.{length}
 use Rattle.lts.specs.Lists.{some, every}
-use Rattle.lts.specs.Steps.{Step, Table, IsStep, stepsFrom}
+use Rattle.lts.specs.Steps.{Step, Table, stepsFrom}
 use Rattle.lts.specs.Range.{InRange}
-use Rattle.lts.proofs.Steps.{steps-are}
+use Rattle.lts.proofs.StepsFrom.{step-below}
 use Rattle.actl.specs.Actions.{Mask, inSet, Cond, meets, passes}
 use Rattle.labelling.specs.Holds.{within, enters}
 use Rattle.labelling.specs.Flags.{leadsTo}
@@ -28,13 +28,6 @@ abbrev pub Agree : (ℕ → Bool) → (ℕ → Bool) → Type 0
 Agree p q = (s : ℕ) → s < 256 → p s ≡ q s
 
 module _ (t : Table) (r : InRange t) where
-  pub step-below : (s : ℕ) → s < 256 → (st : Step) → List·Memᴰ st (stepsFrom t s) → st .to < 256
-  step-below s h st m = let (e, i) = steps-are t s st .0 m in go e i
-    where
-      go : st .from ≡ s → IsStep t st → st .to < 256
-      go e (inl n) = omega (arith, r .few-states, r .steps-in-range st n .enters)
-      go e (inr (d, n)) = omega (arith, ap (λ (x : Step). x .to) d, e)
-
   module _ (p q : ℕ → Bool) (a : Agree p q) where
     -- Steps whose labels pass a test, and that lead to where p, or q, holds.
     abbrev to-p : (ℕ → Bool) → Step → Bool
@@ -44,10 +37,10 @@ module _ (t : Table) (r : InRange t) where
     to-q m st = m (st .label) && q (st .to)
 
     pub some-agree : (m : ℕ → Bool) → Agree (λ s. some (to-p m) (stepsFrom t s)) (λ s. some (to-q m) (stepsFrom t s))
-    some-agree m s h = some-same (to-p m) (to-q m) (stepsFrom t s) (λ st n. ap (λ b. m (st .label) && b) (a (st .to) (step-below s h st n)))
+    some-agree m s h = some-same (to-p m) (to-q m) (stepsFrom t s) (λ st n. ap (λ b. m (st .label) && b) (a (st .to) (step-below t r s h st n)))
 
     pub every-agree : (m : ℕ → Bool) → Agree (λ s. every (to-p m) (stepsFrom t s)) (λ s. every (to-q m) (stepsFrom t s))
-    every-agree m s h = every-same (to-p m) (to-q m) (stepsFrom t s) (λ st n. ap (λ b. m (st .label) && b) (a (st .to) (step-below s h st n)))
+    every-agree m s h = every-same (to-p m) (to-q m) (stepsFrom t s) (λ st n. ap (λ b. m (st .label) && b) (a (st .to) (step-below t r s h st n)))
 
   pub within-agree : (p q : ℕ → Bool) → Agree p q → (m : Mask) (n : ℕ) → Agree (within t m p n) (within t m q n)
   unfolding within

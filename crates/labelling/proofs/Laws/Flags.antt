@@ -2,13 +2,15 @@
 use mathlib.Core.Path.{_≡_, refl, sym, ap, _∙_}
 use mathlib.Core.Bool.{Bool, true, false, false≢true, true≢false, not, _&&_, _||_, Bool·beq}
 use mathlib.Core.List.{List, [], _∷_}
-use Prim.Native.Nat.{ℕ, suc, _+_, _≤_, _<_}
-use native.Mathlib.Numerals.{add-one}
+use Prim.Native.Nat.{ℕ, _+_, _≤_, _<_}
 use native.Mathlib.Decide.{ℕ-discrete}
 use native.Mathlib.Omega.{arith}
-use lib.ListN.{length, getD, set, replicate, length-set, length-replicate}
-use lib.Seq.{slice, slice-empty, slice-cons, getD-set-same, getD-set-other}
+use lib.ListN.{length, set, replicate, length-set, length-replicate}
+use lib.Seq.{getD-set-same, getD-set-other}
 use Rattle.lts.specs.Lists.{some, every}
+use Rattle.lts.specs.Steps.{Step}
+use Rattle.lts.specs.StepArray.{stepAt, stepsBetween}
+use Rattle.lts.proofs.Laws.StepArray.{between-next, between-over}
 use Rattle.labelling.specs.Flags.{same, flagAt, Flags}
 
 pub same-there : (wanted result m there : Bool) → result ≡ m → there ≡ true → Bool·beq result wanted ≡ same wanted (m && there)
@@ -43,20 +45,19 @@ module _ {A : Type 0} (p : A → Bool) where
   every-not-some [] = refl
   every-not-some (x ∷ l) = not-or (p x) (some (λ x. same false (p x)) l) ∙ ap (λ b. p x && b) (every-not-some l)
 
-  pub some-one : (x : A) (b : Bool) → p x ≡ b → some p (x ∷ []) ≡ b
-  some-one x true e = rw e
-  some-one x false e = rw e
+-- Steps that are not searched yet, from k to before `end`.
+module _ (p : Step → Bool) (steps : List ℕ) (s k end : ℕ) where
+  abbrev rest : Bool
+  rest = some p (stepsBetween steps s (k + 1) end)
 
-  module _ (l : List A) (d : A) (end : ℕ) (few : end ≤ length l) where
-    pub some-found : (k : ℕ) → k < end → p (getD l k d) ≡ true → some p (slice k end l) ≡ true
-    some-found k h e = ap (some p) (slice-cons k end l d h few) ∙ ap (λ b. b || some p (slice (suc k) end l)) e
+  pub some-found : k < end → p (stepAt steps s k) ≡ true → some p (stepsBetween steps s k end) ≡ true
+  some-found h e = ap (some p) (between-next steps s k end h) ∙ ap (λ b. b || rest) e
 
-    pub some-later : (k : ℕ) → k < end → p (getD l k d) ≡ false → some p (slice k end l) ≡ some p (slice (k + 1) end l)
-    some-later k h e =
-        ap (some p) (slice-cons k end l d h few) ∙ (ap (λ b. b || some p (slice (suc k) end l)) e ∙ ap (λ n. some p (slice n end l)) (sym (add-one k)))
+  pub some-later : k < end → p (stepAt steps s k) ≡ false → some p (stepsBetween steps s k end) ≡ some p (stepsBetween steps s (k + 1) end)
+  some-later h e = ap (some p) (between-next steps s k end h) ∙ ap (λ b. b || rest) e
 
-  pub some-none : (l : List A) (k end : ℕ) → k ≡ end → some p (slice k end l) ≡ false
-  some-none l k end e = ap (λ n. some p (slice n end l)) e ∙ ap (some p) (slice-empty end l)
+  pub some-none : end ≤ k → some p (stepsBetween steps s k end) ≡ false
+  some-none h = ap (some p) (between-over steps s k end h)
 
 -- Flags of the states below `end`, set a state at a time.
 pub record FlagsBelow (p : ℕ → Bool) (end : ℕ) (flags : List Bool) : Type 0 where
@@ -80,3 +81,7 @@ module _ (p : ℕ → Bool) where
 
   pub flags-all : (end : ℕ) {flags : List Bool} → 256 ≤ end → FlagsBelow p end flags → Flags p flags
   flags-all end h d = record { places = d .places; flag = λ s l. d .flag s (omega arith) }
+
+-- Flags of two tests that agree at every state.
+pub flags-same : {p q : ℕ → Bool} {flags : List Bool} → ((s : ℕ) → s < 256 → p s ≡ q s) → Flags p flags → Flags q flags
+flags-same h d = record { places = d .places; flag = λ s l. d .flag s l ∙ h s l }

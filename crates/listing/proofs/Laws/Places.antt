@@ -22,7 +22,7 @@ use Rattle.actl.proofs.Nodes.{size-pos}
 use Rattle.actl.proofs.Laws.Slots.{node-shaped}
 use Rattle.actl.proofs.Laws.Prepared.{prepared-few, prepared-count, prepared-slot}
 use Rattle.listing.specs.Listing.{nodeAt, final}
-use Rattle.listing.specs.Masks.{targetMask, maskOfNode, finalOfNode, Spells, MasksFit, MasksOf, MasksOn, FinalsOf}
+use Rattle.listing.specs.Masks.{columnOf, targetMask, maskOfNode, finalOfNode, Spells, MasksFit, MasksOf, MasksOn, FinalsOf}
 use Rattle.listing.proofs.Laws.MasksFound.{mask-past, target-fits, node-mask-is, final-past, node-final-is}
 
 -- A prepared formula, with the shape that was found of it.
@@ -85,7 +85,7 @@ module _ {b ends : List ℕ} {F : Formula} (p : Spells b ends F) (k : ℕ) (h : 
           (λ x y. ap (λ q. getD masks (q * 41 + l) 0) (right-is x y) ∙ m .behind .mask (k + 1 + size (nodeAt F (k + 1))) l (omega arith) (omega arith) (omega arith))
           T-is node (nodeAt F k) (at-node F k below) (s ∙ p .slot k below)
 
-      pub masks-turn : (v : ℕ) → v ≡ mask → MasksOn F k (l + 1) (set masks (k * 41 + l) v)
+      masks-turn : (v : ℕ) → v ≡ mask → MasksOn F k (l + 1) (set masks (k * 41 + l) v)
       masks-turn v q = record {
         long = length-set masks (k * 41 + l) v ∙ m .long;
         behind = record { mask = λ j i x y z. getD-set-other masks (k * 41 + l) (j * 41 + i) v 0 (λ u. omega arith) ∙ m .behind .mask j i x y z };
@@ -98,6 +98,12 @@ module _ {b ends : List ℕ} {F : Formula} (p : Spells b ends F) (k : ℕ) (h : 
               ap (λ n. getD (set masks (k * 41 + l) v) (k * 41 + n) 0) d
               ∙ (getD-set-same masks (k * 41 + l) v 0 (omega (arith, m .long, place-few)) ∙ (q ∙ (mask-is ∙ ap (targetMask F k) (sym d))))
           pick i x (no d) = getD-set-other masks (k * 41 + l) (k * 41 + i) v 0 (λ u. d (omega arith)) ∙ m .here i (omega arith)
+
+      -- The same in the column that the code found.
+      pub masks-turn-at : (at : ℕ) → at ≡ columnOf l → (v : ℕ) → v ≡ maskOfNode node end k l last (getD masks ((k + 1) * 41 + at) 0) (getD masks (right * 41 + at) 0)
+          → MasksOn F k (l + 1) (set masks (k * 41 + at) v)
+      masks-turn-at at c v =
+          subst (λ x. v ≡ maskOfNode node end k l last (getD masks ((k + 1) * 41 + x) 0) (getD masks (right * 41 + x) 0) → MasksOn F k (l + 1) (set masks (k * 41 + x) v)) (sym c) (masks-turn v)
 
     -- The flag of place k, from those behind.
     module _ (finals : List Bool) (m : FinalsOf F (k + 1) finals) (node : Node) (s : slotOfNode node ≡ slotAt b k) where

@@ -12,7 +12,7 @@ use borrow.Author.Tests.{ltb-true, ltb-false, eq-eqb, ne-eqb}
 use Rattle.lts.specs.Lists.{keep, orElse, Rising}
 use Rattle.lts.specs.Steps.{Step, Table, idleAt, leaves, stepsFrom}
 use Rattle.lts.specs.Range.{InRange, Below}
-use Rattle.lts.specs.Access.{exitsBelow}
+use Rattle.lts.specs.StepArray.{exitsBelow}
 use Rattle.lts.proofs.Lists.{keep-slice, getD-mem, rising-weaken}
 
 -- No step leaves a lower state than an earlier one.
@@ -52,7 +52,7 @@ exits-are (x ∷ l) (suc k) s d h f g =
     count true e o h = ap suc h
     count false e o h = absurd (omega (arith, ltb-false (x .from) s e))
 
-exits-none : (l : List Step) (s : ℕ) → ((y : Step) → List·Memᴰ y l → s ≤ y .from) → exitsBelow l s ≡ 0
+pub exits-none : (l : List Step) (s : ℕ) → ((y : Step) → List·Memᴰ y l → s ≤ y .from) → exitsBelow l s ≡ 0
 exits-none l s h =
     exits-are l 0 s (idleAt 0) (omega arith) (λ i u. absurd (omega arith)) (λ i u v. h (getD l i (idleAt 0)) (getD-mem l i (idleAt 0) v))
 

@@ -8,10 +8,12 @@ use native.Mathlib.Numerals.{add-one}
 use native.Mathlib.Omega.{arith}
 use lib.Dec.{ltb}
 use lib.ListN.{length, getD, drop, length-drop}
-use lib.Seq.{drop-cons, slice, slice-cons, slice-empty}
+use lib.Seq.{drop-cons}
 use borrow.Author.Tests.{lt-ltb, le-ltb, ltb-false, eq-eqb, ne-eqb}
 use Rattle.lts.specs.Lists.{upFrom, some as any}
-use Rattle.lts.specs.Steps.{Step, Table}
+use Rattle.lts.specs.Steps.{Step}
+use Rattle.lts.specs.StepArray.{stepAt, stepsBetween}
+use Rattle.lts.proofs.Laws.StepArray.{between-next, between-over}
 use Rattle.words.specs.Replies.{badFrom, badLetter}
 use Rattle.words.specs.Fronts.{brought}
 use Rattle.words.specs.Reached.{stepTaken, stepsTaken, letterRead, wordRead, Letters}
@@ -74,43 +76,38 @@ module _ (l places : ℕ) (st : Step) (next : List ℕ) where
   pub step-not-taken : (st .label ≡ l → ⊥) → next ≡ stepTaken l places st next
   step-not-taken e = sym (ap (λ b. cond b (brought (st .to) places next) next) (ne-eqb (st .label) l e))
 
-pub steps-one : (l places : ℕ) (st : Step) (next : List ℕ) → stepsTaken l places (st ∷ []) next ≡ stepTaken l places st next
-unfolding stepsTaken
-steps-one l places st next = refl
-
--- Steps that are not taken yet.
-module _ (l places : ℕ) (steps : List Step) (d : Step) (end : ℕ) (few : end ≤ length steps) where
-  pub steps-next : (k : ℕ) (next : List ℕ) → k < end
-      → stepsTaken l places (slice k end steps) next ≡ stepsTaken l places (slice (k + 1) end steps) (stepTaken l places (getD steps k d) next)
+-- Steps that are not taken yet, from k to before `end`.
+module _ (l places : ℕ) (steps : List ℕ) (s k end : ℕ) (next : List ℕ) where
+  pub steps-next : k < end → (x : List ℕ) → x ≡ stepTaken l places (stepAt steps s k) next
+      → stepsTaken l places (stepsBetween steps s k end) next ≡ stepsTaken l places (stepsBetween steps s (k + 1) end) x
   unfolding stepsTaken
-  steps-next k next h =
-      ap (λ z. stepsTaken l places z next) (slice-cons k end steps d h few)
-      ∙ ap (λ j. stepsTaken l places (slice j end steps) (stepTaken l places (getD steps k d) next)) (sym (add-one k))
+  steps-next h x e =
+      ap (λ z. stepsTaken l places z next) (between-next steps s k end h) ∙ ap (stepsTaken l places (stepsBetween steps s (k + 1) end)) (sym e)
 
-  pub steps-over : (k : ℕ) (next : List ℕ) → k ≡ end → stepsTaken l places (slice k end steps) next ≡ next
+  pub steps-over : end ≤ k → stepsTaken l places (stepsBetween steps s k end) next ≡ next
   unfolding stepsTaken
-  steps-over k next e = ap (λ j. stepsTaken l places (slice j end steps) next) e ∙ ap (λ z. stepsTaken l places z next) (slice-empty end steps)
+  steps-over h = ap (λ z. stepsTaken l places z next) (between-over steps s k end h)
 
 -- Letters that are not read yet.
-module _ (t : Table) (masks w : List ℕ) (i : ℕ) (reached next : List ℕ) where
-  word-next : i < length w → wordRead t masks (drop i w) reached next ≡ wordRead t masks (drop (i + 1) w) (letterRead t masks (getD w i 0) reached next) reached
+module _ (from : ℕ → List Step) (masks w : List ℕ) (i : ℕ) (reached next : List ℕ) where
+  word-next : i < length w → wordRead from masks (drop i w) reached next ≡ wordRead from masks (drop (i + 1) w) (letterRead from masks (getD w i 0) reached next) reached
   unfolding wordRead
   word-next h =
-      ap (λ v. wordRead t masks v reached next) (drop-cons w i 0 h)
-      ∙ ap (λ j. wordRead t masks (drop j w) (letterRead t masks (getD w i 0) reached next) reached) (sym (add-one i))
+      ap (λ v. wordRead from masks v reached next) (drop-cons w i 0 h)
+      ∙ ap (λ j. wordRead from masks (drop j w) (letterRead from masks (getD w i 0) reached next) reached) (sym (add-one i))
 
-  pub word-turn : i < length w → (x : List ℕ) → x ≡ letterRead t masks (getD w i 0) reached next → wordRead t masks (drop i w) reached next ≡ wordRead t masks (drop (i + 1) w) x reached
-  word-turn h x e = word-next h ∙ ap (λ y. wordRead t masks (drop (i + 1) w) y reached) (sym e)
+  pub word-turn : i < length w → (x : List ℕ) → x ≡ letterRead from masks (getD w i 0) reached next → wordRead from masks (drop i w) reached next ≡ wordRead from masks (drop (i + 1) w) x reached
+  word-turn h x e = word-next h ∙ ap (λ y. wordRead from masks (drop (i + 1) w) y reached) (sym e)
 
-  pub word-over : length w ≤ i → wordRead t masks (drop i w) reached next ≡ reached
+  pub word-over : length w ≤ i → wordRead from masks (drop i w) reached next ≡ reached
   unfolding wordRead
-  word-over h = ap (λ v. wordRead t masks v reached next) (over w i h)
+  word-over h = ap (λ v. wordRead from masks v reached next) (over w i h)
 
-pub word-turns : (t : Table) (masks w : List ℕ) (i : ℕ) (reached next : List ℕ) → i + 1 < length w → (x y : List ℕ) → x ≡ letterRead t masks (getD w i 0) reached next
-    → y ≡ letterRead t masks (getD w (i + 1) 0) x reached → wordRead t masks (drop i w) reached next ≡ wordRead t masks (drop (i + 2) w) y x
-word-turns t masks w i reached next h x y e d =
+pub word-turns : (from : ℕ → List Step) (masks w : List ℕ) (i : ℕ) (reached next : List ℕ) → i + 1 < length w → (x y : List ℕ) → x ≡ letterRead from masks (getD w i 0) reached next
+    → y ≡ letterRead from masks (getD w (i + 1) 0) x reached → wordRead from masks (drop i w) reached next ≡ wordRead from masks (drop (i + 2) w) y x
+word-turns from masks w i reached next h x y e d =
     let two : i + 1 + 1 ≡ i + 2 = omega arith in
-    word-turn t masks w i reached next (omega arith) x e ∙ (word-turn t masks w (i + 1) x reached h y d ∙ ap (λ j. wordRead t masks (drop j w) y x) two)
+    word-turn from masks w i reached next (omega arith) x e ∙ (word-turn from masks w (i + 1) x reached h y d ∙ ap (λ j. wordRead from masks (drop j w) y x) two)
 
 -- Numbers that are not tested yet.
 abbrev pub anyLeft : (ℕ → Bool) → ℕ → ℕ → Bool

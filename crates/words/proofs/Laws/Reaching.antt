@@ -13,7 +13,7 @@ use Rattle.lts.specs.Lists.{upFrom, some}
 use Rattle.lts.specs.Steps.{Step, Table, IsStep, stepsFrom}
 use Rattle.lts.specs.Range.{InRange}
 use Rattle.lts.proofs.Lists.{some-of, some-to, and-true-of, and-true-to, upFrom-of, upFrom-to}
-use Rattle.lts.proofs.Steps.{steps-are}
+use Rattle.lts.proofs.StepsFrom.{steps-are}
 use Rattle.actl.specs.Formulas.{Formula, size}
 use Rattle.listing.specs.Listing.{leads, onLabel}
 use Rattle.listing.specs.Masks.{bitAt, MasksOf}
@@ -102,7 +102,7 @@ module _ (t : Table) (w : InRange t) (masks : List ℕ) (l : ℕ) where
   abbrev targetsOn : ℕ → ℕ
   targetsOn places = targetsOf masks places l
 
-  length-state : (reached : List ℕ) (s : ℕ) (next : List ℕ) → length (stateRead t masks reached l s next) ≡ length next
+  length-state : (reached : List ℕ) (s : ℕ) (next : List ℕ) → length (stateRead (stepsFrom t) masks reached l s next) ≡ length next
   length-state reached s next = let places = getD reached s 0 in case places (stateIn reached s) (eqb (targetsOn places) 0)
     where
       case : (places : ℕ) (b c : Bool) → length (cond b (cond c next (stepsTaken l (targetsOn places) (stepsFrom t s) next)) next) ≡ length next
@@ -110,16 +110,16 @@ module _ (t : Table) (w : InRange t) (masks : List ℕ) (l : ℕ) where
       case places true true = refl
       case places true false = length-steps l (targetsOn places) (stepsFrom t s) next
 
-  pub length-letter : (reached next : List ℕ) → length next ≡ 260 → length (letterRead t masks l reached next) ≡ 260
+  pub length-letter : (reached next : List ℕ) → length next ≡ 260 → length (letterRead (stepsFrom t) masks l reached next) ≡ 260
   length-letter reached next e =
-      through-good (stateRead t masks reached l) (λ x. length x ≡ 260) 256 (λ s x h i. length-state reached s x ∙ i) 256 0 (emptied next) (omega arith) (length-emptied next ∙ e)
+      through-good (stateRead (stepsFrom t) masks reached l) (λ x. length x ≡ 260) 256 (λ s x h i. length-state reached s x ∙ i) 256 0 (emptied next) (omega arith) (length-emptied next ∙ e)
 
   module _ (v q : ℕ) (few : v < 256) where
     abbrev brings : List ℕ → ℕ → Bool
     brings reached s = stateIn reached s && (bitAt (targetsOn (getD reached s 0)) q && some (enters l v) (stepsFrom t s))
 
     places-add : (places s : ℕ) (next : List ℕ) → s < 256 → length next ≡ 260
-        → reachedAt (placesRead t masks places l s next) v q ≡ (reachedAt next v q || bitAt (targetsOn places) q && some (enters l v) (stepsFrom t s))
+        → reachedAt (placesRead (stepsFrom t s) masks places l next) v q ≡ (reachedAt next v q || bitAt (targetsOn places) q && some (enters l v) (stepsFrom t s))
     places-add places s next h e = case (eqb (targetsOn places) 0) refl
       where
         case : (b : Bool) → eqb (targetsOn places) 0 ≡ b
@@ -130,17 +130,17 @@ module _ (t : Table) (w : InRange t) (masks : List ℕ) (l : ℕ) where
         case false d = steps-add l (targetsOn places) v q few (stepsFrom t s) next (stay s h) e
 
     state-adds : (reached : List ℕ) (s : ℕ) (next : List ℕ) → s < 256 → length next ≡ 260
-        → reachedAt (stateRead t masks reached l s next) v q ≡ (reachedAt next v q || brings reached s)
+        → reachedAt (stateRead (stepsFrom t) masks reached l s next) v q ≡ (reachedAt next v q || brings reached s)
     state-adds reached s next h e = case (stateIn reached s)
       where
-        case : (b : Bool) → reachedAt (cond b (placesRead t masks (getD reached s 0) l s next) next) v q
+        case : (b : Bool) → reachedAt (cond b (placesRead (stepsFrom t s) masks (getD reached s 0) l next) next) v q
             ≡ (reachedAt next v q || b && (bitAt (targetsOn (getD reached s 0)) q && some (enters l v) (stepsFrom t s)))
         case true = places-add (getD reached s 0) s next h e
         case false = or-none (reachedAt next v q)
 
-    letter-reached : (reached next : List ℕ) → length next ≡ 260 → reachedAt (letterRead t masks l reached next) v q ≡ some (brings reached) (upFrom 0 256)
+    letter-reached : (reached next : List ℕ) → length next ≡ 260 → reachedAt (letterRead (stepsFrom t) masks l reached next) v q ≡ some (brings reached) (upFrom 0 256)
     letter-reached reached next e =
-        through-adds (stateRead t masks reached l) (λ x. reachedAt x v q) (brings reached) (λ x. length x ≡ 260) 256 (λ s x h i. length-state reached s x ∙ i) (λ s x h i. state-adds reached s x h i)
+        through-adds (stateRead (stepsFrom t) masks reached l) (λ x. reachedAt x v q) (brings reached) (λ x. length x ≡ 260) 256 (λ s x h i. length-state reached s x ∙ i) (λ s x h i. state-adds reached s x h i)
         256 0 (emptied next) (omega arith) (length-emptied next ∙ e)
         ∙ ap (λ b. b || some (brings reached) (upFrom 0 256)) (emptied-reached next v q few)
 
@@ -150,7 +150,7 @@ module _ (t : Table) (w : InRange t) (masks : List ℕ) (l : ℕ) where
       mask-leads : (k : ℕ) → k ≤ size F → bitAt (maskAt masks k l) q ≡ leads F k l q
       mask-leads k h = ap (λ m. bitAt m q) (d .mask k l (omega arith) h few-labels) ∙ target-bit F k l q
 
-      pub letter-of : reachedAt (letterRead t masks l reached next) v q ≡ true → (x : ℕ) × (x < 256) × ((j : ℕ) × (reachedAt reached x j ≡ true) × Joins t F (at j x) l (at q v))
+      pub letter-of : reachedAt (letterRead (stepsFrom t) masks l reached next) v q ≡ true → (x : ℕ) × (x < 256) × ((j : ℕ) × (reachedAt reached x j ≡ true) × Joins t F (at j x) l (at q v))
       letter-of z =
           let (s, m, a) = some-of (brings reached) (upFrom 0 256) (sym (letter-reached reached next long) ∙ z) in
           let below : s < 256 = omega (arith, upFrom-of 0 256 m) in
@@ -166,7 +166,7 @@ module _ (t : Table) (w : InRange t) (masks : List ℕ) (l : ℕ) where
           subst (λ (x : ℕ). IsStep t (record { from = s; label = l; to = x })) (sym (eqb-true v (st .to) o)) (subst (λ (y : ℕ). IsStep t (record { from = s; label = y; to = st .to })) (eqb-true (st .label) l e) (leaving t f p)) in
           (s, below, (k, from-here, (step, leads-of F k l q (sym (mask-leads k (within s k below from-here)) ∙ goes))))
 
-      pub letter-to : (x j : ℕ) → x < 256 → reachedAt reached x j ≡ true → Joins t F (at j x) l (at q v) → reachedAt (letterRead t masks l reached next) v q ≡ true
+      pub letter-to : (x j : ℕ) → x < 256 → reachedAt reached x j ≡ true → Joins t F (at j x) l (at q v) → reachedAt (letterRead (stepsFrom t) masks l reached next) v q ≡ true
       letter-to x j h z (step, moves) =
           let (i, has) = reached-of reached x j z in
           let inside = within x j h z in

@@ -68,3 +68,10 @@ pub through-good : {A : Type 0} (f : ℕ → A → A) (Good : A → Type 0) (lim
 unfolding through
 through-good f Good limit good zero k a b x = x
 through-good f Good limit good (suc n) k a b x = through-good f Good limit good n (suc k) (f k a) (omega arith) (good k a (omega arith) x)
+
+pub through-same : {A : Type 0} (f g : ℕ → A → A) (limit : ℕ) → ((k : ℕ) (a : A) → k < limit → f k a ≡ g k a)
+    → (n k : ℕ) (a : A) → k + n ≤ limit → through f n k a ≡ through g n k a
+unfolding through
+through-same f g limit h zero k a b = refl
+through-same f g limit h (suc n) k a b =
+    ap (through f n (suc k)) (h k a (omega arith)) ∙ through-same f g limit h n (suc k) (g k a) (omega arith)

@@ -3,21 +3,30 @@ use borrow.Author.Needs.{needs}
 use mathlib.Core.Path.{_≡_, refl, sym, ap, _∙_, subst}
 use mathlib.Core.Bool.{Bool}
 use mathlib.Core.List.{List}
+use Rattle.lts.specs.Steps.{stepsFrom}
 use Rattle.lts.specs.Prepared.{tableIn}
 use Rattle.actl.specs.declared.node.Node.{Node}
 use Rattle.labelling.specs.Flags.{flagAt, atOnce, nodeHolds, Flags}
+use Rattle.labelling.proofs.Laws.Flags.{flags-same}
 use Rattle.labelling.proofs.Laws.Nodes.{until-flags}
 use Rattle.labelling.proofs.nodes.label_node.Statement.{statement}
 use Rattle.labelling.proofs.nodes.label_node.Tie as tie
 
 abbrev AtOnce : tie.Start → List Bool → Node → Type 0
-AtOnce c flags n = Flags (atOnce (tableIn (c .args .table .now)) n (flagAt (c .args .arm .now)) (flagAt (c .args .other .now))) flags
+AtOnce c flags n = Flags (λ s. atOnce n (flagAt (c .args .arm .now)) (flagAt (c .args .other .now)) s (stepsFrom (tableIn (c .args .table .now)) s)) flags
 
 abbrev Wanted : tie.Start → List Bool → Node → Type 0
 Wanted c flags n = Flags (nodeHolds (tableIn (c .args .table .now)) n (flagAt (c .args .arm .now)) (flagAt (c .args .other .now))) flags
 
+-- The steps in the arrays are the table's.
+at-once : (c : tie.After-label-at-once) → AtOnce (c .before .before) (c .label-at-once .result) (c .before .before .args .node)
+at-once c =
+    let start = c .before .before in
+    let a = start .args in
+    flags-same (λ s h. ap (atOnce (a .node) (flagAt (a .arm .now)) (flagAt (a .other .now)) s) (start .pre .1 .0 .leaving s h)) (c .label-at-once .ensures)
+
 label-at-once-requires : tie.Need-label-at-once-requires
-label-at-once-requires c κs = search needs
+label-at-once-requires c κs = c .before .pre .1 .0 .fit
 
 enum-told : tie.Need-enum-told
 enum-told c = search needs
@@ -49,48 +58,55 @@ until-requires-2 c κs = search needs
 returns : tie.Need-returns
 returns c =
     let start = c .before .before .before .before in
-    let found = c .before .before .label-at-once in
-    subst (Wanted start (found .result)) (sym (c .enum-told .given .1)) (subst (AtOnce start (found .result)) (c .enum-told .given .1) (found .ensures))
+    let known = c .before .before in
+    let found = known .label-at-once in
+    subst (Wanted start (found .result)) (sym (c .enum-told .given .1)) (subst (AtOnce start (found .result)) (c .enum-told .given .1) (at-once known))
 
 returns-2 : tie.Need-returns-2
 returns-2 c =
     let start = c .before .before .before .before in
-    let found = c .before .before .label-at-once in
-    subst (Wanted start (found .result)) (sym (c .enum-told2 .given .1)) (subst (AtOnce start (found .result)) (c .enum-told2 .given .1) (found .ensures))
+    let known = c .before .before in
+    let found = known .label-at-once in
+    subst (Wanted start (found .result)) (sym (c .enum-told2 .given .1)) (subst (AtOnce start (found .result)) (c .enum-told2 .given .1) (at-once known))
 
 returns-3 : tie.Need-returns-3
 returns-3 c =
     let start = c .before .before .before .before in
-    let found = c .before .before .label-at-once in
-    subst (Wanted start (found .result)) (sym (c .enum-told3 .given .1)) (subst (AtOnce start (found .result)) (c .enum-told3 .given .1) (found .ensures))
+    let known = c .before .before in
+    let found = known .label-at-once in
+    subst (Wanted start (found .result)) (sym (c .enum-told3 .given .1)) (subst (AtOnce start (found .result)) (c .enum-told3 .given .1) (at-once known))
 
 returns-4 : tie.Need-returns-4
 returns-4 c =
     let start = c .before .before .before .before in
-    let found = c .before .before .label-at-once in
-    subst (Wanted start (found .result)) (sym (c .enum-told4 .given .1)) (subst (AtOnce start (found .result)) (c .enum-told4 .given .1) (found .ensures))
+    let known = c .before .before in
+    let found = known .label-at-once in
+    subst (Wanted start (found .result)) (sym (c .enum-told4 .given .1)) (subst (AtOnce start (found .result)) (c .enum-told4 .given .1) (at-once known))
 
 returns-5 : tie.Need-returns-5
 returns-5 c =
     let start = c .before .before .before .before in
-    let found = c .before .before .label-at-once in
-    subst (Wanted start (found .result)) (sym (c .enum-told5 .given .1)) (subst (AtOnce start (found .result)) (c .enum-told5 .given .1) (found .ensures))
+    let known = c .before .before in
+    let found = known .label-at-once in
+    subst (Wanted start (found .result)) (sym (c .enum-told5 .given .1)) (subst (AtOnce start (found .result)) (c .enum-told5 .given .1) (at-once known))
 
 returns-6 : tie.Need-returns-6
 returns-6 c =
     let start = c .before .before .before .before .before .before .before in
-    let found = c .before .before .before .before .before .label-at-once in
+    let known = c .before .before .before .before .before in
+    let found = known .label-at-once in
     let same = c .before .before .before .node .given .1 in
     subst (Wanted start (c .until .result)) (sym same)
-    (until-flags _ (start .pre .0 .in-range) _ _ (found .result) (c .until .result) (subst (AtOnce start (found .result)) same (found .ensures)) (c .until .ensures))
+    (until-flags _ (start .pre .0 .in-range) _ _ (found .result) (c .until .result) (subst (AtOnce start (found .result)) same (at-once known)) (c .until .ensures))
 
 returns-7 : tie.Need-returns-7
 returns-7 c =
     let start = c .before .before .before .before .before .before .before in
-    let found = c .before .before .before .before .before .label-at-once in
+    let known = c .before .before .before .before .before in
+    let found = known .label-at-once in
     let same = c .before .before .before .node2 .given .1 in
     subst (Wanted start (c .until2 .result)) (sym same)
-    (until-flags _ (start .pre .0 .in-range) _ _ (found .result) (c .until2 .result) (subst (AtOnce start (found .result)) same (found .ensures)) (c .until2 .ensures))
+    (until-flags _ (start .pre .0 .in-range) _ _ (found .result) (c .until2 .result) (subst (AtOnce start (found .result)) same (at-once known)) (c .until2 .ensures))
 
 pub label-node-spec : {M : Type 1} → statement M
 label-node-spec =

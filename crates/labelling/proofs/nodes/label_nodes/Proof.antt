@@ -10,10 +10,10 @@ use Rattle.labelling.proofs.nodes.label_nodes.Statement.{statement}
 use Rattle.labelling.proofs.nodes.label_nodes.Tie as tie
 
 abbrev Inv-loop : tie.InvT-loop
-Inv-loop table begins formula ends links flags₀ k₀ flags k = (k ≤ getD formula 0 0) × RowsFrom table formula k flags
+Inv-loop table steps firsts formula ends links flags₀ k₀ flags k = (k ≤ getD formula 0 0) × RowsFrom table formula k flags
 
 abbrev μ-loop : tie.MeasureT-loop
-μ-loop table begins formula ends links flags₀ k₀ flags k = k
+μ-loop table steps firsts formula ends links flags₀ k₀ flags k = k
 
 entering-requires : tie.Need-entering-requires Inv-loop μ-loop
 entering-requires c κs = c .before .before .pre .0

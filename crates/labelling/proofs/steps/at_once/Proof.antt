@@ -2,8 +2,7 @@
 use borrow.Author.Needs.{needs}
 use mathlib.Core.Path.{_≡_, refl, sym, ap, _∙_, subst}
 use mathlib.Core.Bool.{Bool, not, _||_}
-use Rattle.lts.specs.Steps.{stepsFrom}
-use Rattle.lts.specs.Prepared.{tableIn}
+use Rattle.lts.specs.StepArray.{stepsIn}
 use Rattle.lts.proofs.Lists.{or-true-left}
 use Rattle.actl.specs.Actions.{meets}
 use Rattle.actl.specs.Access.{condIn}
@@ -14,7 +13,7 @@ use Rattle.labelling.proofs.steps.at_once.Statement.{statement}
 use Rattle.labelling.proofs.steps.at_once.Tie as tie
 
 abbrev value : tie.Start → Node → Bool
-value c node = atOnce (tableIn (c .args .table .now)) node (flagAt (c .args .arm .now)) (flagAt (c .args .other .now)) (c .args .s)
+value c node = atOnce node (flagAt (c .args .arm .now)) (flagAt (c .args .other .now)) (c .args .s) (stepsIn (c .args .steps .now) (c .args .firsts .now) (c .args .s))
 
 enum-told : tie.Need-enum-told
 enum-told c = search needs
@@ -62,28 +61,34 @@ returns : tie.Need-returns
 returns c = search needs
 
 returns-2 : tie.Need-returns-2
-returns-2 c = sym (ap (value (c .before .before .before .before)) (c .before .enum-told2 .given .1))
+returns-2 c = sym (ap (value (c .before .before .before)) (c .before .enum-told2 .given .1))
 
 returns-3 : tie.Need-returns-3
-returns-3 c = c .if1 .taken ∙ (sym (or-true-left _ (flagAt (c .before .before .before .before .before .args .other .now) (c .before .before .before .before .before .args .s)) (c .if1 .taken)) ∙ sym (ap (value (c .before .before .before .before .before)) (c .before .before .enum-told3 .given .1)))
+returns-3 c =
+    let start = c .before .before .before .before in
+    c .if1 .taken ∙ (sym (or-true-left _ (flagAt (start .args .other .now) (start .args .s)) (c .if1 .taken)) ∙ sym (ap (value start) (c .before .before .enum-told3 .given .1)))
 
 returns-4 : tie.Need-returns-4
-returns-4 c = sym (ap (λ b. b || flagAt (c .before .before .before .before .before .before .args .other .now) (c .before .before .before .before .before .before .args .s)) (c .before .if1 .left)) ∙ sym (ap (value (c .before .before .before .before .before .before)) (c .before .before .before .enum-told3 .given .1))
+returns-4 c =
+    let start = c .before .before .before .before .before in
+    sym (ap (λ b. b || flagAt (start .args .other .now) (start .args .s)) (c .before .if1 .left)) ∙ sym (ap (value start) (c .before .before .before .enum-told3 .given .1))
 
 returns-5 : tie.Need-returns-5
-returns-5 c = c .some-step .ensures ∙ sym (ap (value (c .before .before .before .before .before)) (c .before .before .node .given .1))
+returns-5 c = c .some-step .ensures ∙ sym (ap (value (c .before .before .before .before)) (c .before .before .node .given .1))
 
 returns-6 : tie.Need-returns-6
 returns-6 c =
-    let start = c .before .before .before .before .before in
-    ap not (c .some-step2 .ensures) ∙ (every-not-some (leadsTo (condIn (c .before .before .node2 .given .0 .0)) (flagAt (start .args .arm .now))) (stepsFrom (tableIn (start .args .table .now)) (start .args .s)) ∙ sym (ap (value start) (c .before .before .node2 .given .1)))
+    let start = c .before .before .before .before in
+    let steps = stepsIn (start .args .steps .now) (start .args .firsts .now) (start .args .s) in
+    ap not (c .some-step2 .ensures)
+    ∙ (every-not-some (leadsTo (condIn (c .before .before .node2 .given .0 .0)) (flagAt (start .args .arm .now))) steps ∙ sym (ap (value start) (c .before .before .node2 .given .1)))
 
 returns-7 : tie.Need-returns-7
-returns-7 c = sym (ap (value (c .before .before .before .before)) (c .before .enum-told4 .given .1))
+returns-7 c = sym (ap (value (c .before .before .before)) (c .before .enum-told4 .given .1))
 
 returns-8 : tie.Need-returns-8
 unfolding meets
-returns-8 c = c .some-step3 .ensures ∙ sym (ap (value (c .before .before .before .before .before)) (c .before .before .node3 .given .1))
+returns-8 c = c .some-step3 .ensures ∙ sym (ap (value (c .before .before .before .before)) (c .before .before .node3 .given .1))
 
 pub at-once-spec : {M : Type 1} → statement M
 at-once-spec =

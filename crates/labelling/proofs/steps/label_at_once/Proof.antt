@@ -3,23 +3,23 @@ use mathlib.Core.Path.{_≡_, refl, sym, ap, _∙_, subst}
 use mathlib.Core.Bool.{Bool}
 use Prim.Native.Nat.{ℕ, _≤_, _<_, _+_, _-_}
 use native.Mathlib.Omega.{arith}
-use Rattle.lts.specs.Prepared.{tableIn}
+use Rattle.lts.specs.StepArray.{stepsIn}
 use Rattle.labelling.specs.Flags.{flagAt, atOnce}
 use Rattle.labelling.proofs.Laws.Flags.{FlagsBelow, flags-none, flags-on, flags-all}
 use Rattle.labelling.proofs.steps.label_at_once.Statement.{statement}
 use Rattle.labelling.proofs.steps.label_at_once.Tie as tie
 
 abbrev Inv-loop : tie.InvT-loop
-Inv-loop table begins node arm other flags₀ s₀ flags s = (s ≤ 256) × FlagsBelow (atOnce (tableIn table) node (flagAt arm) (flagAt other)) s flags
+Inv-loop steps firsts node arm other flags₀ s₀ flags s = (s ≤ 256) × FlagsBelow (λ v. atOnce node (flagAt arm) (flagAt other) v (stepsIn steps firsts v)) s flags
 
 abbrev μ-loop : tie.MeasureT-loop
-μ-loop table begins node arm other flags₀ s₀ flags s = 256 - s
+μ-loop steps firsts node arm other flags₀ s₀ flags s = 256 - s
 
 loop-holds : tie.Need-loop-holds Inv-loop μ-loop
 loop-holds c = (omega arith, flags-none _)
 
 at-once-requires : tie.Need-at-once-requires Inv-loop μ-loop
-at-once-requires c κs = (c .before .before .before .pre .0, (c .before .before .before .pre .1, omega arith))
+at-once-requires c κs = (c .before .before .pre, omega arith)
 
 array-write-flags : tie.Need-array-write-flags Inv-loop μ-loop
 array-write-flags c = omega arith

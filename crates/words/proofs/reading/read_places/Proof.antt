@@ -4,8 +4,7 @@ use mathlib.Core.Bool.{cond}
 use lib.Dec.{eqb}
 use borrow.Author.Needs.{needs}
 use borrow.Author.Tests.{eq-eqb, ne-eqb}
-use Rattle.lts.specs.Steps.{stepsFrom}
-use Rattle.lts.specs.Prepared.{tableIn}
+use Rattle.lts.specs.StepArray.{stepsIn}
 use Rattle.words.specs.Reached.{stepsTaken}
 use Rattle.words.proofs.reading.read_places.Statement.{statement}
 use Rattle.words.proofs.reading.read_places.Tie as tie
@@ -18,18 +17,18 @@ take-steps-requires c κs = search needs
 
 returns : tie.Need-returns
 returns c =
-    let a = c .before .before .before .before .before .args in
+    let a = c .before .before .before .before .args in
     let targets = c .before .before .before .targets-of in
-    let steps = stepsFrom (tableIn (a .table .now)) (a .s) in
+    let steps = stepsIn (a .steps .now) (a .firsts .now) (a .s) in
     c .take-steps .ensures
     ∙ subst (λ m. stepsTaken (a .label) (targets .result) steps (a .next .now) ≡ cond (eqb m 0) (a .next .now) (stepsTaken (a .label) m steps (a .next .now))) (targets .ensures)
     (sym (ap (λ b. cond b (a .next .now) (stepsTaken (a .label) (targets .result) steps (a .next .now))) (ne-eqb (targets .result) 0 (c .before .before .if1 .taken))))
 
 returns-2 : tie.Need-returns-2
 returns-2 c =
-    let a = c .before .before .before .args in
+    let a = c .before .before .args in
     let targets = c .before .targets-of in
-    let steps = stepsFrom (tableIn (a .table .now)) (a .s) in
+    let steps = stepsIn (a .steps .now) (a .firsts .now) (a .s) in
     subst (λ m. a .next .now ≡ cond (eqb m 0) (a .next .now) (stepsTaken (a .label) m steps (a .next .now))) (targets .ensures)
     (sym (ap (λ b. cond b (a .next .now) (stepsTaken (a .label) (targets .result) steps (a .next .now))) (eq-eqb (targets .result) 0 (c .if1 .left))))
 

@@ -1,39 +1,51 @@
 -- `reading::take_step` meets its contract, by whether the step has the label.
-use mathlib.Core.Path.{_≡_, _∙_, subst}
-use Rattle.lts.specs.Access.{stepIn}
-use Rattle.words.specs.Fronts.{brought}
-use Rattle.words.specs.Reached.{stepTaken}
-use Rattle.words.proofs.Laws.Left.{step-taken, step-not-taken}
+use mathlib.Core.Path.{_≡_, sym, ap, _∙_}
 use borrow.Author.Needs.{needs}
+use Rattle.lts.specs.StepArray.{stepAt}
+use Rattle.words.specs.Fronts.{brought}
+use Rattle.words.proofs.Laws.Left.{step-taken, step-not-taken}
 use Rattle.words.proofs.reading.take_step.Statement.{statement}
 use Rattle.words.proofs.reading.take_step.Tie as tie
 
-transition-at-requires : tie.Need-transition-at-requires
-transition-at-requires c κs = search needs
+mul-step : tie.Need-mul-step
+mul-step c = search needs
+
+element-copy-out-step : tie.Need-element-copy-out-step
+element-copy-out-step c = search needs
+
+label-of-requires : tie.Need-label-of-requires
+label-of-requires c κs = search needs
+
+state-of-requires : tie.Need-state-of-requires
+state-of-requires c κs = search needs
 
 bring-requires : tie.Need-bring-requires
 bring-requires c κs = search needs
 
 returns : tie.Need-returns
 returns c =
-    let start = c .before .before .before .before .before .before in
-    let read = c .before .before .before .before .transition-at in
+    let asked = c .before .before .before in
+    let label = asked .before .label-of .ensures in
+    let a = asked .before .before .before .args in
+    λ s.
     c .bring .ensures
-    ∙ subst (λ st. brought (read .result .to) (start .args .places) (start .args .next .now) ≡ stepTaken (start .args .label) (start .args .places) st (start .args .next .now)) (read .ensures .step)
-    (step-taken (start .args .label) (start .args .places) (stepIn (read .result)) (start .args .next .now) (c .before .before .if1 .taken))
+    ∙ (ap (λ v. brought v (a .places) (a .next .now)) (c .before .state-of .ensures .0)
+    ∙ step-taken (a .label) (a .places) (stepAt (a .steps .now) s (a .k)) (a .next .now) (sym label ∙ asked .if1 .taken))
 
 returns-2 : tie.Need-returns-2
 returns-2 c =
-    let start = c .before .before .before .before in
-    let read = c .before .before .transition-at in
-    subst (λ st. start .args .next .now ≡ stepTaken (start .args .label) (start .args .places) st (start .args .next .now)) (read .ensures .step)
-    (step-not-taken (start .args .label) (start .args .places) (stepIn (read .result)) (start .args .next .now) (c .if1 .left))
+    let label = c .before .label-of .ensures in
+    let a = c .before .before .before .args in
+    λ s. step-not-taken (a .label) (a .places) (stepAt (a .steps .now) s (a .k)) (a .next .now) (λ e. c .if1 .left (label ∙ e))
 
 pub take-step-spec : {M : Type 1} → statement M
 take-step-spec =
     tie.close
     (tie.spec
-    transition-at-requires
+    mul-step
+    element-copy-out-step
+    label-of-requires
+    state-of-requires
     bring-requires
     returns
     returns-2)

@@ -2,9 +2,10 @@
 use mathlib.Core.Path.{_≡_, sym, ap, _∙_}
 use mathlib.Core.Bool.{true, false, cond}
 use mathlib.Core.List.{List}
-use Prim.Native.Nat.{ℕ, _-_, _<_}
+use Prim.Native.Nat.{ℕ, _+_, _*_, _-_, _<_}
 use native.Mathlib.Omega.{arith}
 use lib.Bits.{bitOr}
+use lib.ListN.{getD}
 use Rattle.listing.specs.Masks.{bitAt}
 use Rattle.words.specs.Reached.{maskAt, targetsAdded, targetsOf}
 use Rattle.words.proofs.Laws.Bits.{BitsFrom, bits-all, bits-some, bits-first, bits-rest}
@@ -13,21 +14,24 @@ use Rattle.words.proofs.reading.targets_of.Statement.{statement}
 use Rattle.words.proofs.reading.targets_of.Tie as tie
 
 abbrev Inv-loop : tie.InvT-loop
-Inv-loop masks places label found₀ rest₀ k₀ found rest k =
+Inv-loop masks places label at found₀ rest₀ k₀ found rest k =
     BitsFrom places k rest × (k < 64 → bitAt places k ≡ true) × (targetsOf masks places label ≡ left (targetsAdded masks places label) 41 k found)
 
 abbrev μ-loop : tie.MeasureT-loop
-μ-loop masks places label found₀ rest₀ k₀ found rest k = 41 - k
+μ-loop masks places label at found₀ rest₀ k₀ found rest k = 41 - k
 
 idle : (masks : List ℕ) (places label k found : ℕ) → bitAt places k ≡ false → targetsAdded masks places label k found ≡ found
 idle masks places label k found e = ap (λ b. cond b (bitOr found (maskAt masks k label)) found) e
+
+column-requires : tie.Need-column-requires Inv-loop μ-loop
+column-requires c κs = c .pre
 
 next-bit-requires : tie.Need-next-bit-requires Inv-loop μ-loop
 next-bit-requires c κs = omega arith
 
 loop-holds : tie.Need-loop-holds Inv-loop μ-loop
 loop-holds c =
-    let a = c .before .args in
+    let a = c .before .before .args in
     let first = c .next-bit .ensures in
     (bits-all (a .places) first, first .found, left-skip (targetsAdded (a .masks .now) (a .places) (a .label)) 41 (bitAt (a .places)) (idle (a .masks .now) (a .places) (a .label)) 0 first)
 
@@ -35,13 +39,13 @@ mul-found : tie.Need-mul-found Inv-loop μ-loop
 mul-found c = omega arith
 
 add-found : tie.Need-add-found Inv-loop μ-loop
-add-found c = omega arith
+add-found c = omega (arith, c .loop-test .taken, c .before .before .before .column .ensures .1)
 
 mul-found-2 : tie.Need-mul-found-2 Inv-loop μ-loop
-mul-found-2 c = omega arith
+mul-found-2 c = omega (arith, c .loop-test .taken, c .before .before .before .column .ensures .1)
 
 element-copy-out-found : tie.Need-element-copy-out-found Inv-loop μ-loop
-element-copy-out-found c = omega arith
+element-copy-out-found c = omega (arith, c .loop-test .taken, c .before .before .before .column .ensures .1)
 
 sub-rest : tie.Need-sub-rest Inv-loop μ-loop
 sub-rest c =
@@ -60,7 +64,8 @@ loop-less c =
 
 loop-again : tie.Need-loop-again Inv-loop μ-loop
 loop-again c =
-    let a = c .before .before .before .before .before .args in
+    let found = c .before .before .before .before .before .column in
+    let a = c .before .before .before .before .before .before .args in
     let loop = c .before .before .before .loop in
     let taken = c .before .before .loop-test .taken in
     let few : loop .k < 64 = omega (arith, taken) in
@@ -71,13 +76,13 @@ loop-again c =
       bits-rest (loop .inv .0) few set next,
       first .found,
       loop .inv .2
-          ∙ left-turn (targetsAdded (a .masks .now) (a .places) (a .label)) 41 (bitAt (a .places)) (idle (a .masks .now) (a .places) (a .label)) (loop .found) more taken
-          (ap (λ b. cond b more (loop .found)) set) first,
+          ∙ left-turn (targetsAdded (a .masks .now) (a .places) (a .label)) 41 (bitAt (a .places)) (idle (a .masks .now) (a .places) (a .label)) (loop .found) _ taken
+          (ap (λ b. cond b more (loop .found)) set ∙ ap (λ n. bitOr (loop .found) (getD (a .masks .now) (loop .k * 41 + n) 0)) (sym (found .ensures .0))) first,
     )
 
 returns : tie.Need-returns Inv-loop μ-loop
 returns c =
-    let a = c .before .before .before .args in
+    let a = c .before .before .before .before .args in
     sym (c .before .loop .inv .2 ∙ left-over (targetsAdded (a .masks .now) (a .places) (a .label)) 41 (c .before .loop .k) (c .before .loop .found) (c .loop-test .left))
 
 pub targets-of-spec : {M : Type 1} → statement M
@@ -86,6 +91,7 @@ targets-of-spec =
     (tie.spec
     Inv-loop
     μ-loop
+    column-requires
     next-bit-requires
     loop-holds
     mul-found

@@ -1,11 +1,14 @@
--- The steps that leave a state: those of `stepsFrom` are the table's, idle steps included, and every state has one.
+-- The steps that leave a state: those of `stepsFrom` are the table's, idle steps included, and every state has one. They keep to the 256
+-- states and the table's labels.
 use mathlib.Core.Path.{_≡_, refl, sym, ap, _∙_, subst}
 use mathlib.Core.Logic.{_⊎_, inl, inr, _↔_}
 use mathlib.Core.List.{List, [], _∷_, List·Memᴰ, List·Memᴰ·head, List·Memᴰ·tail, List·Memᴰ·not-nil, List·Memᴰ·eq-of-singleton}
-use Prim.Native.Nat.{ℕ}
+use Prim.Native.Nat.{ℕ, _≤_, _<_}
+use native.Mathlib.Omega.{arith}
 use borrow.Author.Tests.{eqb-true, eq-eqb}
 use Rattle.lts.specs.Lists.{keep, orElse}
-use Rattle.lts.specs.Steps.{Step, Table, IsStep, Exitless, idleAt, leaves, stepsFrom}
+use Rattle.lts.specs.Steps.{Step, Table, labels, IsStep, Exitless, idleAt, leaves, stepsFrom}
+use Rattle.lts.specs.Range.{InRange}
 use Rattle.lts.proofs.Lists.{keep-of, keep-to}
 
 -- A step that leaves s.
@@ -52,3 +55,15 @@ module _ (t : Table) (s : ℕ) where
   pub total : From t s
   unfolding stepsFrom
   total = let (st, m) = some-of-these (keep (leaves s) (t .transitions)) in let (d, i) = steps-are st .0 m in (st, d, i)
+
+module _ (t : Table) (r : InRange t) where
+  pub step-below : (s : ℕ) → s < 256 → (st : Step) → List·Memᴰ st (stepsFrom t s) → st .to < 256
+  step-below s h st m = let (e, i) = steps-are t s st .0 m in go e i
+    where
+      go : st .from ≡ s → IsStep t st → st .to < 256
+      go e (inl n) = omega (arith, r .few-states, r .steps-in-range st n .enters)
+      go e (inr (d, n)) = omega (arith, ap (λ (x : Step). x .to) d, e)
+
+  pub step-labelled : {st : Step} → IsStep t st → st .label ≤ labels t
+  step-labelled {st} (inl n) = r .steps-in-range st n .labelled
+  step-labelled (inr (d, n)) = omega (arith, ap (λ (x : Step). x .label) d)

@@ -4,8 +4,8 @@ use lib.Dec.{ltb}
 use borrow.Author.Needs.{needs}
 use borrow.Author.Tests.{lt-ltb, le-ltb}
 use Rattle.lts.specs.Steps.{Step}
-use Rattle.lts.proofs.prepared.leaves_below.Statement.{statement}
-use Rattle.lts.proofs.prepared.leaves_below.Tie as tie
+use Rattle.lts.proofs.steps.leaves_below.Statement.{statement}
+use Rattle.lts.proofs.steps.leaves_below.Tie as tie
 
 transition-at-requires : tie.Need-transition-at-requires
 transition-at-requires c κs = search needs
