@@ -1,10 +1,8 @@
 -- `check_inputs` meets its contract: 14 for each buffer, then 10 for the table and for the formula.
 use borrow.Author.Needs.{needs}
-use mathlib.Core.Path.{_≡_, refl, sym, ap, _∙_}
-use mathlib.Core.Bool.{true}
+use mathlib.Core.Path.{_≡_, sym, ap, _∙_}
 use mathlib.Core.Bool.{Bool}
 use mathlib.Core.List.{List}
-use mathlib.Core.Option.{Option, none, some}
 use Prim.Native.Nat.{ℕ}
 use borrow.Author.Tests.{not-true, not-false}
 use Rattle.lts.specs.Reply.{Reply, accepted}
@@ -14,7 +12,7 @@ use Rattle.lts.specs.Access.{isSome}
 use Rattle.lts.proofs.Laws.Prepared.{is-some-of}
 use Rattle.actl.specs.Formulas.{Formula}
 use Rattle.actl.specs.Prepared.{preparedFormula}
-use Rattle.actl.specs.Check as check
+use Rattle.actl.specs.Check.{isPrepared}
 use Rattle.actl.proofs.Laws.Inputs.{table-short, formula-short, table-foreign, formula-foreign, both-prepared}
 use Rattle.actl.proofs.inputs.check_inputs.Statement.{statement}
 use Rattle.actl.proofs.inputs.check_inputs.Tie as tie
@@ -43,12 +41,8 @@ is-prepared-requires-2 : tie.Need-is-prepared-requires-2
 is-prepared-requires-2 c κs = search needs
 
 -- What the last test finds, over the labels of the table in the bytes.
-same-answer : {A : Type 0} (o : Option A) → check.isSome o ≡ isSome o
-same-answer none = refl
-same-answer (some x) = refl
-
-tested : (table formula : List ℕ) {n : ℕ} {r b : Bool} → n ≡ labels (tableIn table) → r ≡ check.isPrepared n formula → r ≡ b → isSome (preparedFormula (labels (tableIn table)) formula) ≡ b
-tested table formula e d t = sym (same-answer (preparedFormula (labels (tableIn table)) formula)) ∙ (sym (ap (λ n. check.isPrepared n formula) e) ∙ (sym d ∙ t))
+tested : (table formula : List ℕ) {n : ℕ} {r b : Bool} → n ≡ labels (tableIn table) → r ≡ isPrepared n formula → r ≡ b → isSome (preparedFormula (labels (tableIn table)) formula) ≡ b
+tested table formula e d t = sym (ap (λ n. isPrepared n formula) e) ∙ (sym d ∙ t)
 
 returns-4 : tie.Need-returns-4
 returns-4 c =
