@@ -1,5 +1,7 @@
 pub mod Replies
-pub mod Hops
-pub mod Finding
 pub mod Slots
+pub mod Successors
+pub mod Search
+pub mod Finding
+pub mod Writing
 pub mod Searched

@@ -6,8 +6,8 @@ use actl::inputs::check_inputs;
 mod building;
 mod entering;
 mod finding;
-mod hops;
 mod slots;
+mod writing;
 
 ghost use mathlib.Core.Path.{_≡_};
 ghost use Rattle.automaton.specs.Replies.{buildReply, buildReplied, rowsLeft, edgesLeft};

@@ -63,7 +63,7 @@ codes-next l j b st h k e =
     ap (map stepCode) (slice-cons j b l st h k)
     ∙ (ap (λ x. stepCode x ∷ map stepCode (slice (suc j) b l)) e ∙ ap (λ n. stepCode st ∷ map stepCode (slice n b l)) (sym (add-one j)))
 
-slice-none : (j b : ℕ) (l : List Step) → b ≤ j → slice j b l ≡ []
+pub slice-none : {A : Type 0} (j b : ℕ) (l : List A) → b ≤ j → slice j b l ≡ []
 slice-none zero zero l h = refl
 slice-none zero (suc b) l h = absurd (omega arith)
 slice-none (suc j) zero l h = refl
