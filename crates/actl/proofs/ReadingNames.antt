@@ -92,7 +92,7 @@ leave-at : (b : ℕ) (s : List ℕ) (n : Name) (k : InOperand) → isName (n .by
 leave-at b s n k h = ap (λ v. proceed v (run s) (refused (b ∷ s))) (named-no (n .bytes ++ (b ∷ [])) k (isName (n .bytes ++ (b ∷ []))) refl (leaveO (name n) k b) h ∙ leave-step (name n) k b)
 
 -- The bytes from `at` up to `to` are a name's first.
-record Spelled (s : List ℕ) (at to : ℕ) : Type 0 where
+record NamePrefix (s : List ℕ) (at to : ℕ) : Type 0 where
   value : Name
   long : length (value .bytes) ≡ to - at
   short : to ≤ at + 12
@@ -101,8 +101,8 @@ record Spelled (s : List ℕ) (at to : ℕ) : Type 0 where
   within : to ≤ length s
   reads : (k : InOperand) → run (drop at s) (operandAt k) ≡ run (drop to s) (naming value k)
 
-spell-first-peek : (s : List ℕ) (at : ℕ) → isLower (peek s at) ≡ true → Spelled s at (at + 1)
-spell-first-peek s at h =
+prefix-first-peek : (s : List ℕ) (at : ℕ) → isLower (peek s at) ≡ true → NamePrefix s at (at + 1)
+prefix-first-peek s at h =
     let b = peek s at in
     let i : isName (b ∷ []) ≡ true = and-true-to (isLower b) true h refl in
     let d = byte-at s at b refl (lower-small b h) in
@@ -116,15 +116,15 @@ spell-first-peek s at h =
       reads = λ k. ap (λ l. run l (operandAt k)) d ∙ ap (λ v. proceed v (run (drop (at + 1) s)) (refused (b ∷ drop (at + 1) s))) (name-starts b k i);
     }
 
-spell-first : (s : List ℕ) (at : ℕ) → at < length s → isLower (getD s at 0) ≡ true → Spelled s at (at + 1)
-spell-first s at w h = spell-first-peek s at (ap isLower (getD-any s at 256 0 w) ∙ h)
+prefix-first : (s : List ℕ) (at : ℕ) → at < length s → isLower (getD s at 0) ≡ true → NamePrefix s at (at + 1)
+prefix-first s at w h = prefix-first-peek s at (ap isLower (getD-any s at 256 0 w) ∙ h)
 
-module _ (s : List ℕ) (at to : ℕ) (h : Spelled s at to) where
+module _ (s : List ℕ) (at to : ℕ) (h : NamePrefix s at to) where
   here : to < length s → drop to s ≡ getD s to 0 ∷ drop (to + 1) s
   here w = drop-cons s to 0 w ∙ rw add-one
 
-  spell-more : to < length s → to - at < 12 → isNameByte (getD s to 0) ≡ true → Spelled s at (to + 1)
-  spell-more w l i =
+  prefix-more : to < length s → to - at < 12 → isNameByte (getD s to 0) ≡ true → NamePrefix s at (to + 1)
+  prefix-more w l i =
       let b = getD s to 0 in
       let n = h .value in
       let f = name-grows (n .bytes) b (n .fits) (omega (arith, h .long)) i in
@@ -145,14 +145,14 @@ module _ (s : List ℕ) (at to : ℕ) (h : Spelled s at to) where
   left-byte : to < length s → isName (h .value .bytes ++ (getD s to 0 ∷ [])) ≡ false → Named s at to
   left-byte w e = left (λ k. ap (λ l. run l (naming (h .value) k)) (here w) ∙ (leave-at (getD s to 0) (drop (to + 1) s) (h .value) k e ∙ ap (λ l. run l (plugO (name (h .value)) k)) (sym (here w))))
 
-  spelled-byte : to < length s → isNameByte (getD s to 0) ≡ false → Named s at to
-  spelled-byte w i = left-byte w (name-ends (h .value .bytes) (getD s to 0) i)
+  prefix-before-byte : to < length s → isNameByte (getD s to 0) ≡ false → Named s at to
+  prefix-before-byte w i = left-byte w (name-ends (h .value .bytes) (getD s to 0) i)
 
-  spelled-full : to < length s → 12 ≤ to - at → Named s at to
-  spelled-full w l = left-byte w (name-full (h .value .bytes) (getD s to 0) (omega (arith, h .long)))
+  prefix-full : to < length s → 12 ≤ to - at → Named s at to
+  prefix-full w l = left-byte w (name-full (h .value .bytes) (getD s to 0) (omega (arith, h .long)))
 
-  spelled-end : length s ≤ to → Named s at to
-  spelled-end w = left (λ k. let d = drop-of-length-le s w in ap (λ l. run l (naming (h .value) k)) d ∙ (leave-end (name (h .value)) k ∙ ap (λ l. run l (plugO (name (h .value)) k)) (sym d)))
+  prefix-at-end : length s ≤ to → Named s at to
+  prefix-at-end w = left (λ k. let d = drop-of-length-le s w in ap (λ l. run l (naming (h .value) k)) d ∙ (leave-end (name (h .value)) k ∙ ap (λ l. run l (plugO (name (h .value)) k)) (sym d)))
 
 -- To the end of the longest name.
 module _ (s : List ℕ) (at : ℕ) where
@@ -163,31 +163,31 @@ module _ (s : List ℕ) (at : ℕ) where
   run-opened : (k to : ℕ) → to < length s → nameRun (suc k) (drop to s) ≡ cond (isNameByte (getD s to 0)) (suc (nameRun k (drop (to + 1) s))) 0
   run-opened k to w = let opened : drop to s ≡ getD s to 0 ∷ drop (to + 1) s = drop-cons s to 0 w ∙ rw add-one in ap (nameRun (suc k)) opened
 
-  run-named : (k to : ℕ) → Spelled s at to → k + (to - at) ≡ 12 → Named s at (to + nameRun k (drop to s))
+  run-named : (k to : ℕ) → NamePrefix s at to → k + (to - at) ≡ 12 → Named s at (to + nameRun k (drop to s))
   run-named zero to h e = subst (Named s at) (let z : to ≡ to + 0 = omega arith in z) (case (ltb to (length s)) refl)
     where
       case : (t : Bool) → ltb to (length s) ≡ t → Named s at to
-      case true d = spelled-full s at to h (ltb-true to (length s) d) (omega arith)
-      case false d = spelled-end s at to h (ltb-false to (length s) d)
+      case true d = prefix-full s at to h (ltb-true to (length s) d) (omega arith)
+      case false d = prefix-at-end s at to h (ltb-false to (length s) d)
   run-named (suc k) to h e =
       case (ltb to (length s)) refl (isNameByte (getD s to 0)) refl (λ x. run-named k (to + 1) x (let u = h .up in omega arith))
     where
       case : (t : Bool) → ltb to (length s) ≡ t → (i : Bool) → isNameByte (getD s to 0) ≡ i
-          → (Spelled s at (to + 1) → Named s at (to + 1 + nameRun k (drop (to + 1) s))) → Named s at (to + nameRun (suc k) (drop to s))
+          → (NamePrefix s at (to + 1) → Named s at (to + 1 + nameRun k (drop (to + 1) s))) → Named s at (to + nameRun (suc k) (drop to s))
       case true d true i go-on =
           let w = ltb-true to (length s) d in
           let run : nameRun (suc k) (drop to s) ≡ suc (nameRun k (drop (to + 1) s)) = run-opened k to w ∙ ap (λ t. cond t (suc (nameRun k (drop (to + 1) s))) 0) i in
           let place : to + 1 + nameRun k (drop (to + 1) s) ≡ to + nameRun (suc k) (drop to s) = omega arith in
-          subst (Named s at) place (go-on (spell-more s at to h w (let u = h .up in omega arith) i))
+          subst (Named s at) place (go-on (prefix-more s at to h w (let u = h .up in omega arith) i))
       case true d false i go-on =
           let w = ltb-true to (length s) d in
           let run : nameRun (suc k) (drop to s) ≡ 0 = run-opened k to w ∙ ap (λ t. cond t (suc (nameRun k (drop (to + 1) s))) 0) i in
           let place : to ≡ to + nameRun (suc k) (drop to s) = omega arith in
-          subst (Named s at) place (spelled-byte s at to h w i)
+          subst (Named s at) place (prefix-before-byte s at to h w i)
       case false d i j go-on =
           let w = ltb-false to (length s) d in
           let place : to ≡ to + nameRun (suc k) (drop to s) = omega (arith, run-over (suc k) to w) in
-          subst (Named s at) place (spelled-end s at to h w)
+          subst (Named s at) place (prefix-at-end s at to h w)
 
   length-opened : at < length s → nameLength (drop at s) ≡ cond (isLower (getD s at 0)) (suc (nameRun 11 (drop (at + 1) s))) 0
   length-opened w = let opened : drop at s ≡ getD s at 0 ∷ drop (at + 1) s = drop-cons s at 0 w ∙ rw add-one in ap nameLength opened
@@ -201,7 +201,7 @@ module _ (s : List ℕ) (at : ℕ) where
             let w = ltb-true at (length s) d in
             let run : nameLength (drop at s) ≡ suc (nameRun 11 (drop (at + 1) s)) = length-opened w ∙ ap (λ t. cond t (suc (nameRun 11 (drop (at + 1) s))) 0) i in
             let place : at + 1 + nameRun 11 (drop (at + 1) s) ≡ end = omega arith in
-            subst (Named s at) place (run-named 11 (at + 1) (spell-first s at w i) (omega arith))
+            subst (Named s at) place (run-named 11 (at + 1) (prefix-first s at w i) (omega arith))
         case true d false i =
             let run : nameLength (drop at s) ≡ 0 = length-opened (ltb-true at (length s) d) ∙ ap (λ t. cond t (suc (nameRun 11 (drop (at + 1) s))) 0) i in
             absurd (n (omega arith))

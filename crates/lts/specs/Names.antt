@@ -28,7 +28,8 @@ isName (b ∷ l) = isLower b && atMost 11 l
 abbrev pub longestName : ℕ
 longestName = 12
 
--- How many bytes the longest name has that a text starts with; 0 if it starts with none (proofs/Laws/NameRuns.antt: it is a name).
+-- How many bytes the longest name has that a text starts with; 0 if it starts with none (proofs/Laws/NameRuns.antt: `run-is-name`,
+-- `run-is-longest`).
 abbrev pub nameRun : ℕ → List ℕ → ℕ
 nameRun zero s = 0
 nameRun (suc n) [] = 0

@@ -136,6 +136,22 @@ run-is-name (b ∷ s) h = step (isLower b) refl h (run-at-most 11 s)
     step true e k h = (omega arith, rw e (h .1))
     step false e k h = absurd (omega arith)
 
+-- No name that the text starts with is longer.
+at-most-longest : (n : ℕ) (l rest : List ℕ) → atMost n l ≡ true → length l ≤ nameRun n (l ++ rest)
+at-most-longest n [] rest e = omega arith
+at-most-longest zero (b ∷ l) rest e = absurd (false≢true e)
+at-most-longest (suc n) (b ∷ l) rest e =
+    let d = and-true-of (isNameByte b) (atMost n l) e in
+    let h = at-most-longest n l rest (d .1) in
+    rw (d .0) (omega arith)
+
+pub run-is-longest : (l rest : List ℕ) → isName l ≡ true → length l ≤ nameLength (l ++ rest)
+run-is-longest [] rest e = absurd (false≢true e)
+run-is-longest (b ∷ l) rest e =
+    let d = and-true-of (isLower b) (atMost 11 l) e in
+    let h = at-most-longest 11 l rest (d .1) in
+    rw (d .0) (omega arith)
+
 -- A name with a byte behind it that no name has is the longest one there.
 module _ (stop : ℕ) (rest : List ℕ) (foreign : isNameByte stop ≡ false) where
   at-most-run : (n : ℕ) (l : List ℕ) → atMost n l ≡ true → nameRun n (l ++ (stop ∷ rest)) ≡ length l
