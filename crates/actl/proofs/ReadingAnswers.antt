@@ -20,7 +20,8 @@ use Rattle.actl.specs.Prepared.{slotOf, slotBytes, formulaBytes}
 use Rattle.actl.specs.Reading.{unlessFound, withClasses}
 use Rattle.actl.specs.Readers.{slotCells, nodeCells}
 use Rattle.actl.specs.Walk.{kindOf, kindsOf}
-use Rattle.actl.specs.Writing.{bytesAt, cellBytes, cellKinds, preparedBytes, FormulaAnswered, Holds}
+use Rattle.actl.specs.Writing.{bytesAt, cellBytes, cellKinds, preparedBytes, Holds}
+use Rattle.actl.specs.FormulaAnswers.{FormulaAnswered}
 use Rattle.actl.specs.declared.FormulaReply.the-variants.{Accepted, NameUnknown, TooManyNodes, NoClass}
 use Rattle.actl.proofs.Nodes.{length-nodes}
 use Rattle.actl.proofs.Laws.Widths.{drop-parts}

@@ -11,7 +11,8 @@ use lib.ListN.{length}
 use Rattle.lts.specs.Reply.{Reply, refusal, unless, leftIn, answers}
 use Rattle.lts.specs.Steps.{Table}
 use Rattle.lts.specs.Prepared.{tableLength, tableIn, preparedTable}
-use Rattle.lts.specs.Access.{isSome, HoldsTable}
+use Rattle.lts.specs.HoldsTable.{HoldsTable}
+use Rattle.lts.specs.Answers.{isSome}
 use Rattle.lts.proofs.Laws.Prepared.{prepared-in, prepared-holds}
 use Rattle.actl.specs.Formulas.{Formula}
 use Rattle.actl.specs.Reader.{read}
@@ -19,9 +20,10 @@ use Rattle.actl.specs.Meaning.{formulaOf}
 use Rattle.actl.specs.Mentions.{namesF}
 use Rattle.actl.specs.Reading.{firstUnknown, onResult, readFormula}
 use Rattle.actl.specs.Prepared.{formulaLength, formulaBytes}
-use Rattle.actl.specs.Replies.{formulaReply, formulaReading, withTable}
+use Rattle.actl.specs.Replies.{formulaReply}
+use Rattle.actl.specs.FormulaReading.{formulaReading, withTable}
 use Rattle.actl.specs.Readers.{namesIn, WholeRead, RefusedAt}
-use Rattle.actl.specs.Writing.{FormulaAnswered, FormulaAnsweredWith}
+use Rattle.actl.specs.FormulaAnswers.{FormulaAnswered, FormulaAnsweredWith}
 use Rattle.actl.specs.declared.FormulaReply.{FormulaReply}
 use Rattle.actl.specs.declared.FormulaReply.the-variants.{TooLong, NotGrammatical, TableForeign, BufferShort}
 

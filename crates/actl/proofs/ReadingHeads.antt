@@ -13,7 +13,8 @@ use Rattle.actl.specs.Meaning.{modalOf}
 use Rattle.actl.specs.Mentions.{namesS}
 use Rattle.actl.specs.Prepared.{slot, slotOf}
 use Rattle.actl.specs.Cursor.{peek, Token, Skipped, Moves, Fails, Marked, Tokened, Keyword}
-use Rattle.actl.specs.Readers.{unknownIn, earlier, SetRead, EnclosedRead, Unclosed, nextKind, NextRead, NextSays, UntilRead, UntilSays, HeadSays, NoMark, NoKeyword}
+use Rattle.actl.specs.Readers.{unknownIn, earlier, SetRead, EnclosedRead, Unclosed, nextKind, NextRead, UntilRead, NoMark, NoKeyword}
+use Rattle.actl.specs.HeadReplies.{NextSays, UntilSays, HeadSays}
 use Rattle.actl.specs.declared.reading.Heading.{Heading}
 use Rattle.actl.specs.declared.reading.Heading.the-variants.{Read, Refused}
 use Rattle.actl.proofs.ReadingMoves.{on-other, then, fail, at-only, fail-only, written-as, skip, stops, alike, marked, tokened}

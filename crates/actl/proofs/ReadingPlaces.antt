@@ -9,7 +9,8 @@ use lib.ListN.{length, getD, drop, List·getD-eq-default, drop-of-length-le}
 use lib.Seq.{drop-cons}
 use Rattle.actl.specs.Grammar.{gap}
 use Rattle.actl.specs.Reader.{State, stop, step, finish, proceed, run, refused}
-use Rattle.actl.specs.Cursor.{peek, Skipped, Marked, MarkSays, Tokened, KeywordSays}
+use Rattle.actl.specs.Cursor.{peek, Skipped, Marked, Tokened}
+use Rattle.actl.specs.CursorReplies.{MarkSays, KeywordSays}
 use Rattle.actl.specs.declared.cursor.Match.{Match}
 use Rattle.actl.specs.declared.cursor.Match.the-variants.{Past, Missing}
 

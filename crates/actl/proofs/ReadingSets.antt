@@ -14,7 +14,8 @@ use Rattle.actl.specs.Reader.{InSet, sParen, InOperand, oFirst, oOr, oNo
 use Rattle.actl.specs.Meaning.{actionOfSet, actionOfOperand, maskIn}
 use Rattle.actl.specs.Mentions.{namesS, namesO}
 use Rattle.actl.specs.Cursor.{peek, Token, Skipped, Moves, Fails, Marked, Tokened}
-use Rattle.actl.specs.Readers.{unknownIn, earlier, OperandRead, OperandSays, SetRead, EnclosedRead, Unclosed, EnclosedSays}
+use Rattle.actl.specs.Readers.{unknownIn, earlier, OperandRead, SetRead, EnclosedRead, Unclosed}
+use Rattle.actl.specs.SetReplies.{OperandSays, EnclosedSays}
 use Rattle.actl.specs.declared.reading.Labels.{Labels}
 use Rattle.actl.specs.declared.reading.Labels.the-variants.{Read, Refused}
 use Rattle.actl.proofs.ReadingMasks.{mask-complement, mask-union}

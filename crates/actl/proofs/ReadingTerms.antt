@@ -12,7 +12,8 @@ use Rattle.actl.specs.Meaning.{modalOf, formulaOfTerm}
 use Rattle.actl.specs.Mentions.{namesF, namesT, namesH}
 use Rattle.actl.specs.Prepared.{slotOf}
 use Rattle.actl.specs.Cursor.{peek, Skipped, Moves, Fails, Marked, Tokened}
-use Rattle.actl.specs.Readers.{unknownIn, earlier, HeadRead, slotCells, nodeCells, putAt, CellsWritten, NodeRoom, TermRead, TermSays, BracketRead, Unbracketed, BracketSays}
+use Rattle.actl.specs.Readers.{unknownIn, earlier, HeadRead, slotCells, nodeCells, putAt, CellsWritten, NodeRoom, TermRead, BracketRead, Unbracketed}
+use Rattle.actl.specs.TermReplies.{TermSays, BracketSays}
 use Rattle.actl.specs.declared.reading.Nodes.{Nodes}
 use Rattle.actl.specs.declared.reading.Nodes.the-variants.{Read, Refused}
 use Rattle.actl.proofs.ReadingMoves.{on-other, then, fail, at-only, fail-only, skip, stops, marked, tokened}

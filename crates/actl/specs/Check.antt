@@ -6,10 +6,10 @@ use Prim.Native.Nat.{ℕ, _-_}
 use lib.Dec.{eqb}
 use lib.ListN.{getD}
 use Rattle.lts.specs.Lists.{upFrom, every}
-use Rattle.lts.specs.Access.{isSome}
+use Rattle.lts.specs.Answers.{isSome}
 use Rattle.actl.specs.Formulas.{Formula, classOf}
 use Rattle.actl.specs.Prepared.{formulaLength, Slot, slotAt, slotWithin, preparedFormula}
-use Rattle.actl.specs.Access.{shaped}
+use Rattle.actl.specs.Shaped.{shaped}
 use Rattle.actl.specs.Walk.{kindsOf, kindsIn}
 
 -- 01: "formula bytes that aren't the one form" are refused. Over a table of n labels.

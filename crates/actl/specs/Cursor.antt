@@ -1,14 +1,11 @@
 -- What the methods of a cursor say, of a text s and places in it; and how the reader moves while a text is walked.
 use mathlib.Core.Path.{_≡_}
-use mathlib.Core.Bool.{false}
 use mathlib.Core.List.{List, _++_}
 use Prim.Native.Nat.{ℕ, _+_, _-_, _≤_, _<_}
 use lib.ListN.{length, getD, drop}
-use Rattle.lts.specs.Names.{isLower, longestName}
+use Rattle.lts.specs.Names.{longestName}
 use Rattle.actl.specs.Grammar.{gap, Name, name}
 use Rattle.actl.specs.Reader.{State, operandAt, plugO, run, refused}
-use Rattle.actl.specs.declared.cursor.Match.{Match}
-use Rattle.actl.specs.declared.cursor.Match.the-variants.{Past, Missing}
 
 -- The byte at a place; 256 at the end.
 abbrev pub peek : List ℕ → ℕ → ℕ
@@ -42,27 +39,15 @@ pub record Marked (s : List ℕ) (at mark to : ℕ) : Type 0 where
   pub next : to ≡ at + 1
   pub within : at < length s
 
-abbrev pub MarkSays : List ℕ → ℕ → ℕ → Match → Type 0
-MarkSays s at mark (Past c) = Marked s at mark (c .at)
-MarkSays s at mark Missing = peek s at ≡ mark → ⊥
-
 -- A mark, and the blanks behind it.
 pub record Tokened (s : List ℕ) (at mark to : ℕ) : Type 0 where
   pub here : peek s at ≡ mark
   pub skipped : Skipped s (at + 1) to
 
-abbrev pub TokenSays : List ℕ → ℕ → ℕ → Match → Type 0
-TokenSays s at mark (Past c) = Tokened s at mark (c .at)
-TokenSays s at mark Missing = peek s at ≡ mark → ⊥
-
 -- Two bytes at the cursor.
 pub record Keyword (s : List ℕ) (at first second to : ℕ) : Type 0 where
   pub one : Marked s at first (at + 1)
   pub two : Marked s (at + 1) second to
-
-abbrev pub KeywordSays : List ℕ → ℕ → List ℕ → Match → Type 0
-KeywordSays s at w (Past c) = Keyword s at (getD w 0 0) (getD w 1 0) (c .at)
-KeywordSays s at w Missing = peek s at ≡ getD w 0 0 → peek s (at + 1) ≡ getD w 1 0 → ⊥
 
 -- A name, up to the first byte that it cannot have.
 pub record Named (s : List ℕ) (at to : ℕ) : Type 0 where
@@ -70,7 +55,3 @@ pub record Named (s : List ℕ) (at to : ℕ) : Type 0 where
   pub up : at < to
   pub short : to ≤ at + longestName
   pub moves : Moves s at to (λ r. value .bytes ++ r) operandAt (plugO (name value))
-
-abbrev pub NameSays : List ℕ → ℕ → Match → Type 0
-NameSays s at (Past c) = Named s at (c .at)
-NameSays s at Missing = isLower (peek s at) ≡ false

@@ -14,3 +14,12 @@ pub mod Access
 pub mod Walk
 pub mod Check
 pub mod Writing
+pub mod Shaped
+pub mod WalkReplies
+pub mod CursorReplies
+pub mod SetReplies
+pub mod HeadReplies
+pub mod TermReplies
+pub mod FormulaAnswers
+pub mod FormulaReading
+pub mod HoldsFormula

@@ -9,7 +9,7 @@ use lib.ListN.{length, take, drop}
 use Rattle.lts.specs.Lists.{bind}
 use Rattle.lts.specs.Names.{lookup}
 use Rattle.lts.specs.Prepared.{tableIn}
-use Rattle.lts.specs.Access.{HoldsTable}
+use Rattle.lts.specs.HoldsTable.{HoldsTable}
 use Rattle.actl.specs.Actions.{Mask, maskOf}
 use Rattle.actl.specs.Formulas.{Formula, size, nodes}
 use Rattle.actl.specs.Grammar.{gap, Set, Operand, Condition, Quantifier, existential, universal, Head, next, Disjunction, Term, showS, showO, showC, showH, showF, showT}
@@ -18,16 +18,11 @@ use Rattle.actl.specs.Mentions.{Mention, namesS, namesO, namesC, namesH,
 use Rattle.actl.specs.Meaning.{actionOfOperand, maskIn, modalOf, formulaOf, formulaOfTerm}
 use Rattle.actl.specs.Reading.{unknownAt, firstUnknown}
 use Rattle.actl.specs.Prepared.{Slot, slot, slotOf}
-use Rattle.actl.specs.Cursor.{peek, Token, Moves, Fails, Marked}
-use Rattle.actl.specs.declared.reading.Labels.{Labels}
+use Rattle.actl.specs.Cursor.{peek, Token, Moves, Marked}
 use Rattle.actl.specs.declared.reading.Labels.the-variants as labels
-use Rattle.actl.specs.declared.reading.Heading.{Heading}
 use Rattle.actl.specs.declared.reading.Heading.the-variants as heading
-use Rattle.actl.specs.declared.reading.Nodes.{Nodes}
 use Rattle.actl.specs.declared.reading.Nodes.the-variants as written
-use Rattle.actl.specs.declared.reading.Chain.{Chain}
 use Rattle.actl.specs.declared.reading.Chain.the-variants as chain
-use Rattle.actl.specs.declared.reading.Reading.{Reading}
 use Rattle.actl.specs.declared.reading.Reading.the-variants as reading
 
 -- The label names of the table in prepared bytes.
@@ -58,10 +53,6 @@ pub record OperandRead (N : List (List ℕ)) (s : List ℕ) (at lost to mask lef
   pub means : mask ≡ maskOf (length N) (actionOfOperand N value)
   pub lacks : left ≡ earlier lost (unknownIn N (length s) (namesO value (drop to s)))
 
-abbrev pub OperandSays : List (List ℕ) → List ℕ → ℕ → ℕ → Labels → Type 0
-OperandSays N s at lost (labels.Read c m l) = OperandRead N s at lost (c .at) m l
-OperandSays N s at lost (labels.Refused c) = Fails s at (c .at) operandAt
-
 -- A set is read with the blanks behind it.
 pub record SetRead (N : List (List ℕ)) (s : List ℕ) (at lost to mask left : ℕ) : Type 0 where
   pub value : Set
@@ -72,10 +63,6 @@ pub record SetRead (N : List (List ℕ)) (s : List ℕ) (at lost to mask left : 
   pub moves : Moves s at to (λ r. showS value (gap blanks r)) (λ k. operandAt (oFirst k)) (λ k. afterSet value k blanks)
   pub means : mask ≡ maskIn N value
   pub lacks : left ≡ earlier lost (unknownIn N (length s) (namesS value (gap blanks (drop to s))))
-
-abbrev pub SetSays : List (List ℕ) → List ℕ → ℕ → ℕ → Labels → Type 0
-SetSays N s at lost (labels.Read c m l) = SetRead N s at lost (c .at) m l
-SetSays N s at lost (labels.Refused c) = Fails s at (c .at) (λ k. operandAt (oFirst k))
 
 -- A set and the mark that ends its bracket.
 pub record EnclosedRead (N : List (List ℕ)) (s : List ℕ) (at mark lost to mask left : ℕ) : Type 0 where
@@ -89,10 +76,6 @@ pub record Unclosed (N : List (List ℕ)) (s : List ℕ) (at mark lost to : ℕ)
   pub left : ℕ
   pub contents : SetRead N s at lost to mask left
   pub other : peek s to ≡ mark → ⊥
-
-abbrev pub EnclosedSays : List (List ℕ) → List ℕ → ℕ → ℕ → ℕ → Labels → Type 0
-EnclosedSays N s at mark lost (labels.Read c m l) = EnclosedRead N s at mark lost (c .at) m l
-EnclosedSays N s at mark lost (labels.Refused c) = Fails s at (c .at) (λ k. operandAt (oFirst k)) ⊎ Unclosed N s at mark lost (c .at)
 
 -- The kind of a node for EX and AX; with a set it is one more (docs/FORMATS.md).
 abbrev pub nextKind : Quantifier → ℕ
@@ -110,10 +93,6 @@ pub record NextRead (N : List (List ℕ)) (s : List ℕ) (at base lost to kind f
   pub means : (q : Quantifier) (f : Formula) → nextKind q ≡ base → slotOf (modalOf N (next q before inside condition behind) f) ≡ slot kind first second
   pub lacks : left ≡ earlier lost (unknownIn N (length s) (namesC condition (gap behind (93 ∷ drop to s))))
 
-abbrev pub NextSays : List (List ℕ) → List ℕ → ℕ → ℕ → ℕ → Heading → Type 0
-NextSays N s at base lost (heading.Read c k a b l) = NextRead N s at base lost (c .at) k a b l
-NextSays N s at base lost (heading.Refused c) = Fails s at (c .at) (λ (p : Quantifier × InTerm). afterNext (p .0) (p .1) 0)
-
 -- The bracket of EU.
 pub record UntilRead (N : List (List ℕ)) (s : List ℕ) (at lost to kind first second left : ℕ) : Type 0 where
   pub value : Head
@@ -123,20 +102,12 @@ pub record UntilRead (N : List (List ℕ)) (s : List ℕ) (at lost to kind first
   pub means : (f : Formula) → slotOf (modalOf N value f) ≡ slot kind first second
   pub lacks : left ≡ earlier lost (unknownIn N (length s) (namesH value (drop to s)))
 
-abbrev pub UntilSays : List (List ℕ) → List ℕ → ℕ → ℕ → Heading → Type 0
-UntilSays N s at lost (heading.Read c k a b l) = UntilRead N s at lost (c .at) k a b l
-UntilSays N s at lost (heading.Refused c) = Fails s at (c .at) (λ k. afterUntil k 0)
-
 pub record HeadRead (N : List (List ℕ)) (s : List ℕ) (at lost to kind first second left : ℕ) : Type 0 where
   pub value : Head
   pub up : at < to
   pub moves : Moves s at to (showH value) termAt (λ k. termAt (tModal value k 0))
   pub means : (f : Formula) → slotOf (modalOf N value f) ≡ slot kind first second
   pub lacks : left ≡ earlier lost (unknownIn N (length s) (namesH value (drop to s)))
-
-abbrev pub HeadSays : List (List ℕ) → List ℕ → ℕ → ℕ → Heading → Type 0
-HeadSays N s at lost (heading.Read c k a b l) = HeadRead N s at lost (c .at) k a b l
-HeadSays N s at lost (heading.Refused c) = Fails s at (c .at) termAt
 
 -- A place at which no `T`, `~` or `(` stands: a term there begins with a keyword.
 pub record NoMark (s : List ℕ) (at : ℕ) : Type 0 where
@@ -182,10 +153,6 @@ pub record TermRead (N : List (List ℕ)) (s : List ℕ) (at n lost : ℕ) (e : 
   pub written : CellsWritten n m e x (nodeCells (formulaOfTerm N value))
   pub lacks : left ≡ earlier lost (unknownIn N (length s) (namesT value (drop to s)))
 
-abbrev pub TermSays : List (List ℕ) → List ℕ → ℕ → ℕ → ℕ → List ℕ → List ℕ → Nodes → Type 0
-TermSays N s at n lost e x (written.Read c m l) = TermRead N s at n lost e (c .at) m l x
-TermSays N s at n lost e x (written.Refused c) = Fails s at (c .at) termAt
-
 -- A formula ends at one place, and the blanks behind it at the other.
 pub record FormulaRead (N : List (List ℕ)) (s : List ℕ) (at n lost : ℕ) (e : List ℕ) (end to m left : ℕ) (x : List ℕ) : Type 0 where
   pub value : Disjunction
@@ -198,10 +165,6 @@ pub record FormulaRead (N : List (List ℕ)) (s : List ℕ) (at n lost : ℕ) (e
   pub moves : Moves s at to (λ r. showF value (gap (to - end) r)) (λ k. termAt (tFirst k)) (λ k. afterDisjunction value k (to - end))
   pub written : CellsWritten n m e x (nodeCells (formulaOf N value))
   pub lacks : left ≡ earlier lost (unknownIn N (length s) (namesF value (gap (to - end) (drop to s))))
-
-abbrev pub FormulaSays : List (List ℕ) → List ℕ → ℕ → ℕ → ℕ → List ℕ → List ℕ → Chain → Type 0
-FormulaSays N s at n lost e x (chain.Read c d m l) = FormulaRead N s at n lost e (c .at) (d .at) m l x
-FormulaSays N s at n lost e x (chain.Refused c) = Fails s at (c .at) (λ k. termAt (tFirst k))
 
 -- A formula, and the `)` behind it.
 pub record BracketRead (N : List (List ℕ)) (s : List ℕ) (at n lost : ℕ) (e : List ℕ) (to m left : ℕ) (x : List ℕ) : Type 0 where
@@ -217,10 +180,6 @@ pub record Unbracketed (N : List (List ℕ)) (s : List ℕ) (at n lost : ℕ) (e
   pub contents : FormulaRead N s at n lost e end to m left x
   pub other : peek s to ≡ 41 → ⊥
 
-abbrev pub BracketSays : List (List ℕ) → List ℕ → ℕ → ℕ → ℕ → List ℕ → List ℕ → Nodes → Type 0
-BracketSays N s at n lost e x (written.Read c m l) = BracketRead N s at n lost e (c .at) m l x
-BracketSays N s at n lost e x (written.Refused c) = Fails s at (c .at) (λ k. termAt (tFirst k)) ⊎ Unbracketed N s at n lost e (c .at) x
-
 -- A whole text: its nodes, how many there are, and the first name that the table lacks.
 pub record WholeRead (N : List (List ℕ)) (s x : List ℕ) (n left : ℕ) : Type 0 where
   pub value : Disjunction
@@ -235,7 +194,3 @@ pub record RefusedAt (s : List ℕ) (n : ℕ) : Type 0 where
   pub rest : List ℕ
   pub reads : read s ≡ refused rest
   pub figure : n ≡ length s - length rest
-
-abbrev pub ReadingSays : List (List ℕ) → List ℕ → List ℕ → Reading → Type 0
-ReadingSays N s x (reading.Whole n left) = WholeRead N s x n left
-ReadingSays N s x (reading.Refused n) = RefusedAt s n

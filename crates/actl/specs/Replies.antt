@@ -1,15 +1,6 @@
 -- What `read_formula` answers and leaves, and what every entry over prepared bytes tests first.
-use mathlib.Core.List.{List}
-use mathlib.Core.Option.{Option, none, some}
-use Prim.Native.Nat.{ℕ}
-use lib.Dec.{leb}
 use lib.ListN.{length}
-use Rattle.lts.specs.Reply.{Reply, accepted, refusal, unless, leftIn, answers}
-use Rattle.lts.specs.Steps.{Table, labels}
-use Rattle.lts.specs.Prepared.{tableLength, preparedTable}
-use Rattle.actl.specs.Formulas.{Formula}
-use Rattle.actl.specs.Reading.{readFormula}
-use Rattle.actl.specs.Prepared.{formulaLength, formulaBytes, preparedFormula}
+use Rattle.lts.specs.Reply.{Reply, accepted, refusal}
 use Rattle.actl.specs.declared.FormulaReply.{FormulaReply}
 use Rattle.actl.specs.declared.FormulaReply.the-variants.{Accepted, TooLong, NotGrammatical, NameUnknown, TooManyNodes, NoClass, TableForeign, BufferShort}
 
@@ -23,34 +14,3 @@ formulaReply (TooManyNodes nodes) = refusal 8 nodes
 formulaReply (NoClass node) = refusal 9 node
 formulaReply TableForeign = refusal 10 0
 formulaReply (BufferShort needed) = refusal 14 needed
-
--- 01: "Order: 14 first, then 10 (table before formula)." Prepared bytes are lent in docs/FORMATS.md's order.
-abbrev pub withTable : {A : Type 0} → Option Table → (Table → Reply A) → Reply A
-withTable none next = refusal 10 0
-withTable (some t) next = next t
-
-abbrev pub withFormula : {A : Type 0} → Option Formula → (Formula → Reply A) → Reply A
-withFormula none next = refusal 10 1
-withFormula (some F) next = next F
-
-abbrev pub longEnough : {A : Type 0} → List ℕ → List ℕ → Reply A → Reply A
-longEnough table formula next =
-    unless (leb tableLength (length table)) 14 tableLength (
-    unless (leb formulaLength (length formula)) 14 formulaLength next)
-
--- An entry over a prepared table and a prepared formula: the table and the formula in them.
-abbrev pub onPrepared : {A : Type 0} → List ℕ → List ℕ → (Table → Formula → Reply A) → Reply A
-onPrepared table formula next =
-    longEnough table formula (
-    withTable (preparedTable table) (λ t.
-    withFormula (preparedFormula (labels t) formula) (λ F. next t F)))
-
--- `table` is the prepared table, `text` the formula's text, `buffer` what is lent for the prepared formula.
-unfoldable pub formulaReading : List ℕ → List ℕ → List ℕ → Reply Formula
-formulaReading table text buffer = longEnough table buffer (withTable (preparedTable table) (λ t. readFormula (t .names) text))
-
-abbrev pub formulaReplied : List ℕ → List ℕ → List ℕ → Reply (Unit {0})
-formulaReplied table text buffer = answers (λ F. tt) (formulaReading table text buffer)
-
-abbrev pub formulaLeft : List ℕ → List ℕ → List ℕ → List ℕ
-formulaLeft table text buffer = leftIn formulaBytes (formulaReading table text buffer) buffer

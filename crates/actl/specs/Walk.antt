@@ -1,20 +1,15 @@
 -- Numbering and classes by a walk over the nodes' kinds: where the arms of each node end, and each node's class.
 use mathlib.Core.Path.{_≡_}
-use mathlib.Core.Bool.{Bool, cond, _&&_}
+use mathlib.Core.Bool.{cond, _&&_}
 use mathlib.Core.List.{List, [], _∷_, _++_, map}
-use mathlib.Core.Option.{Option, none, some}
-use Prim.Native.Nat.{ℕ, zero, suc, _+_, _*_, _<_}
+use mathlib.Core.Option.{Option, some}
+use Prim.Native.Nat.{ℕ, suc, _+_, _*_}
 use lib.Dec.{leb, eqb}
 use lib.ListN.{drop, getD}
 use lib.Seq.{sets}
 use Rattle.lts.specs.Lists.{upFrom}
-use Rattle.actl.specs.Formulas.{Formula, tru, not, or, ex, ax, eu, euThen, size, nodes, isT, classOf, classOfNot, classOfSome, classOfAll, highestWithoutClass}
-use Rattle.actl.specs.Prepared.{slotOf, preparedFormula}
-use Rattle.actl.specs.declared.walk.Walked.{Walked}
-use Rattle.actl.specs.declared.walk.Walked.the-variants.{Broken, Node}
-use Rattle.actl.specs.declared.walk.Classless.{Classless}
-use Rattle.actl.specs.declared.walk.Classless.the-variants.{Nowhere, At}
-use Rattle.actl.specs.declared.walk.Shape.{Shape}
+use Rattle.actl.specs.Formulas.{Formula, tru, not, or, ex, ax, eu, euThen, size, nodes, isT, classOf, classOfNot, classOfSome, classOfAll}
+use Rattle.actl.specs.Prepared.{slotOf}
 
 -- The kinds of a formula's nodes, in node order.
 abbrev pub kindOf : Formula → ℕ
@@ -73,28 +68,7 @@ pub record Traversed (kinds ends endsAfter classes classesAfter : List ℕ) (k e
   pub ends-noted : endsAfter ≡ sets ends k (endsFrom k formula)
   pub classes-noted : classesAfter ≡ sets classes k (classesOf formula)
 
-abbrev pub Walks : List ℕ → List ℕ → List ℕ → List ℕ → List ℕ → ℕ → Walked → Type 0
-Walks kinds ends endsAfter classes classesAfter k Broken = (f : Formula) → Spelled kinds k f → ⊥
-Walks kinds ends endsAfter classes classesAfter k (Node end arm) = Traversed kinds ends endsAfter classes classesAfter k end arm
-
--- 01: "a node without class": "the highest-numbered one"
-abbrev pub classlessNode : Classless → Option ℕ
-classlessNode Nowhere = none
-classlessNode (At k) = some k
-
 -- The last of the classes that is none, where k is the number of the list's first node.
 abbrev pub lastNone : ℕ → List ℕ → Option ℕ → Option ℕ
 lastNone k [] found = found
 lastNone k (class ∷ l) found = lastNone (suc k) l (cond (eqb class 0) (some k) found)
-
-abbrev pub IsHighest : Classless → List ℕ → Type 0
-IsHighest r kinds = (F : Formula) → kindsOf F ≡ kinds → classlessNode r ≡ highestWithoutClass F
-
--- The ends and classes of a formula's nodes.
-pub record ShapeOf (s : Shape) (F : Formula) : Type 0 where
-  pub counted : s .count ≡ size F
-  pub ends : (k : ℕ) → k < size F → getD (s .ends) k 0 ≡ k + size (getD (nodes F) k tru)
-  pub classes : (k : ℕ) → k < size F → getD (s .classes) k 0 ≡ classOf (getD (nodes F) k tru)
-
-abbrev pub IsShape : Shape → List ℕ → Type 0
-IsShape s b = (n : ℕ) (F : Formula) → preparedFormula n b ≡ some F → ShapeOf s F

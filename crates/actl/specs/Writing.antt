@@ -6,13 +6,8 @@ use Prim.Native.Nat.{ℕ, _+_, _*_, _-_, _%_}
 use lib.ListN.{getD, take, replicate}
 use Rattle.columns.specs.Bytes.{lowFirst}
 use Rattle.lts.specs.Lists.{upFrom, bind}
-use Rattle.lts.specs.Reply.{Reply, leftIn, answers}
 use Rattle.actl.specs.Formulas.{Formula, size}
-use Rattle.actl.specs.Prepared.{formulaBytes}
-use Rattle.actl.specs.Reading.{unlessFound, withClasses}
-use Rattle.actl.specs.Replies.{formulaReply}
 use Rattle.actl.specs.Readers.{earlier, nodeCells}
-use Rattle.actl.specs.declared.FormulaReply.{FormulaReply}
 
 -- A node's bytes: its kind and its masks, low byte first.
 abbrev pub nodeBytes : ℕ → ℕ → ℕ → List ℕ
@@ -32,16 +27,8 @@ cellKinds c n = map (λ k. getD c (k * 3) 0 % 256) (upFrom 0 n)
 abbrev pub preparedBytes : List ℕ → ℕ → List ℕ
 preparedBytes c n = n ∷ (cellBytes c n ++ replicate (680 - n * 17) 0)
 
--- A call that answers r and leaves x in the buffer e did what a reading says.
-pub record FormulaAnswered (a : Reply Formula) (e : List ℕ) (r : FormulaReply) (x : List ℕ) : Type 0 where
-  pub replies : formulaReply r ≡ answers (λ F. tt) a
-  pub leaves : x ≡ leftIn formulaBytes a e
-
 -- The cells c hold the n nodes of F, and `lost` the offset o of a name that the table lacks.
 pub record Holds (c : List ℕ) (n lost : ℕ) (F : Formula) (o : Option ℕ) : Type 0 where
   pub count : n ≡ size F
   pub cells : take (n * 3) c ≡ nodeCells F
   pub lacks : lost ≡ earlier 0 o
-
-abbrev pub FormulaAnsweredWith : List ℕ → ℕ → ℕ → List ℕ → FormulaReply → List ℕ → Type 0
-FormulaAnsweredWith c n lost e r x = (F : Formula) (o : Option ℕ) → Holds c n lost F o → FormulaAnswered (unlessFound o 7 (withClasses F)) e r x

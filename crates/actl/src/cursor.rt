@@ -1,7 +1,8 @@
 // A place in a formula's text, by value. Its methods skip blanks, take a token and hand the cursor back.
 ghost use Prim.Native.Nat.{_≤_};
 ghost use lib.ListN.{length};
-ghost use Rattle.actl.specs.Cursor.{Skipped, MarkSays, TokenSays, KeywordSays, NameSays};
+ghost use Rattle.actl.specs.Cursor.{Skipped};
+ghost use Rattle.actl.specs.CursorReplies.{MarkSays, TokenSays, KeywordSays, NameSays};
 
 pub struct Cursor {
     pub at: usize,

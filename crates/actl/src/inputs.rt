@@ -3,7 +3,7 @@ use crate::prepared::is_prepared;
 use lts::prepared::label_count;
 ghost use mathlib.Core.Path.{_≡_};
 ghost use Rattle.lts.specs.Reply.{accepted};
-ghost use Rattle.actl.specs.Replies.{onPrepared};
+ghost use Rattle.actl.specs.FormulaReading.{onPrepared};
 ghost use Rattle.actl.specs.Inputs.{inputsReply};
 
 // specs/Inputs.antt lists the number and the figure of each case.

@@ -1,6 +1,7 @@
 // Formulas of action logic: reading a formula's text, and what stands in the prepared bytes.
 ghost use mathlib.Core.Path.{_≡_};
-ghost use Rattle.actl.specs.Replies.{formulaReply, formulaReplied, formulaLeft};
+ghost use Rattle.actl.specs.Replies.{formulaReply};
+ghost use Rattle.actl.specs.FormulaReading.{formulaReplied, formulaLeft};
 use crate::reading::Reading;
 use crate::reading::read_text;
 use crate::writing::answer;

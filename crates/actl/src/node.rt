@@ -4,7 +4,8 @@ ghost use mathlib.Core.Bool.{true};
 ghost use Prim.Native.Nat.{_+_, _*_, _<_, _≤_};
 ghost use lib.ListN.{length, getD, drop};
 ghost use Rattle.actl.specs.Prepared.{number, slotAt};
-ghost use Rattle.actl.specs.Access.{slotOfNode, shaped};
+ghost use Rattle.actl.specs.Access.{slotOfNode};
+ghost use Rattle.actl.specs.Shaped.{shaped};
 
 // 01: "A step condition is either the silent step or a set of labels." Bit a of a mask is label a.
 pub enum Condition {

@@ -9,7 +9,7 @@ ghost use Prim.Native.Nat.{_+_, _*_, _<_, _≤_};
 ghost use lib.Dec.{eqb, leb};
 ghost use lib.ListN.{length};
 ghost use Rattle.actl.specs.Prepared.{maskWithin, slotAt};
-ghost use Rattle.actl.specs.Access.{firstUsed, secondUsed};
+ghost use Rattle.actl.specs.Shaped.{firstUsed, secondUsed};
 ghost use Rattle.actl.specs.Check.{isPrepared, slotFits, slotsFit, zerosFrom};
 
 // 01: "sets within this table's labels": no bit 0, and none above the labels.

@@ -5,8 +5,9 @@ ghost use mathlib.Core.Option.{none};
 ghost use Prim.Native.Nat.{ℕ, _+_, _*_, _<_, _≤_};
 ghost use lib.ListN.{length, getD, set, take};
 ghost use Rattle.actl.specs.Formulas.{classOfOr};
-ghost use Rattle.actl.specs.Walk.{classFrom, classOfArm, kindAt, kindsIn, Walks, classlessNode, lastNone, IsHighest, IsShape};
-ghost use Rattle.lts.specs.Access.{Decides};
+ghost use Rattle.actl.specs.Walk.{classFrom, classOfArm, kindAt, kindsIn, lastNone};
+ghost use Rattle.actl.specs.WalkReplies.{Walks, classlessNode, IsHighest, IsShape};
+ghost use Rattle.lts.specs.Answers.{Decides};
 ghost use Rattle.actl.specs.Check.{SpelledClassed};
 
 // 01: "The class of a node follows from this table": four for each kind, by the arm's class, the last for the node T. Zero is no class.

@@ -5,3 +5,4 @@ pub mod Search
 pub mod Finding
 pub mod Writing
 pub mod Searched
+pub mod LaidOut

@@ -10,7 +10,8 @@ mod slots;
 mod writing;
 
 ghost use mathlib.Core.Path.{_≡_};
-ghost use Rattle.automaton.specs.Replies.{buildReply, buildReplied, rowsLeft, edgesLeft};
+ghost use Rattle.automaton.specs.Replies.{buildReply};
+ghost use Rattle.listing.specs.Build.{buildReplied, rowsLeft, edgesLeft};
 
 // What `build` answers: the counts of rows and edges, or a refusal. specs/Replies.antt lists the number and the figure of each case.
 pub enum BuildReply {

@@ -21,7 +21,7 @@ use Rattle.actl.specs.Meaning.{formulaOf}
 use Rattle.actl.specs.Reading.{unlessFound, firstUnknown, onResult, readFormula}
 use Rattle.listing.specs.Listing.{Listing, listing}
 use Rattle.listing.specs.Bytes.{rowLength, edgeLength}
-use Rattle.automaton.specs.Replies.{fitted}
+use Rattle.listing.specs.Build.{fitted}
 use Rattle.explainer.specs.Explanation.{Explanation, andThen, explanation}
 
 -- A reply with the figure of refusal 5 put right.

@@ -13,6 +13,7 @@ use Rattle.lts.specs.Steps.{Table, labels}
 use Rattle.lts.specs.Reading.{readTable}
 use Rattle.lts.specs.Prepared.{tableLength, tableBytes, preparedTable}
 use Rattle.lts.specs.Replies as lts
+use Rattle.lts.specs.TableReading.{tableReading, tableReplied, tableLeft}
 use Rattle.lts.specs.declared.TableReply.{TableReply}
 use Rattle.lts.specs.declared.TableReply.the-variants as tables
 use Rattle.lts.proofs.Laws.TableBytes.{table-bytes-length}
@@ -21,12 +22,14 @@ use Rattle.actl.specs.Formulas.{Formula, size}
 use Rattle.actl.specs.Reading.{readFormula}
 use Rattle.actl.specs.Prepared.{formulaLength, formulaBytes}
 use Rattle.actl.specs.Replies as actl
+use Rattle.actl.specs.FormulaReading.{withTable, formulaReading, formulaReplied, formulaLeft}
 use Rattle.actl.specs.declared.FormulaReply.{FormulaReply}
 use Rattle.actl.specs.declared.FormulaReply.the-variants as formulas
 use Rattle.actl.proofs.Laws.Forms.{length-form}
 use Rattle.explainer.specs.Interface.{numberIn, figureIn}
 use Rattle.explainer.specs.Explanation.{andThen}
-use Rattle.explainer.specs.Readings.{Read, readings, ReadBoth}
+use Rattle.explainer.specs.Readings.{ReadBoth}
+use Rattle.explainer.specs.BothTexts.{Read, readings}
 use Rattle.explainer.specs.declared.readings.BothRead.the-variants.{Ready, Refused}
 use Rattle.explainer.proofs.Explained.{reading-leaves-table, reading-leaves-formula}
 
@@ -66,32 +69,32 @@ enough true n f andThen e = refl
 enough false n f andThen e = absurd (let z : _≡_ {A = ℕ} 0 1 = cc in omega arith)
 
 module _ (text buffer : List ℕ) (long : length buffer ≡ tableLength) where
-  table-reading : lts.tableReading text buffer ≡ readTable text
-  unfolding lts.tableReading
+  table-reading : tableReading text buffer ≡ readTable text
+  unfolding tableReading
   table-reading = enough (leb tableLength (length buffer)) 14 tableLength (readTable text) (le-leb tableLength (length buffer) (omega arith))
 
-  pub table-refused : (r : TableReply) → lts.tableReply r ≡ lts.tableReplied text buffer → (numberIn (lts.tableReply r) ≡ 0 → ⊥)
+  pub table-refused : (r : TableReply) → lts.tableReply r ≡ tableReplied text buffer → (numberIn (lts.tableReply r) ≡ 0 → ⊥)
       → readTable text ≡ refusal (numberIn (lts.tableReply r)) (figureIn (λ _. 0) (lts.tableReply r))
-  table-refused r e h = sym table-reading ∙ same-refusal (λ t. tt) (lts.tableReading text buffer) _ _ (sym e ∙ refused-so (lts.tableReply r) h)
+  table-refused r e h = sym table-reading ∙ same-refusal (λ t. tt) (tableReading text buffer) _ _ (sym e ∙ refused-so (lts.tableReply r) h)
 
-  pub table-written : (t : Table) → readTable text ≡ accepted t → lts.tableLeft text buffer ≡ tableBytes t
+  pub table-written : (t : Table) → readTable text ≡ accepted t → tableLeft text buffer ≡ tableBytes t
   table-written t e =
       ap (λ r. leftIn tableBytes r buffer) (table-reading ∙ e)
       ∙ all-written (tableBytes t) buffer (table-bytes-length t (text-of-read text t e .1) ∙ sym long)
 
 module _ (table text buffer : List ℕ) (long : length buffer ≡ formulaLength) (whole : length table ≡ tableLength) (t : Table) (held : preparedTable table ≡ some t) where
-  formula-reading : actl.formulaReading table text buffer ≡ readFormula (t .names) text
-  unfolding actl.formulaReading
+  formula-reading : formulaReading table text buffer ≡ readFormula (t .names) text
+  unfolding formulaReading
   formula-reading =
       enough (leb tableLength (length table)) 14 tableLength _ (le-leb tableLength (length table) (omega arith))
       ∙ enough (leb formulaLength (length buffer)) 14 formulaLength _ (le-leb formulaLength (length buffer) (omega arith))
-      ∙ ap (λ o. actl.withTable o (λ u. readFormula (u .names) text)) held
+      ∙ ap (λ o. withTable o (λ u. readFormula (u .names) text)) held
 
-  pub formula-refused : (r : FormulaReply) → actl.formulaReply r ≡ actl.formulaReplied table text buffer → (numberIn (actl.formulaReply r) ≡ 0 → ⊥)
+  pub formula-refused : (r : FormulaReply) → actl.formulaReply r ≡ formulaReplied table text buffer → (numberIn (actl.formulaReply r) ≡ 0 → ⊥)
       → readFormula (t .names) text ≡ refusal (numberIn (actl.formulaReply r)) (figureIn (λ _. 0) (actl.formulaReply r))
-  formula-refused r e h = sym formula-reading ∙ same-refusal (λ F. tt) (actl.formulaReading table text buffer) _ _ (sym e ∙ refused-so (actl.formulaReply r) h)
+  formula-refused r e h = sym formula-reading ∙ same-refusal (λ F. tt) (formulaReading table text buffer) _ _ (sym e ∙ refused-so (actl.formulaReply r) h)
 
-  pub formula-written : (F : Formula) → readFormula (t .names) text ≡ accepted F → size F ≤ 40 → actl.formulaLeft table text buffer ≡ formulaBytes F
+  pub formula-written : (F : Formula) → readFormula (t .names) text ≡ accepted F → size F ≤ 40 → formulaLeft table text buffer ≡ formulaBytes F
   formula-written F e few =
       ap (λ r. leftIn formulaBytes r buffer) (formula-reading ∙ e)
       ∙ all-written (formulaBytes F) buffer (length-form F few ∙ sym long)
@@ -123,7 +126,7 @@ pub record TableRead (text left : List ℕ) : Type 0 where
   pub bytes : left ≡ tableBytes table
   pub whole : length left ≡ tableLength
 
-pub table-read : (text buffer : List ℕ) (r : TableReply) (left : List ℕ) → lts.tableReply r ≡ lts.tableReplied text buffer → left ≡ lts.tableLeft text buffer
+pub table-read : (text buffer : List ℕ) (r : TableReply) (left : List ℕ) → lts.tableReply r ≡ tableReplied text buffer → left ≡ tableLeft text buffer
     → numberIn (lts.tableReply r) ≡ 0 → length buffer ≡ tableLength → TableRead text left
 table-read text buffer r left e d z long =
     let (t, read, held) = reading-leaves-table text buffer (sym e ∙ table-zero r z) in
@@ -142,7 +145,7 @@ pub record FormulaRead (t : Table) (text left : List ℕ) : Type 0 where
   pub bytes : left ≡ formulaBytes formula
 
 pub formula-read : (table text buffer : List ℕ) → length buffer ≡ formulaLength → length table ≡ tableLength → (t : Table) → preparedTable table ≡ some t
-    → (r : FormulaReply) (left : List ℕ) → actl.formulaReply r ≡ actl.formulaReplied table text buffer → left ≡ actl.formulaLeft table text buffer
+    → (r : FormulaReply) (left : List ℕ) → actl.formulaReply r ≡ formulaReplied table text buffer → left ≡ formulaLeft table text buffer
     → numberIn (actl.formulaReply r) ≡ 0 → FormulaRead t text left
 formula-read table text buffer long whole t held r left e d z =
     let (F, read, form, again) = reading-leaves-formula table text buffer t held (sym e ∙ formula-zero r z) in

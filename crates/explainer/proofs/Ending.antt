@@ -19,10 +19,12 @@ use Rattle.labelling.specs.declared.VerdictReply.{VerdictReply}
 use Rattle.listing.specs.Listing.{Listing, listing}
 use Rattle.listing.specs.Bytes.{rowsBytes, edgesBytes}
 use Rattle.automaton.specs.Replies as built
+use Rattle.listing.specs.Build.{fitted, built, counts, buildReplied, rowsLeft, edgesLeft}
 use Rattle.automaton.specs.declared.BuildReply.{BuildReply}
 use Rattle.automaton.specs.declared.BuildReply.the-variants as replies
 use Rattle.explainer.specs.Interface.{numberIn, figureIn, edgesIn}
-use Rattle.explainer.specs.Readings.{Read, HoldsBoth, Outcome, listingOf, ClassIn}
+use Rattle.explainer.specs.Readings.{Outcome}
+use Rattle.explainer.specs.BothTexts.{Read, HoldsBoth, listingOf, ClassIn}
 use Rattle.explainer.specs.declared.ExplainReply.the-variants.{Explained, Refused}
 use Rattle.explainer.proofs.Explaining.{Prepared, on-prepared}
 
@@ -30,21 +32,21 @@ module _ (t f : List ℕ) (x : Read) (held : HoldsBoth t f x) (long : tableLengt
   prepared : Prepared t f x
   prepared = record { is-table = held .is-table; is-formula = held .is-formula; table-long = long; formula-long = wide }
 
-  module _ (rows edges : List ℕ) (b : BuildReply) (outcome : built.buildReply b ≡ built.buildReplied t f rows edges) where
-    is-fitted : built.built t f rows edges ≡ built.fitted (listing (x .table) (x .formula)) rows edges
-    unfolding built.built
-    is-fitted = on-prepared prepared (λ t F. built.fitted (listing t F) rows edges)
+  module _ (rows edges : List ℕ) (b : BuildReply) (outcome : built.buildReply b ≡ buildReplied t f rows edges) where
+    is-fitted : built t f rows edges ≡ fitted (listing (x .table) (x .formula)) rows edges
+    unfolding built
+    is-fitted = on-prepared prepared (λ t F. fitted (listing t F) rows edges)
 
     pub refused-said : (numberIn (built.buildReply b) ≡ 0 → ⊥) → (number count : ℕ) → number ≡ numberIn (built.buildReply b) → count ≡ figureIn (λ c. c .rows) (built.buildReply b)
-        → (table formula rows′ edges′ : List ℕ) → rows′ ≡ built.rowsLeft t f rows edges → edges′ ≡ built.edgesLeft t f rows edges
+        → (table formula rows′ edges′ : List ℕ) → rows′ ≡ rowsLeft t f rows edges → edges′ ≡ edgesLeft t f rows edges
         → Outcome (listingOf x rows edges) (Refused number count) table table formula formula rows rows′ edges edges′
-    refused-said h number count p q table formula rows′ edges′ u v = by (built.fitted (listing (x .table) (x .formula)) rows edges) is-fitted
+    refused-said h number count p q table formula rows′ edges′ u v = by (fitted (listing (x .table) (x .formula)) rows edges) is-fitted
       where
-        by : (r : Reply Listing) → built.built t f rows edges ≡ r
+        by : (r : Reply Listing) → built t f rows edges ≡ r
             → Outcome (answers (λ L. record { table = x .table; formula = x .formula; list = L }) r) (Refused number count) table table formula formula rows rows′ edges edges′
-        by (accepted L) e = absurd (h (ap numberIn (outcome ∙ ap (answers built.counts) e)))
+        by (accepted L) e = absurd (h (ap numberIn (outcome ∙ ap (answers counts) e)))
         by (refusal n g) e =
-            let z = outcome ∙ ap (answers built.counts) e in
+            let z = outcome ∙ ap (answers counts) e in
             let a = p ∙ ap numberIn z in
             let c = q ∙ ap (figureIn (λ c. c .rows)) z in
             record {
@@ -59,21 +61,21 @@ module _ (t f : List ℕ) (x : Read) (held : HoldsBoth t f x) (long : tableLengt
         → (verdict class count edge-count : ℕ) → verdict ≡ figureIn (λ holds. holds) (verdictReply v) → ClassIn f class
         → count ≡ figureIn (λ c. c .rows) (built.buildReply b) → edge-count ≡ edgesIn 0 (built.buildReply b)
         → (table table′ formula formula′ rows′ edges′ : List ℕ) → table′ ≡ overwritten t table → formula′ ≡ overwritten f formula
-        → rows′ ≡ built.rowsLeft t f rows edges → edges′ ≡ built.edgesLeft t f rows edges
+        → rows′ ≡ rowsLeft t f rows edges → edges′ ≡ edgesLeft t f rows edges
         → ((n g : ℕ) → built.buildReply b ≡ refusal n g → n ≡ 0 → ⊥)
         → Outcome (listingOf x rows edges) (Explained verdict class count edge-count) table table′ formula formula′ rows rows′ edges edges′
     unfolding verdictReplied
     explained-said h w s verdict class count edge-count p c q k table table′ formula formula′ rows′ edges′ d m u v never =
-        by (built.fitted (listing (x .table) (x .formula)) rows edges) is-fitted
+        by (fitted (listing (x .table) (x .formula)) rows edges) is-fitted
       where
         told : verdictReply w ≡ accepted (holds.verdict (x .table) (x .formula))
         told = s ∙ on-prepared prepared (λ t F. accepted (holds.verdict t F))
 
-        by : (r : Reply Listing) → built.built t f rows edges ≡ r
+        by : (r : Reply Listing) → built t f rows edges ≡ r
             → Outcome (answers (λ L. record { table = x .table; formula = x .formula; list = L }) r) (Explained verdict class count edge-count) table table′ formula formula′ rows rows′ edges edges′
-        by (refusal n g) e = absurd (never n g (outcome ∙ ap (answers built.counts) e) (sym (ap numberIn (outcome ∙ ap (answers built.counts) e)) ∙ h))
+        by (refusal n g) e = absurd (never n g (outcome ∙ ap (answers counts) e) (sym (ap numberIn (outcome ∙ ap (answers counts) e)) ∙ h))
         by (accepted L) e =
-            let z = outcome ∙ ap (answers built.counts) e in
+            let z = outcome ∙ ap (answers counts) e in
             let a = p ∙ ap (figureIn (λ holds. holds)) told in
             let b = c (_) (x .formula) (held .is-formula) in
             let i₃ = q ∙ ap (figureIn (λ c. c .rows)) z in

@@ -12,20 +12,20 @@ use Rattle.lts.specs.Steps.{Table, labels}
 use Rattle.lts.specs.Range.{InRange}
 use Rattle.lts.specs.Reading.{readTable}
 use Rattle.lts.specs.Prepared.{tableLength, tableBytes, preparedTable}
-use Rattle.lts.specs.Replies as lts
+use Rattle.lts.specs.TableReading.{tableReading, tableReplied, tableLeft}
 use Rattle.lts.proofs.Laws.Texts.{text-of-read}
 use Rattle.lts.proofs.Laws.TableBytes.{table-bytes-length}
 use Rattle.lts.proofs.Laws.Prepared as prepared-table
 use Rattle.actl.specs.Formulas.{Formula, size}
 use Rattle.actl.specs.Reading.{readFormula}
 use Rattle.actl.specs.Prepared.{formulaLength, formulaBytes, preparedFormula, IsForm}
-use Rattle.actl.specs.Replies as actl
+use Rattle.actl.specs.FormulaReading.{withTable, formulaReading, formulaReplied, formulaLeft}
 use Rattle.actl.proofs.Classes.{HasClass}
 use Rattle.actl.proofs.Laws.Accepted.{reading-leaves-form}
 use Rattle.actl.proofs.Laws.Prepared as prepared-formula
 use Rattle.listing.specs.Listing.{Listing, listing}
 use Rattle.listing.specs.Bytes.{rowLength, edgeLength, rowsBytes, edgesBytes}
-use Rattle.automaton.specs.Replies.{Counts, counts, fitted, built, buildReplied, rowsLeft, edgesLeft}
+use Rattle.listing.specs.Build.{Counts, counts, fitted, built, buildReplied, rowsLeft, edgesLeft}
 use Rattle.actl.proofs.Laws.Replies.{refusal-is-not-accepted, unless-accepted, long-enough-accepted, Prepared, on-prepared-accepted}
 use Rattle.automaton.proofs.Accepted.{prepared-in-range, formed-has-class, fitted-accepted}
 use Rattle.explainer.specs.Explained.{RunsTraced, FromTexts, FromPrepared}
@@ -62,36 +62,36 @@ accepted-answer f (accepted a) e = (a, refl)
 accepted-answer f (refusal n g) e = absurd (refusal-is-not-accepted e)
 
 module _ (text buffer : List ℕ) where
-  pub reading-leaves-table : lts.tableReplied text buffer ≡ accepted tt → (t : Table) × (readTable text ≡ accepted t) × (preparedTable (lts.tableLeft text buffer) ≡ some t)
-  unfolding lts.tableReading
+  pub reading-leaves-table : tableReplied text buffer ≡ accepted tt → (t : Table) × (readTable text ≡ accepted t) × (preparedTable (tableLeft text buffer) ≡ some t)
+  unfolding tableReading
   reading-leaves-table e =
-      let (t, d) = accepted-answer (λ t. tt) (lts.tableReading text buffer) e in
+      let (t, d) = accepted-answer (λ t. tt) (tableReading text buffer) e in
       let r = unless-accepted (leb tableLength (length buffer)) 14 tableLength (readTable text) d .1 in
       let w = text-of-read text t r .1 in
-      let left : lts.tableLeft text buffer ≡ overwritten (tableBytes t) buffer = ap (λ x. leftIn tableBytes x buffer) d in
-      (t, r, prepared-table.prepared-to (lts.tableLeft text buffer) t w (ap (take tableLength) left ∙ take-at (tableBytes t) (drop (length (tableBytes t)) buffer) tableLength (table-bytes-length t w)))
+      let left : tableLeft text buffer ≡ overwritten (tableBytes t) buffer = ap (λ x. leftIn tableBytes x buffer) d in
+      (t, r, prepared-table.prepared-to (tableLeft text buffer) t w (ap (take tableLength) left ∙ take-at (tableBytes t) (drop (length (tableBytes t)) buffer) tableLength (table-bytes-length t w)))
 
 module _ (table text buffer : List ℕ) where
-  pub reading-leaves-formula : (t : Table) → preparedTable table ≡ some t → actl.formulaReplied table text buffer ≡ accepted tt
-      → (F : Formula) × (readFormula (t .names) text ≡ accepted F) × IsForm (labels t) (actl.formulaLeft table text buffer) F × (preparedFormula (labels t) (actl.formulaLeft table text buffer) ≡ some F)
-  unfolding actl.formulaReading
+  pub reading-leaves-formula : (t : Table) → preparedTable table ≡ some t → formulaReplied table text buffer ≡ accepted tt
+      → (F : Formula) × (readFormula (t .names) text ≡ accepted F) × IsForm (labels t) (formulaLeft table text buffer) F × (preparedFormula (labels t) (formulaLeft table text buffer) ≡ some F)
+  unfolding formulaReading
   reading-leaves-formula t p e =
-      let (F, d) = accepted-answer (λ F. tt) (actl.formulaReading table text buffer) e in
-      let r = long-enough-accepted table buffer (actl.withTable (preparedTable table) (λ t. readFormula (t .names) text)) d in
-      let q : readFormula (t .names) text ≡ accepted F = sym (ap (λ o. actl.withTable o (λ t. readFormula (t .names) text)) p) ∙ r in
-      let left : actl.formulaLeft table text buffer ≡ overwritten (formulaBytes F) buffer = ap (λ x. leftIn formulaBytes x buffer) d in
-      let h : IsForm (labels t) (actl.formulaLeft table text buffer) F = subst (λ (b : List ℕ). IsForm (labels t) b F) (sym left) (reading-leaves-form (t .names) text (drop (length (formulaBytes F)) buffer) q) in
+      let (F, d) = accepted-answer (λ F. tt) (formulaReading table text buffer) e in
+      let r = long-enough-accepted table buffer (withTable (preparedTable table) (λ t. readFormula (t .names) text)) d in
+      let q : readFormula (t .names) text ≡ accepted F = sym (ap (λ o. withTable o (λ t. readFormula (t .names) text)) p) ∙ r in
+      let left : formulaLeft table text buffer ≡ overwritten (formulaBytes F) buffer = ap (λ x. leftIn formulaBytes x buffer) d in
+      let h : IsForm (labels t) (formulaLeft table text buffer) F = subst (λ (b : List ℕ). IsForm (labels t) b F) (sym left) (reading-leaves-form (t .names) text (drop (length (formulaBytes F)) buffer) q) in
       let w = prepared-in-range table p in
-      (F, q, h, prepared-formula.prepared-to (labels t) (actl.formulaLeft table text buffer) F h (omega (arith, w .few-labels)))
+      (F, q, h, prepared-formula.prepared-to (labels t) (formulaLeft table text buffer) F h (omega (arith, w .few-labels)))
 
 -- "from the two texts through both readings to what building wrote, each call handed what the calls before it left"
 module _ (tableText formulaText table formula rows edges : List ℕ) where
   -- What the calls before left.
   abbrev table-left : List ℕ
-  table-left = lts.tableLeft tableText table
+  table-left = tableLeft tableText table
 
   abbrev formula-left : List ℕ
-  formula-left = actl.formulaLeft table-left formulaText formula
+  formula-left = formulaLeft table-left formulaText formula
 
   same-some : {A : Type 0} {a b : A} → some a ≡ some b → a ≡ b
   same-some e = cc
@@ -104,7 +104,7 @@ module _ (tableText formulaText table formula rows edges : List ℕ) where
       let q : G ≡ F = same-some (sym g ∙ (ap (λ v. preparedFormula (labels v) formula-left) z ∙ d)) in
       (t, F, a, b, subst (λ (v : Table). RunsTraced v F k x y) z (subst (λ (H : Formula). RunsTraced u H k x y) q h))
 
-  pub texts-explained : lts.tableReplied tableText table ≡ accepted tt → actl.formulaReplied table-left formulaText formula ≡ accepted tt
+  pub texts-explained : tableReplied tableText table ≡ accepted tt → formulaReplied table-left formulaText formula ≡ accepted tt
       → FromTexts tableText formulaText (buildReplied table-left formula-left rows edges) (rowsLeft table-left formula-left rows edges) (edgesLeft table-left formula-left rows edges)
   texts-explained e d =
       let (t, a, c) = reading-leaves-table tableText table e in

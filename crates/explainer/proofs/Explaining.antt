@@ -19,14 +19,14 @@ use Rattle.lts.proofs.Laws.Prepared as tables
 use Rattle.actl.specs.Formulas.{Formula}
 use Rattle.actl.specs.Reading.{readFormula}
 use Rattle.actl.specs.Prepared.{formulaLength, formulaBytes, IsForm, preparedFormula}
-use Rattle.actl.specs.Replies.{onPrepared, withTable, withFormula, longEnough}
+use Rattle.actl.specs.FormulaReading.{onPrepared, withTable, withFormula, longEnough}
 use Rattle.actl.proofs.Laws.Forms.{length-form}
 use Rattle.actl.proofs.Laws.Prepared as formulas
 use Rattle.actl.proofs.Laws.Accepted.{reading-leaves-form}
 use Rattle.listing.specs.Listing.{Listing, listing}
-use Rattle.automaton.specs.Replies.{fitted}
+use Rattle.listing.specs.Build.{fitted}
 use Rattle.explainer.specs.Explanation.{Explanation, andThen, explanation}
-use Rattle.explainer.specs.Readings.{Read, readings}
+use Rattle.explainer.specs.BothTexts.{Read, readings}
 use Rattle.explainer.proofs.BothTexts.{enough}
 
 abbrev both : Table → Formula → Read

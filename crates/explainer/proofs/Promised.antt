@@ -12,11 +12,13 @@ use Rattle.lts.specs.Reply.{Reply, accepted, refusal, unless, answers}
 use Rattle.lts.specs.Steps.{labels}
 use Rattle.lts.specs.Prepared.{tableLength, tableBytes, preparedTable}
 use Rattle.actl.specs.Prepared.{formulaLength, formulaBytes, preparedFormula}
-use Rattle.actl.specs.Replies.{longEnough}
-use Rattle.automaton.specs.Replies.{Counts}
+use Rattle.actl.specs.FormulaReading.{longEnough}
+use Rattle.listing.specs.Build.{Counts}
 use Rattle.explainer.specs.Explained.{FromTexts}
-use Rattle.explainer.specs.Explanation.{Explanation, andThen, countsOf, explainReply, explainReplied, rowsExplained, edgesExplained, explanation, explaining}
-use Rattle.explainer.specs.Readings.{Read, readings, ReadBoth, HoldsBoth, listingOf, Outcome}
+use Rattle.explainer.specs.Explanation.{Explanation, andThen, countsOf, explainReplied, rowsExplained, edgesExplained, explanation, explaining}
+use Rattle.explainer.specs.Replies.{explainReply}
+use Rattle.explainer.specs.Readings.{ReadBoth, Outcome}
+use Rattle.explainer.specs.BothTexts.{Read, readings, HoldsBoth, listingOf}
 use Rattle.explainer.specs.Promise.{Promise}
 use Rattle.explainer.specs.declared.ExplainReply.{ExplainReply}
 use Rattle.explainer.specs.declared.ExplainReply.the-variants as replies

@@ -13,7 +13,8 @@ use Rattle.actl.proofs.Laws.Accepted.{reading-leaves-form}
 use Rattle.listing.specs.Listing.{Edge, Listing}
 use Rattle.listing.specs.Bytes.{rowLength, edgeLength}
 use Rattle.automaton.proofs.Accepted.{formed-has-class}
-use Rattle.explainer.specs.Explanation.{Explanation, explainReply, explaining, explanation, explainReplied, rowsExplained, edgesExplained}
+use Rattle.explainer.specs.Explanation.{Explanation, explaining, explanation, explainReplied, rowsExplained, edgesExplained}
+use Rattle.explainer.specs.Replies.{explainReply}
 use Rattle.explainer.specs.Files.{Begins, replyText, Few, PrefixLength}
 use Rattle.explainer.specs.Printed.{withoutEnd, printed, explainText, TextWritten}
 use Rattle.explainer.specs.declared.ExplainReply.{ExplainReply}

@@ -12,7 +12,7 @@ use Rattle.actl.specs.Formulas.{Formula}
 use Rattle.actl.specs.Reading.{readFormula}
 use Rattle.actl.specs.Prepared.{preparedFormula}
 use Rattle.labelling.specs.Runs.{Run}
-use Rattle.automaton.specs.Replies.{Counts}
+use Rattle.listing.specs.Build.{Counts}
 use Rattle.explainer.specs.Shown.{ShowsOrBreaks}
 use Rattle.explainer.specs.Traces.{Traces}
 

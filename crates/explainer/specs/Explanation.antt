@@ -9,13 +9,11 @@ use Rattle.lts.specs.Prepared.{tableBytes}
 use Rattle.actl.specs.Formulas.{Formula, classOf}
 use Rattle.actl.specs.Reading.{readFormula}
 use Rattle.actl.specs.Prepared.{formulaBytes}
-use Rattle.actl.specs.Replies.{longEnough}
+use Rattle.actl.specs.FormulaReading.{longEnough}
 use Rattle.labelling.specs.Holds.{verdict}
 use Rattle.listing.specs.Listing.{Listing, listing}
 use Rattle.listing.specs.Bytes.{rowsBytes, edgesBytes}
-use Rattle.automaton.specs.Replies.{Counts, fitted}
-use Rattle.explainer.specs.declared.ExplainReply.{ExplainReply}
-use Rattle.explainer.specs.declared.ExplainReply.the-variants.{Explained, Refused}
+use Rattle.listing.specs.Build.{Counts, fitted}
 
 -- 01: "verdict (1 holds, 0 not), class, rows, edges"
 pub record Summary : Type 0 where
@@ -26,10 +24,6 @@ pub record Summary : Type 0 where
 
 abbrev pub countsOf : Summary → Counts
 countsOf s = record { rows = s .rows; edges = s .edges }
-
-abbrev pub explainReply : ExplainReply → Reply Summary
-explainReply (Explained verdict class rows edges) = accepted (record { verdict = verdict; class = class; rows = rows; edges = edges })
-explainReply (Refused number figure) = refusal number figure
 
 -- What was read, and its listing.
 pub record Explanation : Type 0 where

@@ -1,7 +1,7 @@
 -- What the C functions return and write: the refusal's number, or 0; and the figure.
 use Prim.Native.Nat.{ℕ}
 use Rattle.lts.specs.Reply.{Reply, accepted, refusal}
-use Rattle.automaton.specs.Replies.{Counts}
+use Rattle.listing.specs.Build.{Counts}
 
 abbrev pub numberIn : {A : Type 0} → Reply A → ℕ
 numberIn (accepted a) = 0

@@ -9,3 +9,5 @@ pub mod BenchSheet
 pub mod Interface
 pub mod Readings
 pub mod Promise
+pub mod Replies
+pub mod BothTexts

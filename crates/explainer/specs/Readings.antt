@@ -2,28 +2,15 @@
 use mathlib.Core.Path.{_≡_}
 use mathlib.Core.List.{List}
 use Prim.Native.Nat.{ℕ}
-use mathlib.Core.Option.{some}
-use Rattle.lts.specs.Reply.{Reply, accepted, refusal, answers}
-use Rattle.lts.specs.Steps.{Table, labels}
-use Rattle.lts.specs.Reading.{readTable}
-use Rattle.lts.specs.Prepared.{tableBytes, preparedTable}
-use Rattle.actl.specs.Formulas.{Formula, classOf}
-use Rattle.actl.specs.Reading.{readFormula}
-use Rattle.actl.specs.Prepared.{formulaBytes, preparedFormula}
-use Rattle.listing.specs.Listing.{Listing, listing}
-use Rattle.automaton.specs.Replies.{fitted}
-use Rattle.explainer.specs.Explanation.{andThen, Explanation, explainReply, explainReplied, tableExplained, formulaExplained, rowsExplained, edgesExplained}
+use Rattle.lts.specs.Reply.{Reply, accepted, refusal}
+use Rattle.lts.specs.Prepared.{tableBytes}
+use Rattle.actl.specs.Prepared.{formulaBytes}
+use Rattle.explainer.specs.Explanation.{Explanation, explainReplied, tableExplained, formulaExplained, rowsExplained, edgesExplained}
+use Rattle.explainer.specs.Replies.{explainReply}
 use Rattle.explainer.specs.declared.ExplainReply.{ExplainReply}
 use Rattle.explainer.specs.declared.readings.BothRead.{BothRead}
 use Rattle.explainer.specs.declared.readings.BothRead.the-variants.{Ready, Refused}
-
-pub record Read : Type 0 where
-  pub table : Table
-  pub formula : Formula
-
-abbrev pub readings : List ℕ → List ℕ → Reply Read
-readings tableText formulaText =
-    andThen (readTable tableText) (λ t. andThen (readFormula (t .names) formulaText) (λ F. accepted (record { table = t; formula = F })))
+use Rattle.explainer.specs.BothTexts.{Read}
 
 -- Prepared: the prepared bytes of what was read; refused: the number and the figure.
 abbrev pub ReadBoth : Reply Read → BothRead → List ℕ → List ℕ → Type 0
@@ -31,20 +18,6 @@ ReadBoth (accepted x) Ready table formula = (table ≡ tableBytes (x .table)) ×
 ReadBoth (accepted x) (Refused number figure) table formula = ⊥
 ReadBoth (refusal n g) Ready table formula = ⊥
 ReadBoth (refusal n g) (Refused number figure) table formula = (number ≡ n) × (figure ≡ g)
-
--- Bytes that hold what was read.
-pub record HoldsBoth (table formula : List ℕ) (x : Read) : Type 0 where
-  pub is-table : preparedTable table ≡ some (x .table)
-  pub is-formula : preparedFormula (labels (x .table)) formula ≡ some (x .formula)
-  pub table-bytes : table ≡ tableBytes (x .table)
-  pub formula-bytes : formula ≡ formulaBytes (x .formula)
-
-abbrev pub ClassIn : List ℕ → ℕ → Type 0
-ClassIn b r = (n : ℕ) (F : Formula) → preparedFormula n b ≡ some F → r ≡ classOf F
-
--- What was read with its listing, if the lent places suffice.
-abbrev pub listingOf : Read → List ℕ → List ℕ → Reply Explanation
-listingOf x rows edges = answers (λ L. record { table = x .table; formula = x .formula; list = L }) (fitted (listing (x .table) (x .formula)) rows edges)
 
 -- The reply, and each lent buffer before and after, as an explanation says.
 pub record Outcome (e : Reply Explanation) (r : ExplainReply) (table table′ formula formula′ rows rows′ edges edges′ : List ℕ) : Type 0 where

@@ -5,7 +5,7 @@ use Prim.Native.Nat.{ℕ, suc, _+_, _*_, _≤_, _<_}
 use lib.ListN.{getD}
 use Rattle.lts.specs.Steps.{Step}
 use Rattle.listing.specs.Listing.{Edge}
-use Rattle.automaton.specs.Replies.{Counts}
+use Rattle.listing.specs.Build.{Counts}
 
 -- What stands in the lent places: row i's state and final mark, edge j.
 abbrev pub rowState : List ℕ → ℕ → ℕ

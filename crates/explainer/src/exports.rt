@@ -1,9 +1,9 @@
 // The C interface. explainer.h declares these functions.
 ghost use mathlib.Core.Path.{_≡_};
-ghost use Rattle.lts.specs.Replies.{tableReplied, tableLeft};
-ghost use Rattle.actl.specs.Replies.{formulaReplied, formulaLeft};
+ghost use Rattle.lts.specs.TableReading.{tableReplied, tableLeft};
+ghost use Rattle.actl.specs.FormulaReading.{formulaReplied, formulaLeft};
 ghost use Rattle.labelling.specs.Replies.{verdictReplied};
-ghost use Rattle.automaton.specs.Replies.{buildReplied, rowsLeft, edgesLeft};
+ghost use Rattle.listing.specs.Build.{buildReplied, rowsLeft, edgesLeft};
 ghost use Rattle.words.specs.Replies.{wordReplied};
 ghost use Rattle.explainer.specs.Interface.{numberIn, figureIn, edgesIn};
 use crate::interface::build_edges;

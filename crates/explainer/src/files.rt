@@ -4,7 +4,7 @@ ghost use mathlib.Core.Path.{_≡_};
 ghost use mathlib.Core.List.{List, [], _++_};
 ghost use Prim.Native.Nat.{ℕ, _+_, _^_, _<_, min};
 ghost use lib.ListN.{length};
-ghost use Rattle.explainer.specs.Explanation.{explainReply};
+ghost use Rattle.explainer.specs.Replies.{explainReply};
 ghost use Rattle.explainer.specs.Files.{Begins, ScanOf, kept, replyText, Few, PrefixLength};
 ghost use Rattle.explainer.specs.Printed.{withoutEnd, explainText, TextWritten};
 use crate::ExplainReply;

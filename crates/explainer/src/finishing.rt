@@ -2,7 +2,8 @@
 ghost use mathlib.Core.Path.{_≡_};
 ghost use Prim.Native.Nat.{_≤_};
 ghost use lib.ListN.{length};
-ghost use Rattle.explainer.specs.Readings.{Read, HoldsBoth, Outcome, listingOf, ClassIn};
+ghost use Rattle.explainer.specs.Readings.{Outcome};
+ghost use Rattle.explainer.specs.BothTexts.{Read, HoldsBoth, listingOf, ClassIn};
 use crate::ExplainReply;
 use crate::interface::build_edges;
 use crate::interface::build_figure;

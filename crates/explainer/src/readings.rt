@@ -1,7 +1,8 @@
 // Reading both texts, the formula's over the table that was read.
 ghost use mathlib.Core.Path.{_≡_};
 ghost use lib.ListN.{length};
-ghost use Rattle.explainer.specs.Readings.{readings, ReadBoth};
+ghost use Rattle.explainer.specs.Readings.{ReadBoth};
+ghost use Rattle.explainer.specs.BothTexts.{readings};
 use crate::interface::formula_figure;
 use crate::interface::formula_number;
 use crate::interface::table_figure;

@@ -13,15 +13,6 @@ use Rattle.actl.specs.Prepared.{preparedFormula}
 use Rattle.labelling.specs.Holds.{holds}
 use Rattle.labelling.specs.Flags.{flagAt, NodeFlags}
 
--- Bytes in which a formula stands, over n labels.
-pub record HoldsFormula (n : ℕ) (b : List ℕ) : Type 0 where
-  pub formula : Formula
-  pub prepared : preparedFormula n b ≡ some formula
-
--- Where each node's arms end.
-pub record ArmsEnd (n : ℕ) (b ends : List ℕ) : Type 0 where
-  pub arms-end : (F : Formula) → preparedFormula n b ≡ some F → (k : ℕ) → k < size F → getD ends k 0 ≡ k + size (getD (nodes F) k tru)
-
 -- The row of node k, where there is a place for it.
 pub record RowRead (k : ℕ) (flags row : List Bool) : Type 0 where
   pub places : length row ≡ 256

@@ -2,7 +2,7 @@
 use mathlib.Core.List.{List}
 use Prim.Native.Nat.{ℕ}
 use Rattle.lts.specs.Reply.{Reply, accepted}
-use Rattle.actl.specs.Replies.{onPrepared}
+use Rattle.actl.specs.FormulaReading.{onPrepared}
 use Rattle.actl.specs.Inputs.{unprepared}
 use Rattle.labelling.specs.Holds.{verdict}
 use Rattle.labelling.specs.declared.VerdictReply.{VerdictReply}

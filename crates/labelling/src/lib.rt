@@ -15,8 +15,9 @@ mod until;
 ghost use mathlib.Core.Path.{_≡_};
 ghost use Rattle.lts.specs.Steps.{labels};
 ghost use Rattle.lts.specs.Prepared.{tableIn};
-ghost use Rattle.lts.specs.Access.{HoldsTable};
-ghost use Rattle.labelling.specs.Nodes.{HoldsFormula, AtStart};
+ghost use Rattle.lts.specs.HoldsTable.{HoldsTable};
+ghost use Rattle.labelling.specs.Nodes.{AtStart};
+ghost use Rattle.actl.specs.HoldsFormula.{HoldsFormula};
 ghost use Rattle.labelling.specs.Replies.{verdictReply, verdictReplied};
 
 // What `verdict` answers. specs/Replies.antt lists the number and the figure of each case.

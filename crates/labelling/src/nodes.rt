@@ -10,11 +10,12 @@ ghost use Prim.Native.Nat.{_+_, _<_};
 ghost use lib.ListN.{length, getD};
 ghost use Rattle.lts.specs.Steps.{labels};
 ghost use Rattle.lts.specs.Prepared.{tableIn};
-ghost use Rattle.lts.specs.Access.{HoldsTable};
+ghost use Rattle.lts.specs.HoldsTable.{HoldsTable};
 ghost use Rattle.lts.specs.StepArray.{StepsOf};
 ghost use Rattle.labelling.specs.Flags.{flagAt, nodeHolds, Flags};
 ghost use Rattle.labelling.specs.Links.{Linked};
-ghost use Rattle.labelling.specs.Nodes.{HoldsFormula, ArmsEnd, RowRead, RowPut, RowsFrom, Labelled};
+ghost use Rattle.labelling.specs.Nodes.{RowRead, RowPut, RowsFrom, Labelled};
+ghost use Rattle.actl.specs.HoldsFormula.{HoldsFormula, ArmsEnd};
 
 // Where a node holds, from where its arms hold.
 fn label_node(

@@ -9,3 +9,4 @@ pub mod DeadEnds
 pub mod Words
 pub mod Bytes
 pub mod Masks
+pub mod Build

@@ -13,3 +13,7 @@ pub mod Check
 pub mod Lines
 pub mod Slots
 pub mod Progress
+pub mod Answers
+pub mod HoldsTable
+pub mod LineReplies
+pub mod TableReading

@@ -16,7 +16,8 @@ ghost use Rattle.lts.specs.Steps.{labels};
 ghost use Rattle.lts.specs.Names.{longestName};
 ghost use Rattle.lts.specs.Reading.{stepBelow};
 ghost use Rattle.lts.specs.Prepared.{tableLength, tableIn, byteAt, preparedTable};
-ghost use Rattle.lts.specs.Access.{Decides, stepIn, isSome};
+ghost use Rattle.lts.specs.Access.{stepIn};
+ghost use Rattle.lts.specs.Answers.{Decides, isSome};
 ghost use Rattle.lts.specs.Check.{ZerosFrom, CountsHeld, NameHeld, NewName, NamesHeld, TransitionHeld, TransitionsHeld};
 
 pub fn is_prepared(table: &[u8]) -> bool

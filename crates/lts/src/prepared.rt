@@ -5,7 +5,8 @@ ghost use Prim.Native.Nat.{_≤_, _<_};
 ghost use lib.ListN.{length};
 ghost use Rattle.lts.specs.Steps.{labels};
 ghost use Rattle.lts.specs.Prepared.{tableLength, tableIn, byteAt};
-ghost use Rattle.lts.specs.Access.{Counted, StepRead};
+ghost use Rattle.lts.specs.Access.{StepRead};
+ghost use Rattle.lts.specs.Answers.{Counted};
 
 pub struct Transition {
     pub from: usize,

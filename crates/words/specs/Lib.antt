@@ -1,3 +1,4 @@
 pub mod Replies
 pub mod Fronts
 pub mod Reached
+pub mod Answered

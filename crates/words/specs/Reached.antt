@@ -7,21 +7,16 @@ use Prim.Native.Nat.{ℕ, _+_, _*_, _≤_, _<_}
 use lib.Bits.{bitOr}
 use lib.Dec.{eqb}
 use lib.ListN.{length, getD}
-use Rattle.lts.specs.Reply.{Reply, accepted}
 use Rattle.lts.specs.Lists.{upFrom, some as any}
-use Rattle.lts.specs.Steps.{Step, Table, labels}
+use Rattle.lts.specs.Steps.{Step, labels}
 use Rattle.lts.specs.Prepared.{tableIn}
 use Rattle.actl.specs.Formulas.{Formula}
 use Rattle.actl.specs.Prepared.{preparedFormula}
-use Rattle.actl.specs.Reading.{unlessFound}
 use Rattle.labelling.specs.Flags.{flagAt}
 use Rattle.listing.specs.Listing.{onLabel}
 use Rattle.listing.specs.Masks.{bitAt, columnOf}
 use Rattle.listing.specs.Words.{accepts}
-use Rattle.listing.specs.Bytes.{bitOf}
 use Rattle.words.specs.Fronts.{stateIn, nowhere, emptied, brought, through}
-use Rattle.words.specs.Replies.{wordReply, badLetter}
-use Rattle.words.specs.declared.WordReply.{WordReply}
 
 -- The target places of place k on label l, as `target_masks` leaves them.
 abbrev pub maskAt : List ℕ → ℕ → ℕ → ℕ
@@ -75,10 +70,3 @@ pub record Letters (w : List ℕ) : Type 0 where
 -- The answer for the table and the formula in bytes.
 pub record Answers (table formula w : List ℕ) (r : Bool) : Type 0 where
   pub answer : (F : Formula) → preparedFormula (labels (tableIn table)) formula ≡ some F → r ≡ accepts (tableIn table) F w
-
--- 01: "Word checks give 13"; else the answer.
-abbrev pub wordAnswer : Table → Formula → List ℕ → Reply ℕ
-wordAnswer t F w = unlessFound (badLetter (labels t) w) 13 (accepted (bitOf (accepts t F w)))
-
-pub record Answered (table formula w : List ℕ) (r : WordReply) : Type 0 where
-  pub reply : (F : Formula) → preparedFormula (labels (tableIn table)) formula ≡ some F → wordReply r ≡ wordAnswer (tableIn table) F w

@@ -7,7 +7,7 @@ use lib.Dec.{ltb}
 use Rattle.lts.specs.Reply.{Reply, accepted, refusal}
 use Rattle.lts.specs.Steps.{labels}
 use Rattle.actl.specs.Reading.{unlessFound}
-use Rattle.actl.specs.Replies.{onPrepared}
+use Rattle.actl.specs.FormulaReading.{onPrepared}
 use Rattle.actl.specs.Inputs.{unprepared}
 use Rattle.listing.specs.Words.{accepts}
 use Rattle.listing.specs.Bytes.{bitOf}

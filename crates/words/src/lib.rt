@@ -21,11 +21,13 @@ ghost use Prim.Native.Nat.{_≤_};
 ghost use Rattle.lts.specs.Reply.{accepted};
 ghost use Rattle.lts.specs.Steps.{labels};
 ghost use Rattle.lts.specs.Prepared.{tableIn};
-ghost use Rattle.lts.specs.Access.{HoldsTable, foundIn};
-ghost use Rattle.labelling.specs.Nodes.{HoldsFormula};
+ghost use Rattle.lts.specs.Access.{foundIn};
+ghost use Rattle.lts.specs.HoldsTable.{HoldsTable};
+ghost use Rattle.actl.specs.HoldsFormula.{HoldsFormula};
 ghost use Rattle.listing.specs.Bytes.{bitOf};
 ghost use Rattle.words.specs.Replies.{badLetter, wordReply, wordReplied};
-ghost use Rattle.words.specs.Reached.{finalIn, someFinal, Letters, Answers, Answered};
+ghost use Rattle.words.specs.Reached.{finalIn, someFinal, Letters, Answers};
+ghost use Rattle.words.specs.Answered.{Answered};
 
 // What `accepts` answers. specs/Replies.antt lists the number and the figure of each case.
 pub enum WordReply {

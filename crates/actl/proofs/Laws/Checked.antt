@@ -15,7 +15,7 @@ use borrow.Author.Tests.{eq-eqb, ne-eqb, eqb-true, eqb-false, lt-ltb, le-ltb, lt
 use Rattle.lts.specs.Lists.{upFrom, every}
 use Rattle.lts.proofs.Lists.{upFrom-to, every-of, and-true-of}
 use Rattle.actl.specs.Prepared.{Slot, slot, maskWithin, slotWithin}
-use Rattle.actl.specs.Access.{shaped, firstUsed, secondUsed}
+use Rattle.actl.specs.Shaped.{shaped, firstUsed, secondUsed}
 use Rattle.actl.specs.Check.{slotFits}
 
 -- Masks within n labels.

@@ -11,11 +11,12 @@ use borrow.Author.Tests.{le-leb, lt-leb}
 use Rattle.lts.specs.Reply.{Reply, accepted, refusal, unless}
 use Rattle.lts.specs.Steps.{Table, labels}
 use Rattle.lts.specs.Prepared.{tableLength, tableIn, preparedTable}
-use Rattle.lts.specs.Access.{isSome, HoldsTable}
+use Rattle.lts.specs.HoldsTable.{HoldsTable}
+use Rattle.lts.specs.Answers.{isSome}
 use Rattle.lts.proofs.Laws.Prepared.{is-some-of, prepared-in, prepared-of, prepared-holds}
 use Rattle.actl.specs.Formulas.{Formula}
 use Rattle.actl.specs.Prepared.{formulaLength, preparedFormula}
-use Rattle.actl.specs.Replies.{withTable, withFormula, longEnough, onPrepared}
+use Rattle.actl.specs.FormulaReading.{withTable, withFormula, longEnough, onPrepared}
 use Rattle.actl.specs.Inputs.{unprepared}
 use Rattle.actl.specs.declared.inputs.Unprepared.{Unprepared}
 use Rattle.actl.proofs.Laws.Replies.{accepted-lengths, on-prepared-accepted}

@@ -9,7 +9,7 @@ use Rattle.lts.proofs.Lists.{map-append}
 use Rattle.actl.specs.Actions.{Mask, Cond, silent, labels}
 use Rattle.actl.specs.Formulas.{Formula, tru, not, or, ex, ax, eu, euThen, nodes}
 use Rattle.actl.specs.Prepared.{Slot, slot, slotOf, push, pushOn, treesIn}
-use Rattle.actl.specs.Access.{shaped, firstUsed, secondUsed}
+use Rattle.actl.specs.Shaped.{shaped, firstUsed, secondUsed}
 use Rattle.actl.specs.Walk.{kindOf, kindsOf}
 use Rattle.actl.proofs.Laws.Slots.{Shape, shape-of}
 use Rattle.actl.proofs.Laws.Polish.{clean, trees-of}

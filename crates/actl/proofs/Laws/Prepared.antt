@@ -17,7 +17,7 @@ use Rattle.lts.proofs.Lists.{and-true-of, and-true-to, every-of, every-to, getD
 use Rattle.actl.specs.Actions.{Mask}
 use Rattle.actl.specs.Formulas.{Formula, tru, size, nodes, classOf}
 use Rattle.actl.specs.Prepared.{formulaLength, Slot, slot, slotOf, formulaBytes, slotAt, maskWithin, slotWithin, IsForm, isForm, treesIn, formed, preparedFormula}
-use Rattle.actl.specs.Access.{shaped, firstUsed, secondUsed}
+use Rattle.actl.specs.Shaped.{shaped, firstUsed, secondUsed}
 use Rattle.actl.proofs.Nodes.{length-nodes}
 use Rattle.actl.proofs.Laws.Lists.{length-upFrom, getD-upFrom, same-bytes-of, same-bytes-refl}
 use Rattle.actl.proofs.Laws.Masks.{within-low}

@@ -14,10 +14,11 @@ use borrow.Author.Tests.{eqb-true, eqb-false}
 use Rattle.lts.specs.Lists.{upFrom}
 use Rattle.actl.specs.Formulas.{Formula, tru, not, or, ex, ax, eu, euThen, size, nodes, classOf, hasNoClass, highestFrom, highestWithoutClass}
 use Rattle.actl.specs.Prepared.{slotAt, preparedFormula}
-use Rattle.lts.specs.Access.{Decides}
+use Rattle.lts.specs.Answers.{Decides}
 use Rattle.lts.proofs.Laws.Decides.{decided-yes, decided-no}
 use Rattle.actl.specs.Check.{SpelledClassed}
-use Rattle.actl.specs.Walk.{kindOf, kindsOf, kindsIn, armOf, classOfArm, endsFrom, classesOf, Spelled, Traversed, Walks}
+use Rattle.actl.specs.Walk.{kindOf, kindsOf, kindsIn, armOf, classOfArm, endsFrom, classesOf, Spelled, Traversed}
+use Rattle.actl.specs.WalkReplies.{Walks}
 use Rattle.actl.specs.declared.walk.Walked.{Walked}
 use Rattle.actl.specs.declared.walk.Walked.the-variants.{Broken, Node}
 use Rattle.actl.proofs.Nodes.{length-nodes, size-pos}

@@ -9,8 +9,9 @@ use Rattle.lts.specs.Reply.{Reply, answers, leftIn}
 use Rattle.actl.specs.Formulas.{Formula}
 use Rattle.actl.specs.Prepared.{formulaBytes}
 use Rattle.actl.specs.Replies.{formulaReply}
-use Rattle.actl.specs.Readers.{namesIn, ReadingSays}
-use Rattle.actl.specs.Writing.{FormulaAnswered}
+use Rattle.actl.specs.Readers.{namesIn}
+use Rattle.actl.specs.TermReplies.{ReadingSays}
+use Rattle.actl.specs.FormulaAnswers.{FormulaAnswered}
 use Rattle.actl.specs.declared.FormulaReply.{FormulaReply}
 use Rattle.actl.proofs.ReadingEntry.{short-table, short-formula, foreign-table, table-held, long-text, refused-text, whole-text}
 use Rattle.actl.proofs.read_formula.Statement.{statement}

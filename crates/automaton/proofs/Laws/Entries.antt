@@ -13,8 +13,9 @@ use Rattle.actl.specs.declared.inputs.Unprepared.{Unprepared}
 use Rattle.actl.proofs.Laws.Inputs.{checked, Both, goes-on, unprepared-again}
 use Rattle.listing.specs.Listing.{Listing, listing}
 use Rattle.listing.specs.Bytes.{rowsBytes, edgesBytes}
-use Rattle.automaton.specs.Replies.{counts, fitted, built, buildReply, buildReplied, rowsLeft, edgesLeft}
-use Rattle.automaton.specs.Searched.{LaidOut}
+use Rattle.automaton.specs.Replies.{buildReply}
+use Rattle.listing.specs.Build.{counts, fitted, built, buildReplied, rowsLeft, edgesLeft}
+use Rattle.automaton.specs.LaidOut.{LaidOut}
 use Rattle.automaton.specs.declared.BuildReply.{BuildReply}
 use Rattle.automaton.specs.declared.BuildReply.the-variants.{Refused}
 

@@ -9,17 +9,18 @@ use native.Mathlib.Omega.{arith}
 use lib.ListN.{length, getD, replicate, length-take, length-replicate}
 use Rattle.lts.specs.Steps.{labels}
 use Rattle.lts.specs.Prepared.{tableIn}
-use Rattle.lts.specs.Access.{HoldsTable}
+use Rattle.lts.specs.HoldsTable.{HoldsTable}
 use Rattle.actl.specs.Formulas.{Formula, tru, size, nodes, root}
 use Rattle.actl.specs.Prepared.{formulaLength, preparedFormula, slotAt}
-use Rattle.actl.specs.Access.{shaped}
+use Rattle.actl.specs.Shaped.{shaped}
 use Rattle.actl.proofs.Nodes.{size-pos}
 use Rattle.actl.proofs.Subformulas.{node-at}
 use Rattle.actl.proofs.Laws.Forms.{length-form}
 use Rattle.actl.proofs.Laws.Prepared.{prepared-of, prepared-few, prepared-count, prepared-shaped}
 use Rattle.labelling.specs.Holds.{holds}
 use Rattle.labelling.specs.Flags.{NodeFlags}
-use Rattle.labelling.specs.Nodes.{HoldsFormula, RowsFrom, Labelled, AtStart}
+use Rattle.labelling.specs.Nodes.{RowsFrom, Labelled, AtStart}
+use Rattle.actl.specs.HoldsFormula.{HoldsFormula}
 
 module _ (n : ℕ) (b : List ℕ) (h : HoldsFormula n b) where
   pub formula-long : 681 ≤ length b

@@ -13,8 +13,9 @@ use lib.Seq.{getD-set-same, getD-set-other}
 use Rattle.actl.specs.Actions.{silent, labels}
 use Rattle.actl.specs.Formulas.{Formula, tru, not, or, ex, ax, eu, euThen, size, isT, At}
 use Rattle.actl.specs.Prepared.{slotOf, slotAt, preparedFormula}
-use Rattle.actl.specs.Access.{slotOfNode, shaped}
-use Rattle.actl.specs.Walk.{ShapeOf}
+use Rattle.actl.specs.Access.{slotOfNode}
+use Rattle.actl.specs.Shaped.{shaped}
+use Rattle.actl.specs.WalkReplies.{ShapeOf}
 use Rattle.actl.specs.declared.walk.Shape.{Shape}
 use Rattle.actl.specs.declared.node.Node.{Node}
 use Rattle.actl.proofs.Subformulas.{at-node, at-lt}

@@ -12,7 +12,7 @@ use Rattle.lts.specs.Names.{isName}
 use Rattle.lts.specs.Steps.{Table, labels, idleAt}
 use Rattle.lts.specs.Range.{Below, Differ, StepInRange, InRange}
 use Rattle.lts.specs.Prepared.{tableLength, nameSlot, transitionSlot, tableBytes, byteAt, transitionAt, tableIn, preparedTable}
-use Rattle.lts.specs.Access.{isSome}
+use Rattle.lts.specs.Answers.{isSome}
 use Rattle.lts.specs.Check.{ZerosFrom, NameHeld, NewName, TransitionHeld, WellFormed}
 use Rattle.lts.proofs.Lists.{getD-mem, rising-index}
 use Rattle.lts.proofs.Laws.Contents.{name-in, transition-in}

@@ -14,7 +14,7 @@ use Rattle.lts.specs.Lists.{upFrom}
 use Rattle.lts.specs.Names.{longestName, findFrom, lookup}
 use Rattle.lts.specs.Reading.{used}
 use Rattle.lts.specs.Slots.{storedName, storedNames}
-use Rattle.lts.specs.Access.{isSome}
+use Rattle.lts.specs.Answers.{isSome}
 
 -- The name in slot k, and one of another length or of the same.
 module _ (b : List ℕ) (k : ℕ) (name : List ℕ) (inside : k * 16 + 16 ≤ length b) (short : length name ≤ longestName) where

@@ -15,7 +15,8 @@ use Rattle.lts.specs.Range.{InRange}
 use Rattle.lts.specs.Text.{tableText}
 use Rattle.lts.specs.Reading.{readTable}
 use Rattle.lts.specs.Prepared.{tableLength, tableBytes, tableIn, leftBy, preparedTable, LeftByReading}
-use Rattle.lts.specs.Access.{isSome, HoldsTable}
+use Rattle.lts.specs.HoldsTable.{HoldsTable}
+use Rattle.lts.specs.Answers.{isSome}
 use Rattle.lts.proofs.Laws.Texts.{read-of-text, text-of-read}
 use Rattle.lts.proofs.Laws.TableBytes.{table-bytes-length, table-in-bytes}
 

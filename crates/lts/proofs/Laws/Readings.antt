@@ -11,7 +11,7 @@ use Rattle.lts.specs.Steps.{Step, Table}
 use Rattle.lts.specs.Names.{isName}
 use Rattle.lts.specs.Reading.{Header, atEnd, readTransitions, readLabels}
 use Rattle.lts.specs.Slots.{nameBytes, stepBytes}
-use Rattle.lts.specs.Lines.{header}
+use Rattle.lts.specs.LineReplies.{header}
 use Rattle.lts.specs.Progress.{Refuses, NameRead, NamesRead, TransitionLineRead, StepsRead, TransitionProgress}
 use Rattle.lts.specs.declared.reading.HeaderFields.{HeaderFields}
 use Rattle.lts.specs.declared.reading.Progress.the-variants.{Next}

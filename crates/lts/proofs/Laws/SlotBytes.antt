@@ -16,7 +16,7 @@ use Rattle.lts.specs.Reading.{used, stepBelow, above}
 use Rattle.lts.specs.Prepared.{nameSlot, transitionSlot}
 use Rattle.lts.specs.Slots.{counted, storedName, storedNames, storedStep, risesAfter, nameBytes, stepBytes}
 use Rattle.lts.proofs.Lists.{and-true-of, and-true-to, bind-append}
-use Rattle.lts.specs.Access.{isSome}
+use Rattle.lts.specs.Answers.{isSome}
 use Rattle.lts.proofs.Laws.NameRuns.{name-short}
 use Rattle.lts.proofs.Laws.Names.{used-looked-up}
 

@@ -17,7 +17,7 @@ use Rattle.lts.specs.Names.{longestName, isName, nameLength, nameEnd, fi
 use Rattle.lts.specs.Reading.{used}
 use Rattle.lts.specs.Prepared.{tableLength, tableIn, byteAt, nameAt}
 use Rattle.lts.specs.Slots.{storedName, storedNames}
-use Rattle.lts.specs.Access.{isSome}
+use Rattle.lts.specs.Answers.{isSome}
 use Rattle.lts.specs.Check.{NameHeld, NewName}
 use Rattle.lts.proofs.Lists.{upFrom-of, upFrom-to, map-of, map-to}
 use Rattle.lts.proofs.Laws.Contents.{labels-in}

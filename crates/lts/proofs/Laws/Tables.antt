@@ -11,7 +11,8 @@ use Rattle.lts.specs.Reply.{accepted, refusal, unless, overwritten, left
 use Rattle.lts.specs.Steps.{Step, Table}
 use Rattle.lts.specs.Reading.{Header, firstLine, headerOf, headerLaidOut, headerInRange, readLabels, readTable}
 use Rattle.lts.specs.Prepared.{tableLength, tableBytes}
-use Rattle.lts.specs.Replies.{tableReply, tableReading, tableReplied, tableLeft}
+use Rattle.lts.specs.Replies.{tableReply}
+use Rattle.lts.specs.TableReading.{tableReading, tableReplied, tableLeft}
 use Rattle.lts.specs.Slots.{nameBytes, stepBytes, headBytes}
 use Rattle.lts.specs.Lines.{LineAt, NoLineAt}
 use Rattle.lts.specs.Progress.{Refuses}

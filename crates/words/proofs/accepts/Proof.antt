@@ -9,7 +9,7 @@ use Rattle.actl.specs.Formulas.{Formula}
 use Rattle.actl.specs.Inputs.{inputsReply}
 use Rattle.actl.proofs.Laws.Inputs.{checked, Both, both, goes-on, unprepared-again}
 use Rattle.words.specs.Replies.{wordReplied}
-use Rattle.words.specs.Reached.{wordAnswer}
+use Rattle.words.specs.Answered.{wordAnswer}
 use Rattle.words.proofs.accepts.Statement.{statement}
 use Rattle.words.proofs.accepts.Tie as tie
 

@@ -3,7 +3,7 @@ use mathlib.Core.Path.{_≡_, sym, ap, _∙_, subst}
 use Prim.Native.Nat.{_+_, _*_, _<_}
 use native.Mathlib.Omega.{arith}
 use borrow.Author.Tests.{not-true, not-false}
-use Rattle.lts.specs.Access.{Decides}
+use Rattle.lts.specs.Answers.{Decides}
 use Rattle.actl.specs.Check.{slotsFit, zerosFrom, SpelledClassed}
 use Rattle.actl.proofs.Laws.Decided.{short-bytes, many-nodes, slots-foreign, not-zeros, decided}
 use borrow.Author.Needs.{needs}

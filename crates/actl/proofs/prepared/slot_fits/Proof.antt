@@ -2,7 +2,7 @@
 use mathlib.Core.Path.{_≡_, sym, ap, _∙_}
 use mathlib.Core.Bool.{_&&_, _||_}
 use lib.Dec.{eqb}
-use Rattle.actl.specs.Access.{firstUsed, secondUsed}
+use Rattle.actl.specs.Shaped.{firstUsed, secondUsed}
 use Rattle.actl.specs.Prepared.{maskWithin, slotAt}
 use Rattle.actl.proofs.Laws.Checked.{kind-low, kind-high, masks-fit}
 use borrow.Author.Needs.{needs}

@@ -10,7 +10,7 @@ use native.Mathlib.Omega.{arith}
 use lib.Dec.{eqb}
 use lib.ListN.{getD}
 use borrow.Author.Tests.{eq-eqb, eqb-true}
-use Rattle.lts.specs.Access.{Decides}
+use Rattle.lts.specs.Answers.{Decides}
 use Rattle.lts.specs.Check.{ZerosFrom}
 use Rattle.lts.specs.Lists.{every, upFrom}
 use Rattle.lts.proofs.Lists.{every-of, upFrom-to}

@@ -3,7 +3,7 @@ use borrow.Author.Needs.{needs}
 use mathlib.Core.Path.{subst}
 use mathlib.Core.List.{[], _∷_}
 use native.Mathlib.Omega.{arith}
-use Rattle.actl.specs.Cursor.{KeywordSays}
+use Rattle.actl.specs.CursorReplies.{KeywordSays}
 use Rattle.actl.specs.Readers.{namesIn}
 use Rattle.actl.proofs.ReadingHeads.{head-EX, head-AX, head-EU, no-head}
 use Rattle.actl.proofs.reading.head.Statement.{statement}

@@ -1,8 +1,9 @@
 -- `next_head` reads the bracket of EX or AX.
 use borrow.Author.Needs.{needs}
 use mathlib.Core.Path.{subst}
-use Rattle.actl.specs.Cursor.{MarkSays, TokenSays}
-use Rattle.actl.specs.Readers.{namesIn, EnclosedSays}
+use Rattle.actl.specs.CursorReplies.{MarkSays, TokenSays}
+use Rattle.actl.specs.Readers.{namesIn}
+use Rattle.actl.specs.SetReplies.{EnclosedSays}
 use Rattle.actl.proofs.ReadingSets.{token-behind}
 use Rattle.actl.proofs.ReadingHeads.{next-unopened, next-silent, next-silent-open, next-set-read, next-set-fails}
 use Rattle.actl.proofs.reading.next_head.Statement.{statement}

@@ -2,7 +2,7 @@
 use borrow.Author.Needs.{needs}
 use mathlib.Core.Path.{refl, subst}
 use mathlib.Core.Logic.{inl, inr}
-use Rattle.actl.specs.Cursor.{MarkSays}
+use Rattle.actl.specs.CursorReplies.{MarkSays}
 use Rattle.actl.proofs.reading.no_keyword.Statement.{statement}
 use Rattle.actl.proofs.reading.no_keyword.Tie as tie
 

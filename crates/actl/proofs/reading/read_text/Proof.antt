@@ -2,8 +2,9 @@
 use borrow.Author.Needs.{needs}
 use mathlib.Core.Path.{subst}
 use native.Mathlib.Omega.{arith}
-use Rattle.actl.specs.Cursor.{MarkSays}
-use Rattle.actl.specs.Readers.{namesIn, FormulaSays}
+use Rattle.actl.specs.CursorReplies.{MarkSays}
+use Rattle.actl.specs.Readers.{namesIn}
+use Rattle.actl.specs.TermReplies.{FormulaSays}
 use Rattle.actl.proofs.ReadingTexts.{text-blank, text-token, text-fails, text-whole, text-rest}
 use Rattle.actl.proofs.reading.read_text.Statement.{statement}
 use Rattle.actl.proofs.reading.read_text.Tie as tie

@@ -1,8 +1,9 @@
 -- `until_head` reads the bracket of EU, with one set or two.
 use borrow.Author.Needs.{needs}
 use mathlib.Core.Path.{subst}
-use Rattle.actl.specs.Cursor.{MarkSays, TokenSays}
-use Rattle.actl.specs.Readers.{namesIn, SetSays, EnclosedSays}
+use Rattle.actl.specs.CursorReplies.{MarkSays, TokenSays}
+use Rattle.actl.specs.Readers.{namesIn}
+use Rattle.actl.specs.SetReplies.{SetSays, EnclosedSays}
 use Rattle.actl.proofs.ReadingSets.{token-behind}
 use Rattle.actl.proofs.ReadingHeads.{until-unopened, until-fails, until-open, until-read, then-read, then-fails}
 use Rattle.actl.proofs.reading.until_head.Statement.{statement}

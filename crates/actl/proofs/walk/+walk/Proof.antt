@@ -3,7 +3,8 @@ use borrow.Author.Needs.{needs}
 use mathlib.Core.Path.{_≡_, refl, sym, ap, _∙_, subst}
 use native.Mathlib.Omega.{arith}
 use lib.ListN.{length, set}
-use Rattle.actl.specs.Walk.{Walks, Traversed, Spelled, armOf}
+use Rattle.actl.specs.Walk.{Traversed, Spelled, armOf}
+use Rattle.actl.specs.WalkReplies.{Walks}
 use Rattle.actl.proofs.Laws.Table.{arm-low}
 use Rattle.actl.proofs.Laws.Unique.{no-kind, no-arm, no-right, spelled-fits}
 use Rattle.actl.proofs.Laws.Walks.{Known, known-kind, traversed-noted, traversed-T, traversed-unary, traversed-or}

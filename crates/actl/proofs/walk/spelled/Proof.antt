@@ -3,7 +3,7 @@ use mathlib.Core.Path.{_≡_, sym, ap, _∙_, subst}
 use native.Mathlib.Omega.{arith}
 use lib.ListN.{length, take, replicate}
 use Rattle.lts.proofs.Laws.Decides.{decided-no}
-use Rattle.actl.specs.Walk.{Walks}
+use Rattle.actl.specs.WalkReplies.{Walks}
 use Rattle.actl.proofs.Laws.Walked.{length-kinds-in, not-spelled, not-ending, spelled-decided}
 use borrow.Author.Needs.{needs}
 use Rattle.actl.proofs.walk.spelled.Statement.{statement}

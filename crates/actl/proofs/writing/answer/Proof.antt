@@ -3,7 +3,7 @@ use borrow.Author.Needs.{needs}
 use mathlib.Core.Path.{sym, ap, _∙_}
 use native.Mathlib.Omega.{arith}
 use lib.ListN.{length}
-use Rattle.actl.specs.Walk.{classlessNode}
+use Rattle.actl.specs.WalkReplies.{classlessNode}
 use Rattle.actl.proofs.ReadingBytes.{length-kinds}
 use Rattle.actl.proofs.ReadingAnswers.{kinds-are, answer-unknown, answer-many, answer-classless, answer-accepted}
 use Rattle.actl.proofs.writing.answer.Statement.{statement}

@@ -12,7 +12,7 @@ use mathlib.Core.List.{List}
 use Prim.Native.Nat.{ℕ}
 use lib.Dec.{eqb}
 use borrow.Author.Tests.{eq-eqb, ne-eqb}
-use Rattle.explainer.specs.Explanation.{explainReply}
+use Rattle.explainer.specs.Replies.{explainReply}
 use Rattle.explainer.specs.Files.{Few, replyText}
 use Rattle.explainer.specs.Printed.{refusalLine, TextWritten}
 use Rattle.explainer.specs.declared.ExplainReply.{ExplainReply}

@@ -7,7 +7,7 @@ use native.Mathlib.Omega.{arith}
 use borrow.Author.Needs.{needs}
 use borrow.Author.Tests.{not-true, not-false}
 use Rattle.lts.specs.Prepared.{tableLength, preparedTable}
-use Rattle.lts.specs.Access.{isSome, Decides}
+use Rattle.lts.specs.Answers.{isSome, Decides}
 use Rattle.lts.specs.Check.{ZerosFrom, WellFormed}
 use Rattle.lts.proofs.Laws.Decides.{decided-no}
 use Rattle.lts.proofs.Laws.Held.{prepared-well-formed}

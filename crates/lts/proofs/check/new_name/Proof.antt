@@ -6,7 +6,8 @@ use lib.ListN.{take, drop}
 use Rattle.lts.specs.Names.{lookup}
 use Rattle.lts.specs.Prepared.{byteAt, nameAt}
 use Rattle.lts.specs.Slots.{storedNames}
-use Rattle.lts.specs.Access.{isSome, foundIn}
+use Rattle.lts.specs.Access.{foundIn}
+use Rattle.lts.specs.Answers.{isSome}
 use Rattle.lts.proofs.Laws.Decides.{decided-yes, decided-no}
 use Rattle.lts.proofs.Laws.SlotNames.{new-of, new-not}
 use borrow.Author.Needs.{needs}

@@ -12,11 +12,13 @@ use Rattle.lts.proofs.Laws.NameRuns.{name-short}
 use Rattle.lts.proofs.Lists.{and-true-of}
 use Rattle.lts.specs.Lists.{every}
 use Rattle.lts.specs.Slots.{counted, nameBytes}
-use Rattle.lts.specs.Lines.{Labelled, LabelSays}
+use Rattle.lts.specs.Lines.{Labelled}
+use Rattle.lts.specs.LineReplies.{LabelSays}
 use Rattle.lts.specs.Reading.{used}
 use Rattle.lts.specs.Text.{labelLine}
 use Rattle.lts.specs.Names.{isName}
-use Rattle.lts.specs.Access.{isSome, foundIn}
+use Rattle.lts.specs.Access.{foundIn}
+use Rattle.lts.specs.Answers.{isSome}
 use Rattle.columns.specs.Columns.{valueAt}
 use Rattle.columns.specs.Write.{pasted}
 use Rattle.columns.specs.Bytes.{sameBytes}

@@ -5,7 +5,7 @@ use lib.ListN.{length}
 use borrow.Author.Needs.{needs}
 use native.Mathlib.Omega.{arith}
 use Rattle.lts.proofs.Laws.Readings.{NamesSoFar, names-start, names-refused, names-go-on, names-end}
-use Rattle.lts.specs.Lines.{header}
+use Rattle.lts.specs.LineReplies.{header}
 use Rattle.lts.specs.Progress.{LabelProgress, LabelsRead}
 use Rattle.lts.proofs.reading.read_labels.Statement.{statement}
 use Rattle.lts.proofs.reading.read_labels.Tie as tie

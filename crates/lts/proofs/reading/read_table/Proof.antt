@@ -10,7 +10,7 @@ use Rattle.lts.proofs.Laws.Tables.{header-refused, header-out-of-range,
 use Rattle.lts.proofs.Laws.Readings.{refuses-whole}
 use Rattle.lts.specs.Slots.{headBytes}
 use Rattle.lts.specs.Reading.{Header, headerInRange, readLabels, readTable}
-use Rattle.lts.specs.Lines.{header, HeaderSays}
+use Rattle.lts.specs.LineReplies.{header, HeaderSays}
 use Rattle.lts.specs.Progress.{LabelsRead, NamesRead, TransitionsRead}
 use Rattle.lts.specs.Reply.{overwritten}
 use Rattle.lts.proofs.reading.read_table.Statement.{statement}

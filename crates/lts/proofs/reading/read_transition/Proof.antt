@@ -8,7 +8,7 @@ use native.Mathlib.Omega.{arith}
 use Rattle.lts.proofs.Laws.Progress.{transition-refused, transition-out-of-range, transition-not-rising, transition-accepted, in-range}
 use Rattle.lts.proofs.Laws.SlotBytes.{step-written, rises-stored}
 use Rattle.columns.specs.Write.{pasted}
-use Rattle.lts.specs.Lines.{TransitionSays, header, step}
+use Rattle.lts.specs.LineReplies.{TransitionSays, header, step}
 use Rattle.lts.specs.Reading.{stepInRange}
 use Rattle.lts.specs.Prepared.{transitionSlot}
 use Rattle.lts.specs.declared.reading.Transition.{Transition}

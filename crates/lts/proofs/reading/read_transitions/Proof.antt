@@ -5,7 +5,7 @@ use lib.ListN.{length}
 use borrow.Author.Needs.{needs}
 use native.Mathlib.Omega.{arith}
 use Rattle.lts.proofs.Laws.Readings.{steps-start, steps-refused, text-follows, steps-end, TransitionsSoFar, line-taken}
-use Rattle.lts.specs.Lines.{header}
+use Rattle.lts.specs.LineReplies.{header}
 use Rattle.lts.specs.Progress.{TransitionProgress, TransitionsRead}
 use Rattle.lts.proofs.reading.read_transitions.Statement.{statement}
 use Rattle.lts.proofs.reading.read_transitions.Tie as tie

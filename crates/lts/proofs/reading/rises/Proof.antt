@@ -4,7 +4,7 @@ use mathlib.Core.Path.{_≡_, sym, ap, _∙_}
 use Prim.Native.Nat.{suc, _+_, _-_, _*_}
 use native.Mathlib.Omega.{arith}
 use Rattle.lts.specs.Slots.{risesAfter}
-use Rattle.lts.specs.Lines.{step}
+use Rattle.lts.specs.LineReplies.{step}
 use Rattle.lts.proofs.reading.rises.Statement.{statement}
 use Rattle.lts.proofs.reading.rises.Tie as tie
 

@@ -4,7 +4,7 @@ use mathlib.Core.Path.{refl, ap, _∙_}
 use Rattle.lts.proofs.Laws.Pasted.{table-pasted}
 use Rattle.columns.specs.Write.{pasted}
 use Rattle.lts.specs.Slots.{headBytes}
-use Rattle.lts.specs.Lines.{header}
+use Rattle.lts.specs.LineReplies.{header}
 use Rattle.lts.proofs.reading.write_table.Statement.{statement}
 use Rattle.lts.proofs.reading.write_table.Tie as tie
 

@@ -2,7 +2,7 @@
 use borrow.Author.Needs.{needs}
 use mathlib.Core.Path.{subst}
 use lib.ListN.{getD}
-use Rattle.actl.specs.Cursor.{MarkSays}
+use Rattle.actl.specs.CursorReplies.{MarkSays}
 use Rattle.actl.proofs.ReadingPlaces.{two-marks}
 use Rattle.actl.proofs.cursor.Cursor.keyword.Statement.{statement}
 use Rattle.actl.proofs.cursor.Cursor.keyword.Tie as tie

@@ -2,7 +2,7 @@
 use borrow.Author.Needs.{needs}
 use mathlib.Core.Path.{subst}
 use native.Mathlib.Omega.{arith}
-use Rattle.actl.specs.Cursor.{MarkSays}
+use Rattle.actl.specs.CursorReplies.{MarkSays}
 use Rattle.actl.proofs.ReadingPlaces.{mark-skipped}
 use Rattle.actl.proofs.cursor.Cursor.token.Statement.{statement}
 use Rattle.actl.proofs.cursor.Cursor.token.Tie as tie

@@ -6,8 +6,9 @@ use mathlib.Core.Logic.{inl, inr}
 use Prim.Native.Nat.{ℕ}
 use native.Mathlib.Omega.{arith}
 use borrow.Author.Needs.{needs}
-use Rattle.actl.specs.Cursor.{MarkSays}
-use Rattle.actl.specs.Readers.{namesIn, FormulaSays}
+use Rattle.actl.specs.CursorReplies.{MarkSays}
+use Rattle.actl.specs.Readers.{namesIn}
+use Rattle.actl.specs.TermReplies.{FormulaSays}
 use Rattle.actl.proofs.reading.+bracket+formula+term.Proof.Measures.{bracket-at, bracket-claims}
 
 pub bracket-formula-requires : (t : ℕ) → bracket-lts.Need-formula-requires (bracket-claims t) (bracket-at t) bracket.Post

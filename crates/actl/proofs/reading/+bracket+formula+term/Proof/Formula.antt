@@ -6,8 +6,9 @@ use Prim.Native.Nat.{ℕ, _-_}
 use native.Mathlib.Omega.{arith}
 use borrow.Author.Needs.{needs}
 use lib.ListN.{length}
-use Rattle.actl.specs.Cursor.{TokenSays}
-use Rattle.actl.specs.Readers.{namesIn, TermSays}
+use Rattle.actl.specs.CursorReplies.{TokenSays}
+use Rattle.actl.specs.Readers.{namesIn}
+use Rattle.actl.specs.TermReplies.{TermSays}
 use Rattle.actl.proofs.ReadingChains.{Awaiting, awaiting-first, await-room, formula-fails, formula-read, join-fits, join-above, awaiting-more}
 use Rattle.actl.proofs.reading.+bracket+formula+term.Proof.Measures.{formula-at, formula-claims}
 

@@ -5,8 +5,9 @@ use mathlib.Core.Path.{subst}
 use Prim.Native.Nat.{ℕ}
 use native.Mathlib.Omega.{arith}
 use borrow.Author.Needs.{needs}
-use Rattle.actl.specs.Cursor.{MarkSays, TokenSays}
-use Rattle.actl.specs.Readers.{namesIn, HeadSays}
+use Rattle.actl.specs.CursorReplies.{MarkSays, TokenSays}
+use Rattle.actl.specs.Readers.{namesIn}
+use Rattle.actl.specs.HeadReplies.{HeadSays}
 use Rattle.actl.proofs.ReadingMoves.{skipped-token}
 use Rattle.actl.proofs.ReadingSets.{token-behind}
 use Rattle.actl.proofs.ReadingTerms.{node-fits, term-true, inner-room, token-fits, arm-room, term-not, term-paren, head-fits, head-up, term-modal}

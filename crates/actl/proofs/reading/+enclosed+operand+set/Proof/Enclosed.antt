@@ -6,8 +6,9 @@ use mathlib.Core.Logic.{inl, inr}
 use Prim.Native.Nat.{ℕ}
 use native.Mathlib.Omega.{arith}
 use borrow.Author.Needs.{needs}
-use Rattle.actl.specs.Cursor.{MarkSays}
-use Rattle.actl.specs.Readers.{namesIn, SetSays}
+use Rattle.actl.specs.CursorReplies.{MarkSays}
+use Rattle.actl.specs.Readers.{namesIn}
+use Rattle.actl.specs.SetReplies.{SetSays}
 use Rattle.actl.proofs.reading.+enclosed+operand+set.Proof.Measures.{enclosed-at, enclosed-claims}
 
 pub enclosed-set-requires : (t : ℕ) → enclosed-lts.Need-set-requires (enclosed-claims t) (enclosed-at t) enclosed.Post

@@ -5,8 +5,9 @@ use mathlib.Core.Path.{subst}
 use Prim.Native.Nat.{ℕ}
 use native.Mathlib.Omega.{arith}
 use borrow.Author.Needs.{needs}
-use Rattle.actl.specs.Cursor.{MarkSays, TokenSays, NameSays}
-use Rattle.actl.specs.Readers.{namesIn, OperandSays}
+use Rattle.actl.specs.CursorReplies.{MarkSays, TokenSays, NameSays}
+use Rattle.actl.specs.Readers.{namesIn}
+use Rattle.actl.specs.SetReplies.{OperandSays}
 use Rattle.actl.proofs.ReadingSets.{token-behind, operand-any, operand-stops, except-within, operand-except, except-fails, group-says}
 use Rattle.actl.proofs.reading.+enclosed+operand+set.Proof.Measures.{operand-at, operand-claims}
 

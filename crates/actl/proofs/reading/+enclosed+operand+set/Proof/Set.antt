@@ -6,8 +6,9 @@ use Prim.Native.Nat.{ℕ, _-_}
 use native.Mathlib.Omega.{arith}
 use borrow.Author.Needs.{needs}
 use lib.ListN.{length}
-use Rattle.actl.specs.Cursor.{TokenSays}
-use Rattle.actl.specs.Readers.{namesIn, OperandSays}
+use Rattle.actl.specs.CursorReplies.{TokenSays}
+use Rattle.actl.specs.Readers.{namesIn}
+use Rattle.actl.specs.SetReplies.{OperandSays}
 use Rattle.actl.proofs.ReadingSets.{Pending, pending-first, set-fails, set-read, pending-more}
 use Rattle.actl.proofs.reading.+enclosed+operand+set.Proof.Measures.{set-at, set-claims}
 
