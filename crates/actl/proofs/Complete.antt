@@ -10,7 +10,7 @@ use lib.Dec.{eqb}
 use borrow.Author.Tests.{ne-eqb}
 use Rattle.lts.specs.Names.{isLower, isNameByte, atMost, isName}
 use Rattle.actl.specs.Grammar.{Name, Set, operand, union, Operand, name, any, except, group, Condition, dot, set, Quantifier, existential, universal, Head, next, until, untilThen, Disjunction, term, or, Term, tru, not, modal, paren, gap, showS, showO, showC, showQ, showH, showF, showT}
-use Rattle.actl.specs.Reader.{InDisjunction, fTop, fParen, InTerm, tFirst, tOr, tNot, tModal, InSet, sParen, sNext, sUntil, sThen, InOperand, oFirst, oOr, oNot, State, termAt, afterE, afterA, afterNext, afterUntil, bracketAt, operandAt, afterDot, naming, afterSet, afterDisjunction, Step, go, stop, on, plugT, plugO, named, leaveO, step, finish, finishDisjunction, proceed, run, start, read, Result, whole, refused}
+use Rattle.actl.specs.Reader.{InDisjunction, fTop, fParen, InTerm, tFirst, tOr, tNot, tModal, InSet, sParen, sNext, sUntil, sThen, InOperand, oFirst, oOr, oNot, State, termAt, afterE, afterA, afterNext, afterUntil, bracketAt, operandAt, afterDot, naming, afterSet, afterDisjunction, ReaderStep, go, stop, on, plugT, plugO, named, leaveO, readByte, finish, finishDisjunction, proceed, run, start, read, Result, whole, refused}
 use Rattle.actl.proofs.Sound.{leave-step}
 
 -- Blanks, where they count up.
@@ -25,11 +25,11 @@ up-add (suc n) g = up-add n (suc g) ∙ omega arith
 up-zero : (n : ℕ) → up n 0 ≡ n
 up-zero n = up-add n 0 ∙ add-zero n
 
-gaps-up : (x : ℕ → State) → ((g : ℕ) → step (x g) 32 ≡ go (x (suc g))) → (n g : ℕ) (s : List ℕ) → run (gap n s) (x g) ≡ run s (x (up n g))
+gaps-up : (x : ℕ → State) → ((g : ℕ) → readByte (x g) 32 ≡ go (x (suc g))) → (n g : ℕ) (s : List ℕ) → run (gap n s) (x g) ≡ run s (x (up n g))
 gaps-up x h zero g s = refl
 gaps-up x h (suc n) g s = ap (λ v. proceed v (run (gap n s)) (refused (32 ∷ gap n s))) (h g) ∙ gaps-up x h n (suc g) s
 
-pub gaps : (x : ℕ → State) → ((g : ℕ) → step (x g) 32 ≡ go (x (suc g))) → (n : ℕ) (s : List ℕ) → run (gap n s) (x 0) ≡ run s (x n)
+pub gaps : (x : ℕ → State) → ((g : ℕ) → readByte (x g) 32 ≡ go (x (suc g))) → (n : ℕ) (s : List ℕ) → run (gap n s) (x 0) ≡ run s (x n)
 gaps x h n s = gaps-up x h n 0 s ∙ ap (λ g. run s (x g)) (up-zero n)
 
 -- Names.
@@ -72,11 +72,11 @@ name-end (c ∷ p) b h = none (isLower c) _ (atMost-end 11 p b h)
 pub same-name : (m n : Name) → m .bytes ≡ n .bytes → m ≡ n
 same-name m n e = λ i. record { bytes = e i; fits = isProp→PathP (λ j. isName (e j) ≡ true) (λ j. Bool-set (isName (e j)) true) (m .fits) (n .fits) i }
 
-pub named-yes : (l : List ℕ) (k : InOperand) (t : Bool) (e : isName l ≡ t) (y : Step) (h : isName l ≡ true) → named l k t e y ≡ go (naming (record { bytes = l; fits = h }) k)
+pub named-yes : (l : List ℕ) (k : InOperand) (t : Bool) (e : isName l ≡ t) (y : ReaderStep) (h : isName l ≡ true) → named l k t e y ≡ go (naming (record { bytes = l; fits = h }) k)
 named-yes l k true e y h = ap (λ v. go (naming (record { bytes = l; fits = v }) k)) (Bool-set (isName l) true e h)
 named-yes l k false e y h = absurd (true≢false (sym h ∙ e))
 
-pub named-no : (l : List ℕ) (k : InOperand) (t : Bool) (e : isName l ≡ t) (y : Step) → isName l ≡ false → named l k t e y ≡ y
+pub named-no : (l : List ℕ) (k : InOperand) (t : Bool) (e : isName l ≡ t) (y : ReaderStep) → isName l ≡ false → named l k t e y ≡ y
 named-no l k true e y h = absurd (true≢false (sym e ∙ h))
 named-no l k false e y h = refl
 
@@ -111,10 +111,10 @@ leave (b ∷ s) n k h = leave-at b s n k (name-end (n .bytes) b h)
 lower-not : (b m : ℕ) → isLower b ≡ true → isLower m ≡ false → eqb b m ≡ false
 lower-not b m p q = ne-eqb b m (λ e. true≢false (sym p ∙ (ap isLower e ∙ q)))
 
-pub on-not : (b m : ℕ) (y z : Step) → isLower b ≡ true → isLower m ≡ false → on b m y z ≡ z
+pub on-not : (b m : ℕ) (y z : ReaderStep) → isLower b ≡ true → isLower m ≡ false → on b m y z ≡ z
 on-not b m y z p q = ap (λ t. cond t y z) (lower-not b m p q)
 
-pub name-start : (b : ℕ) (k : InOperand) (h : isName (b ∷ []) ≡ true) → step (operandAt k) b ≡ go (naming (record { bytes = b ∷ []; fits = h }) k)
+pub name-start : (b : ℕ) (k : InOperand) (h : isName (b ∷ []) ≡ true) → readByte (operandAt k) b ≡ go (naming (record { bytes = b ∷ []; fits = h }) k)
 name-start b k h =
     let l = both (isLower b) true h .0 in
     on-not b 32 _ _ l refl ∙ (on-not b 42 _ _ l refl ∙ (on-not b 126 _ _ l refl ∙ (on-not b 40 _ _ l refl ∙ named-yes (b ∷ []) k (isName (b ∷ [])) refl _ h)))

@@ -9,7 +9,7 @@ use native.Mathlib.Omega.{arith}
 use lib.ListN.{length, take, drop, length-append, take-append-drop}
 use lib.Seq.{take-append-seam, take-append-add, take-append-le}
 use Rattle.actl.specs.Grammar.{Disjunction, showF, gap, Text, Viable, Longest}
-use Rattle.actl.specs.Reader.{InDisjunction, fTop, fParen, State, termAt, afterE, afterA, afterNext, afterUntil, bracketAt, operandAt, afterDot, naming, afterSet, afterDisjunction, Step, go, stop, step, finish, finishDisjunction, proceed, run, start, read, Result, whole, refused}
+use Rattle.actl.specs.Reader.{InDisjunction, fTop, fParen, State, termAt, afterE, afterA, afterNext, afterUntil, bracketAt, operandAt, afterDot, naming, afterSet, afterDisjunction, ReaderStep, go, stop, readByte, finish, finishDisjunction, proceed, run, start, read, Result, whole, refused}
 use Rattle.actl.proofs.Sound.{shown, Reads, goes, stops, step-reads, completes}
 use Rattle.actl.proofs.Complete.{formula-read}
 
@@ -62,9 +62,9 @@ finish-refused (afterDisjunction g k n) r e = finish-disjunction-refused g k n r
 -- A text that is read whole is the tree's.
 run-whole : (s : List ℕ) (x : State) (f : Disjunction) → run s x ≡ whole f → shown x s ≡ showF f []
 run-whole [] x f e = finish-whole x f e
-run-whole (b ∷ s) x f e = next (step x b) (step-reads x b) (λ y. run-whole s y f) e
+run-whole (b ∷ s) x f e = next (readByte x b) (step-reads x b) (λ y. run-whole s y f) e
   where
-    next : (v : Step) → Reads (shown x) b v → ((y : State) → run s y ≡ whole f → shown y s ≡ showF f []) → proceed v (run s) (refused (b ∷ s)) ≡ whole f → shown x (b ∷ s) ≡ showF f []
+    next : (v : ReaderStep) → Reads (shown x) b v → ((y : State) → run s y ≡ whole f → shown y s ≡ showF f []) → proceed v (run s) (refused (b ∷ s)) ≡ whole f → shown x (b ∷ s) ≡ showF f []
     next (go y) (goes p) ih e = p s ∙ ih y e
     next stop stops ih e = not-both e
 
@@ -84,9 +84,9 @@ same-head e = cc
 
 run-refused : (s : List ℕ) (x : State) (r : List ℕ) → run s x ≡ refused r → Refusal x s r
 run-refused [] x r e = record { front = []; at = x; parts = finish-refused x r e; reached = λ t. refl; dead = λ b l d t. nil-cons (finish-refused x r e ∙ d) }
-run-refused (b ∷ s) x r e = next (step x b) refl (step-reads x b) (λ y. run-refused s y r) e
+run-refused (b ∷ s) x r e = next (readByte x b) refl (step-reads x b) (λ y. run-refused s y r) e
   where
-    next : (v : Step) → step x b ≡ v → Reads (shown x) b v → ((y : State) → run s y ≡ refused r → Refusal y s r) → proceed v (run s) (refused (b ∷ s)) ≡ refused r → Refusal x (b ∷ s) r
+    next : (v : ReaderStep) → readByte x b ≡ v → Reads (shown x) b v → ((y : State) → run s y ≡ refused r → Refusal y s r) → proceed v (run s) (refused (b ∷ s)) ≡ refused r → Refusal x (b ∷ s) r
     next (go y) w (goes p) ih e = let h = ih y e in record {
       front = b ∷ h .front;
       at = h .at;
@@ -99,7 +99,7 @@ run-refused (b ∷ s) x r e = next (step x b) refl (step-reads x b) (λ y. run-r
       at = x;
       parts = same-rest e;
       reached = λ t. refl;
-      dead = λ c l d t. ap (λ v. proceed v (run t) (refused (c ∷ t))) (ap (step x) (same-head (sym d ∙ sym (same-rest e))) ∙ w);
+      dead = λ c l d t. ap (λ v. proceed v (run t) (refused (c ∷ t))) (ap (readByte x) (same-head (sym d ∙ sym (same-rest e))) ∙ w);
     }
 
 -- The theorems.

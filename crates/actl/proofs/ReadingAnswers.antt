@@ -20,7 +20,7 @@ use Rattle.actl.specs.Prepared.{slotOf, slotBytes, formulaBytes}
 use Rattle.actl.specs.Reading.{unlessFound, withClasses}
 use Rattle.actl.specs.Readers.{slotCells, nodeCells}
 use Rattle.actl.specs.Walk.{kindOf, kindsOf}
-use Rattle.actl.specs.Writing.{bytesAt, cellBytes, cellKinds, preparedBytes, Holds}
+use Rattle.actl.specs.Writing.{bytesAt, cellBytes, cellKinds, preparedBytes, CellsHold}
 use Rattle.actl.specs.FormulaAnswers.{FormulaAnswered}
 use Rattle.actl.specs.declared.FormulaReply.the-variants.{Accepted, NameUnknown, TooManyNodes, NoClass}
 use Rattle.actl.proofs.Nodes.{length-nodes}
@@ -82,19 +82,19 @@ module _ (c : List ℕ) (n : ℕ) (F : Formula) (count : n ≡ size F) (cells : 
 
 -- The order of the refusals.
 module _ (c : List ℕ) (n lost : ℕ) (e : List ℕ) (F : Formula) where
-  pub answer-unknown : (o : Option ℕ) → Holds c n lost F o → (lost ≡ 0 → ⊥) → FormulaAnswered (unlessFound o 7 (withClasses F)) e (NameUnknown (lost - 1)) e
+  pub answer-unknown : (o : Option ℕ) → CellsHold c n lost F o → (lost ≡ 0 → ⊥) → FormulaAnswered (unlessFound o 7 (withClasses F)) e (NameUnknown (lost - 1)) e
   answer-unknown none h z = absurd (z (h .lacks))
   answer-unknown (some a) h z = record { replies = ap (refusal 7) (let w : lost - 1 ≡ a = omega (arith, h .lacks) in w); leaves = refl }
 
   module _ (z : lost ≡ 0) where
-    pub answer-many : (o : Option ℕ) → Holds c n lost F o → 40 < n → FormulaAnswered (unlessFound o 7 (withClasses F)) e (TooManyNodes n) e
+    pub answer-many : (o : Option ℕ) → CellsHold c n lost F o → 40 < n → FormulaAnswered (unlessFound o 7 (withClasses F)) e (TooManyNodes n) e
     answer-many (some a) h w = absurd (omega (arith, h .lacks))
     answer-many none h w =
         let t : leb (size F) 40 ≡ false = lt-leb (size F) 40 (omega (arith, h .count)) in
         let q : withClasses F ≡ refusal 8 n = ap (λ v. unless v 8 (size F) (unlessFound (highestWithoutClass F) 9 (accepted F))) t ∙ ap (refusal 8) (sym (h .count)) in
         record { replies = sym (ap (answers (λ F. tt)) q); leaves = sym (ap (λ a. leftIn formulaBytes a e) q) }
 
-    module _ (w : n ≤ 40) (h : Holds c n lost F none) where
+    module _ (w : n ≤ 40) (h : CellsHold c n lost F none) where
       few : withClasses F ≡ unlessFound (highestWithoutClass F) 9 (accepted F)
       few = ap (λ v. unless v 8 (size F) (unlessFound (highestWithoutClass F) 9 (accepted F))) (le-leb (size F) 40 (omega (arith, h .count)))
 
@@ -112,10 +112,10 @@ module _ (c : List ℕ) (n lost : ℕ) (e : List ℕ) (F : Formula) where
             leaves = p ∙ ((λ i. b i ++ drop (0 + length (b i)) e) ∙ (ap (λ k. formulaBytes F ++ drop k e) (zero-add (length (formulaBytes F))) ∙ sym (ap (λ a. leftIn formulaBytes a e) r)));
           }
 
-    pub answer-classless : (o : Option ℕ) → Holds c n lost F o → n ≤ 40 → (k : ℕ) → some k ≡ highestWithoutClass F → FormulaAnswered (unlessFound o 7 (withClasses F)) e (NoClass k) e
+    pub answer-classless : (o : Option ℕ) → CellsHold c n lost F o → n ≤ 40 → (k : ℕ) → some k ≡ highestWithoutClass F → FormulaAnswered (unlessFound o 7 (withClasses F)) e (NoClass k) e
     answer-classless (some a) h w k q = absurd (omega (arith, h .lacks))
     answer-classless none h w k q = classless w h k q
 
-    pub answer-accepted : (o : Option ℕ) → Holds c n lost F o → n ≤ 40 → (x : List ℕ) → none ≡ highestWithoutClass F → x ≡ pasted e 0 (preparedBytes c n) → FormulaAnswered (unlessFound o 7 (withClasses F)) e Accepted x
+    pub answer-accepted : (o : Option ℕ) → CellsHold c n lost F o → n ≤ 40 → (x : List ℕ) → none ≡ highestWithoutClass F → x ≡ pasted e 0 (preparedBytes c n) → FormulaAnswered (unlessFound o 7 (withClasses F)) e Accepted x
     answer-accepted (some a) h w x q p = absurd (omega (arith, h .lacks))
     answer-accepted none h w x q p = classed w h x q p

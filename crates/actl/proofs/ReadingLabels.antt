@@ -13,7 +13,7 @@ use Rattle.columns.specs.Bytes.{sameBytes}
 use Rattle.lts.specs.Names.{findFrom, lookup}
 use Rattle.actl.specs.Actions.{Action, maskOf}
 use Rattle.actl.specs.Grammar.{Disjunction, name, showF}
-use Rattle.actl.specs.Meaning.{numberIn}
+use Rattle.actl.specs.Meaning.{labelNumber}
 use Rattle.actl.specs.Mentions.{Mention}
 use Rattle.actl.specs.Reading.{unknownAt, firstUnknown}
 use Rattle.actl.specs.Cursor.{Named}
@@ -97,7 +97,7 @@ module _ (N : List (List ℕ)) (s : List ℕ) (at lost to : ℕ) (h : Named s at
         value = name (h .value);
         up = h .up;
         moves = h .moves;
-        means = sym (mask-label (length N) a (r .0) (r .1)) ∙ ap (λ o. maskOf (length N) (Action.label (numberIn o))) (sym z);
+        means = sym (mask-label (length N) a (r .0) (r .1)) ∙ ap (λ o. maskOf (length N) (Action.label (labelNumber o))) (sym z);
         lacks = sym (ap (λ o. earlier lost (unknownAt o (length s - length (h .value .bytes ++ drop to s)) none)) z ∙ earlier-none lost);
       }
 
@@ -108,6 +108,6 @@ module _ (N : List (List ℕ)) (s : List ℕ) (at lost to : ℕ) (h : Named s at
         value = name (h .value);
         up = h .up;
         moves = h .moves;
-        means = sym (mask-none (length N) 0 (λ k l m q. omega arith)) ∙ ap (λ o. maskOf (length N) (Action.label (numberIn o))) (sym z);
+        means = sym (mask-none (length N) 0 (λ k l m q. omega arith)) ∙ ap (λ o. maskOf (length N) (Action.label (labelNumber o))) (sym z);
         lacks = sym (ap (λ o. earlier lost (unknownAt o (length s - length (h .value .bytes ++ drop to s)) none)) z ∙ ap (λ q. earlier lost (some q)) (name-lengths .1));
       }

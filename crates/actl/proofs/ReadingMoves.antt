@@ -10,7 +10,7 @@ use borrow.Author.Tests.{ne-eqb}
 use lib.ListN.{length, drop, drop-of-length-le}
 use lib.Seq.{drop-cons}
 use Rattle.actl.specs.Grammar.{gap}
-use Rattle.actl.specs.Reader.{State, Step, go, stop, on, step, finish, proceed, run, refused}
+use Rattle.actl.specs.Reader.{State, ReaderStep, go, stop, on, readByte, finish, proceed, run, refused}
 use Rattle.actl.specs.Cursor.{peek, Token, Skipped, Moves, Fails, Marked, Tokened}
 use Rattle.actl.proofs.ReadingPlaces.{inside, byte-at, run-byte, run-stop}
 
@@ -23,14 +23,14 @@ up-add : (n g : ℕ) → up n g ≡ n + g
 up-add zero g = omega arith
 up-add (suc n) g = up-add n (suc g) ∙ omega arith
 
-run-gap-up : (x : ℕ → State) → ((g : ℕ) → step (x g) 32 ≡ go (x (suc g))) → (n g : ℕ) (s : List ℕ) → run (gap n s) (x g) ≡ run s (x (up n g))
+run-gap-up : (x : ℕ → State) → ((g : ℕ) → readByte (x g) 32 ≡ go (x (suc g))) → (n g : ℕ) (s : List ℕ) → run (gap n s) (x g) ≡ run s (x (up n g))
 run-gap-up x h zero g s = refl
 run-gap-up x h (suc n) g s = ap (λ v. proceed v (run (gap n s)) (refused (32 ∷ gap n s))) (h g) ∙ run-gap-up x h n (suc g) s
 
-run-gap : (x : ℕ → State) → ((g : ℕ) → step (x g) 32 ≡ go (x (suc g))) → (n : ℕ) (s : List ℕ) → run (gap n s) (x 0) ≡ run s (x n)
+run-gap : (x : ℕ → State) → ((g : ℕ) → readByte (x g) 32 ≡ go (x (suc g))) → (n : ℕ) (s : List ℕ) → run (gap n s) (x 0) ≡ run s (x n)
 run-gap x h n s = run-gap-up x h n 0 s ∙ ap (λ g. run s (x g)) (up-add n 0 ∙ add-zero n)
 
-pub on-other : (b m : ℕ) (y z : Step) → (b ≡ m → ⊥) → on b m y z ≡ z
+pub on-other : (b m : ℕ) (y z : ReaderStep) → (b ≡ m → ⊥) → on b m y z ≡ z
 on-other b m y z h = ap (λ t. cond t y z) (ne-eqb b m h)
 
 pub skipped-token : {s : List ℕ} {at d : ℕ} → Skipped s at d → Token s d
@@ -50,7 +50,7 @@ module _ {K : Type 0} {s : List ℕ} where
   pub fail-only : {J : Type 0} {a b : ℕ} {x : K → State} → (f : J → K) → Fails s a b x → Fails s a b (λ j. x (f j))
   fail-only f p = record { within = p .within; reads = λ j. p .reads (f j) }
 
-  pub byte : (at b : ℕ) {x y : K → State} → peek s at ≡ b → b < 256 → ((k : K) → step (x k) b ≡ go (y k)) → Moves s at (at + 1) (λ r. b ∷ r) x y
+  pub byte : (at b : ℕ) {x y : K → State} → peek s at ≡ b → b < 256 → ((k : K) → readByte (x k) b ≡ go (y k)) → Moves s at (at + 1) (λ r. b ∷ r) x y
   byte at b {x} {y} e h p = record {
     up = omega arith;
     within = omega (arith, inside s at (omega arith));
@@ -58,7 +58,7 @@ module _ {K : Type 0} {s : List ℕ} where
     reads = λ k. run-byte s at b (x k) e h ∙ ap (λ v. proceed v (run (drop (at + 1) s)) (refused (drop at s))) (p k);
   }
 
-  pub skip : (x : ℕ → K → State) → ((g : ℕ) (k : K) → step (x g k) 32 ≡ go (x (suc g) k)) → {at d : ℕ} → Skipped s at d → Moves s at d (gap (d - at)) (x 0) (x (d - at))
+  pub skip : (x : ℕ → K → State) → ((g : ℕ) (k : K) → readByte (x g k) 32 ≡ go (x (suc g) k)) → {at d : ℕ} → Skipped s at d → Moves s at d (gap (d - at)) (x 0) (x (d - at))
   skip x h {at} {d} k = record {
     up = k .up;
     within = k .within;
@@ -66,11 +66,11 @@ module _ {K : Type 0} {s : List ℕ} where
     reads = λ i. ap (λ l. run l (x 0 i)) (k .blanks) ∙ run-gap (λ g. x g i) (λ g. h g i) (d - at) (drop d s);
   }
 
-  pub stops : {at : ℕ} → at ≤ length s → {x : K → State} → ((k : K) → finish (x k) ≡ refused []) → ((k : K) → step (x k) (peek s at) ≡ stop) → Fails s at at x
+  pub stops : {at : ℕ} → at ≤ length s → {x : K → State} → ((k : K) → finish (x k) ≡ refused []) → ((k : K) → readByte (x k) (peek s at) ≡ stop) → Fails s at at x
   stops {at} t {x} f e = record { within = t; reads = λ k. run-stop s at (x k) t (f k) (e k) }
 
   -- Two states that go on alike.
-  pub alike : {at : ℕ} → at ≤ length s → {x y : K → State} → ((k : K) → finish (x k) ≡ finish (y k)) → ((k : K) → step (x k) (peek s at) ≡ step (y k) (peek s at)) → Moves s at at (λ r. r) x y
+  pub alike : {at : ℕ} → at ≤ length s → {x y : K → State} → ((k : K) → finish (x k) ≡ finish (y k)) → ((k : K) → readByte (x k) (peek s at) ≡ readByte (y k) (peek s at)) → Moves s at at (λ r. r) x y
   alike {at} t {x} {y} f e = record { up = omega arith; within = t; text = refl; reads = λ k. case k (decLe (length s) at) }
     where
       case : (k : K) → Dec (length s ≤ at) → run (drop at s) (x k) ≡ run (drop at s) (y k)
@@ -87,10 +87,10 @@ module _ {K : Type 0} {s : List ℕ} where
   pub written-as : {at to : ℕ} {v w : List ℕ → List ℕ} {x y : K → State} → ((r : List ℕ) → v r ≡ w r) → Moves s at to v x y → Moves s at to w x y
   written-as {to} e m = record { up = m .up; within = m .within; text = m .text ∙ e (drop to s); reads = m .reads }
 
-  pub marked : {at to mark : ℕ} {x y : K → State} → Marked s at mark to → mark < 256 → ((k : K) → step (x k) mark ≡ go (y k)) → Moves s at to (λ r. mark ∷ r) x y
+  pub marked : {at to mark : ℕ} {x y : K → State} → Marked s at mark to → mark < 256 → ((k : K) → readByte (x k) mark ≡ go (y k)) → Moves s at to (λ r. mark ∷ r) x y
   marked {at} {mark} {x} {y} h l p = subst (λ n. Moves s at n (λ r. mark ∷ r) x y) (sym (h .next)) (byte at mark (h .here) l p)
 
   -- A mark with the blanks behind it.
-  pub tokened : {at to mark : ℕ} {x : K → State} (y : ℕ → K → State) → Tokened s at mark to → mark < 256 → ((k : K) → step (x k) mark ≡ go (y 0 k)) → ((g : ℕ) (k : K) → step (y g k) 32 ≡ go (y (suc g) k))
+  pub tokened : {at to mark : ℕ} {x : K → State} (y : ℕ → K → State) → Tokened s at mark to → mark < 256 → ((k : K) → readByte (x k) mark ≡ go (y 0 k)) → ((g : ℕ) (k : K) → readByte (y g k) 32 ≡ go (y (suc g) k))
       → Moves s at to (λ r. mark ∷ gap (to - (at + 1)) r) x (y (to - (at + 1)))
   tokened {at} {mark} y h l p q = then (byte at mark {y = y 0} (h .here) l p) (skip y q (h .skipped))

@@ -12,7 +12,7 @@ use lib.Seq.{drop-cons}
 use Rattle.lts.specs.Names.{isLower, isNameByte, atMost, isName, nameRun, nameLength, nameEnd}
 use Rattle.lts.proofs.Lists.{and-true-of, and-true-to}
 use Rattle.actl.specs.Grammar.{Name, Operand, name, except}
-use Rattle.actl.specs.Reader.{InOperand, oFirst, oOr, oNot, operandAt, naming, Step, step, finish, go, on, named, leaveO, plugO, proceed, run, refused}
+use Rattle.actl.specs.Reader.{InOperand, oFirst, oOr, oNot, operandAt, naming, ReaderStep, readByte, finish, go, on, named, leaveO, plugO, proceed, run, refused}
 use Rattle.actl.specs.Cursor.{peek, Named}
 use Rattle.actl.proofs.ReadingPlaces.{byte-at, inside, getD-any, peek-end}
 
@@ -59,26 +59,26 @@ name-ends [] b h = ap (λ t. t && true) (or-false (isLower b) _ h)
 name-ends (c ∷ p) b h = and-false (isLower c) _ (atMost-ends 11 p b h)
 
 -- The reader's steps in a name.
-named-yes : (l : List ℕ) (k : InOperand) (t : Bool) (e : isName l ≡ t) (y : Step) (h : isName l ≡ true) → named l k t e y ≡ go (naming (record { bytes = l; fits = h }) k)
+named-yes : (l : List ℕ) (k : InOperand) (t : Bool) (e : isName l ≡ t) (y : ReaderStep) (h : isName l ≡ true) → named l k t e y ≡ go (naming (record { bytes = l; fits = h }) k)
 named-yes l k true e y h = ap (λ v. go (naming (record { bytes = l; fits = v }) k)) (Bool-set (isName l) true e h)
 named-yes l k false e y h = absurd (true≢false (sym h ∙ e))
 
-pub named-no : (l : List ℕ) (k : InOperand) (t : Bool) (e : isName l ≡ t) (y : Step) → isName l ≡ false → named l k t e y ≡ y
+pub named-no : (l : List ℕ) (k : InOperand) (t : Bool) (e : isName l ≡ t) (y : ReaderStep) → isName l ≡ false → named l k t e y ≡ y
 named-no l k true e y h = absurd (true≢false (sym e ∙ h))
 named-no l k false e y h = refl
 
 lower-not : (b m : ℕ) → isLower b ≡ true → isLower m ≡ false → eqb b m ≡ false
 lower-not b m p q = ne-eqb b m (λ e. true≢false (sym p ∙ (ap isLower e ∙ q)))
 
-on-not : (b m : ℕ) (y z : Step) → isLower b ≡ true → isLower m ≡ false → on b m y z ≡ z
+on-not : (b m : ℕ) (y z : ReaderStep) → isLower b ≡ true → isLower m ≡ false → on b m y z ≡ z
 on-not b m y z p q = ap (λ t. cond t y z) (lower-not b m p q)
 
-name-starts : (b : ℕ) (k : InOperand) (h : isName (b ∷ []) ≡ true) → step (operandAt k) b ≡ go (naming (record { bytes = b ∷ []; fits = h }) k)
+name-starts : (b : ℕ) (k : InOperand) (h : isName (b ∷ []) ≡ true) → readByte (operandAt k) b ≡ go (naming (record { bytes = b ∷ []; fits = h }) k)
 name-starts b k h =
     let l = and-true-of (isLower b) true h .0 in
     on-not b 32 _ _ l refl ∙ (on-not b 42 _ _ l refl ∙ (on-not b 126 _ _ l refl ∙ (on-not b 40 _ _ l refl ∙ named-yes (b ∷ []) k (isName (b ∷ [])) refl _ h)))
 
-leave-step : (o : Operand) (k : InOperand) (b : ℕ) → leaveO o k b ≡ step (plugO o k) b
+leave-step : (o : Operand) (k : InOperand) (b : ℕ) → leaveO o k b ≡ readByte (plugO o k) b
 leave-step o (oFirst k) b = refl
 leave-step o (oOr x a k c) b = refl
 leave-step o (oNot k a) b = leave-step (except a o) k b

@@ -8,7 +8,7 @@ use native.Mathlib.Omega.{arith}
 use lib.ListN.{length, getD, drop, List·getD-eq-default, drop-of-length-le}
 use lib.Seq.{drop-cons}
 use Rattle.actl.specs.Grammar.{gap}
-use Rattle.actl.specs.Reader.{State, stop, step, finish, proceed, run, refused}
+use Rattle.actl.specs.Reader.{State, stop, readByte, finish, proceed, run, refused}
 use Rattle.actl.specs.Cursor.{peek, Skipped, Marked, Tokened}
 use Rattle.actl.specs.CursorReplies.{MarkSays, KeywordSays}
 use Rattle.actl.specs.declared.cursor.Match.{Match}
@@ -33,11 +33,11 @@ inside s at h = case (decLe (length s) at)
 pub byte-at : (s : List ℕ) (at b : ℕ) → peek s at ≡ b → b < 256 → drop at s ≡ b ∷ drop (at + 1) s
 byte-at s at b e h = drop-cons s at 256 (inside s at (omega arith)) ∙ rw (add-one, e)
 
-pub run-byte : (s : List ℕ) (at b : ℕ) (x : State) → peek s at ≡ b → b < 256 → run (drop at s) x ≡ proceed (step x b) (run (drop (at + 1) s)) (refused (drop at s))
+pub run-byte : (s : List ℕ) (at b : ℕ) (x : State) → peek s at ≡ b → b < 256 → run (drop at s) x ≡ proceed (readByte x b) (run (drop (at + 1) s)) (refused (drop at s))
 run-byte s at b x e h = rw (byte-at s at b e h)
 
 -- A state that stops at the byte there, and at the end.
-pub run-stop : (s : List ℕ) (at : ℕ) (x : State) → at ≤ length s → finish x ≡ refused [] → step x (peek s at) ≡ stop → run (drop at s) x ≡ refused (drop at s)
+pub run-stop : (s : List ℕ) (at : ℕ) (x : State) → at ≤ length s → finish x ≡ refused [] → readByte x (peek s at) ≡ stop → run (drop at s) x ≡ refused (drop at s)
 run-stop s at x w f e = case (decLe (length s) at)
   where
     case : Dec (length s ≤ at) → run (drop at s) x ≡ refused (drop at s)

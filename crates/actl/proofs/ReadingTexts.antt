@@ -8,7 +8,7 @@ use native.Mathlib.Omega.{arith}
 use lib.ListN.{length, drop, length-drop, drop-of-length-le}
 use lib.Seq.{drop-cons}
 use Rattle.actl.specs.Grammar.{gap, showF}
-use Rattle.actl.specs.Reader.{fTop, tFirst, termAt, afterDisjunction, stop, step, finishDisjunction, proceed, run, start, read, refused}
+use Rattle.actl.specs.Reader.{fTop, tFirst, termAt, afterDisjunction, stop, readByte, finishDisjunction, proceed, run, start, read, refused}
 use Rattle.actl.specs.Mentions.{namesF}
 use Rattle.actl.specs.Cursor.{peek, Token, Marked, Fails}
 use Rattle.actl.specs.Readers.{unknownIn, earlier, FormulaRead, WholeRead, RefusedAt}
@@ -23,7 +23,7 @@ pub text-fails : (s : List ℕ) {to : ℕ} → Fails s 0 to (λ k. termAt (tFirs
 text-fails s {to} h = refused-at s to (h .within) (h .reads fTop)
 
 pub text-blank : (s : List ℕ) {to : ℕ} → Marked s 0 32 to → RefusedAt s 0
-text-blank s h = refused-at s 0 (omega arith) (run-stop s 0 start (omega arith) refl (ap (step start) (h .here)))
+text-blank s h = refused-at s 0 (omega arith) (run-stop s 0 start (omega arith) refl (ap (readByte start) (h .here)))
 
 pub text-token : (s : List ℕ) → (peek s 0 ≡ 32 → ⊥) → Token s 0
 text-token s h = record { within = omega arith; past = h }
@@ -37,7 +37,7 @@ module _ {N : List (List ℕ)} {s e : List ℕ} {end to m l : ℕ} {x : List ℕ
       ends zero z w = absurd (n (omega (arith, h .blanks, h .moves .within)))
       ends (suc g) z w = refl
 
-      stuck : step (afterDisjunction (h .value) fTop (to - end)) (peek s to) ≡ stop
+      stuck : readByte (afterDisjunction (h .value) fTop (to - end)) (peek s to) ≡ stop
       stuck = on-other (peek s to) 32 _ _ (h .token .past) ∙ on-other (peek s to) 124 _ _ (h .last)
 
       rest : Dec (length s ≤ to) → run (drop to s) (afterDisjunction (h .value) fTop (to - end)) ≡ refused (drop to s)

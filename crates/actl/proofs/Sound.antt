@@ -7,7 +7,7 @@ use lib.Dec.{eqb}
 use borrow.Author.Tests.{eqb-true}
 use Rattle.lts.specs.Names.{isName}
 use Rattle.actl.specs.Grammar.{Name, Set, operand, union, Operand, name, any, except, group, Condition, dot, set, Quantifier, existential, universal, Head, next, until, untilThen, Disjunction, term, or, Term, tru, not, modal, paren, gap, showS, showO, showC, showQ, showH, showF, showT}
-use Rattle.actl.specs.Reader.{InDisjunction, fTop, fParen, InTerm, tFirst, tOr, tNot, tModal, InSet, sParen, sNext, sUntil, sThen, InOperand, oFirst, oOr, oNot, State, termAt, afterE, afterA, afterNext, afterUntil, bracketAt, operandAt, afterDot, naming, afterSet, afterDisjunction, Step, go, stop, on, plugT, plugO, blankF, blankT, blankS, blankO, termStep, named, operandStep, closeStep, setStep, leaveO, parenStep, step, finish, finishDisjunction, proceed, run, start, read, Result, whole, refused}
+use Rattle.actl.specs.Reader.{InDisjunction, fTop, fParen, InTerm, tFirst, tOr, tNot, tModal, InSet, sParen, sNext, sUntil, sThen, InOperand, oFirst, oOr, oNot, State, termAt, afterE, afterA, afterNext, afterUntil, bracketAt, operandAt, afterDot, naming, afterSet, afterDisjunction, ReaderStep, go, stop, on, plugT, plugO, blankF, blankT, blankS, blankO, termStep, named, operandStep, closeStep, setStep, leaveO, parenStep, readByte, finish, finishDisjunction, proceed, run, start, read, Result, whole, refused}
 
 abbrev mutual
   pub preF : InDisjunction → List ℕ → List ℕ
@@ -61,11 +61,11 @@ plugO-shown o (oOr x a k b) s = refl
 plugO-shown o (oNot k a) s = plugO-shown (except a o) k s
 
 -- A step at b reads b: r is the text so far, with what comes behind it.
-pub data Reads (r : List ℕ → List ℕ) (b : ℕ) : Step → Type 0 where
+pub data Reads (r : List ℕ → List ℕ) (b : ℕ) : ReaderStep → Type 0 where
   goes : {y : State} → ((s : List ℕ) → r (b ∷ s) ≡ shown y s) → Reads r b (go y)
   stops : Reads r b stop
 
-on-reads : {r : List ℕ → List ℕ} (b m : ℕ) {y z : Step} → Reads r m y → Reads r b z → Reads r b (on b m y z)
+on-reads : {r : List ℕ → List ℕ} (b m : ℕ) {y z : ReaderStep} → Reads r m y → Reads r b z → Reads r b (on b m y z)
 on-reads {r} b m {y} {z} p q = case (eqb b m) refl
   where
     case : (t : Bool) → eqb b m ≡ t → Reads r b (cond t y z)
@@ -98,7 +98,7 @@ term-reads k b =
     on-reads b 84 (goes (plug-shown tru k)) (on-reads b 126 (goes (λ s. refl)) (on-reads b 40 (goes (λ s. refl))
     (on-reads b 69 (goes (λ s. refl)) (on-reads b 65 (goes (λ s. refl)) stops))))
 
-named-reads : {r : List ℕ → List ℕ} (b : ℕ) (l : List ℕ) (k : InOperand) (t : Bool) (e : isName l ≡ t) {y : Step}
+named-reads : {r : List ℕ → List ℕ} (b : ℕ) (l : List ℕ) (k : InOperand) (t : Bool) (e : isName l ≡ t) {y : ReaderStep}
     → ((s : List ℕ) → r (b ∷ s) ≡ preO k (l ++ s)) → Reads r b y → Reads r b (named l k t e y)
 named-reads b l k true e p q = goes p
 named-reads b l k false e p q = q
@@ -118,7 +118,7 @@ set-reads : (x : Set) (k : InSet) (g b : ℕ) → Reads (shown (afterSet x k g))
 set-reads x k g b = on-reads b 32 (goes (λ s. ap (λ l. preS k (showS x l)) (gap-more g s))) (on-reads b 124 (goes (λ s. refl)) (close-reads x k g b))
 
 -- Leaving an operand is a step from behind it.
-pub leave-step : (o : Operand) (k : InOperand) (b : ℕ) → leaveO o k b ≡ step (plugO o k) b
+pub leave-step : (o : Operand) (k : InOperand) (b : ℕ) → leaveO o k b ≡ readByte (plugO o k) b
 leave-step o (oFirst k) b = refl
 leave-step o (oOr x a k c) b = refl
 leave-step o (oNot k a) b = leave-step (except a o) k b
@@ -132,7 +132,7 @@ paren-reads : (f : Disjunction) (k : InDisjunction) (g b : ℕ) → Reads (shown
 paren-reads f fTop g b = stops
 paren-reads f (fParen k a) g b = on-reads b 41 (goes (plug-shown (paren a f g) k)) stops
 
-pub step-reads : (x : State) (b : ℕ) → Reads (shown x) b (step x b)
+pub step-reads : (x : State) (b : ℕ) → Reads (shown x) b (readByte x b)
 step-reads (termAt k) b = on-reads b 32 (blankT-reads k) (term-reads k b)
 step-reads (afterE k) b = on-reads b 88 (goes (λ s. refl)) (on-reads b 85 (goes (λ s. refl)) stops)
 step-reads (afterA k) b = on-reads b 88 (goes (λ s. refl)) stops

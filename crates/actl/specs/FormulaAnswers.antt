@@ -9,7 +9,7 @@ use Rattle.actl.specs.Prepared.{formulaBytes}
 use Rattle.actl.specs.Reading.{unlessFound, withClasses}
 use Rattle.actl.specs.Replies.{formulaReply}
 use Rattle.actl.specs.declared.FormulaReply.{FormulaReply}
-use Rattle.actl.specs.Writing.{Holds}
+use Rattle.actl.specs.Writing.{CellsHold}
 
 -- A call that answers r and leaves x in the buffer e did what a reading says.
 pub record FormulaAnswered (a : Reply Formula) (e : List ℕ) (r : FormulaReply) (x : List ℕ) : Type 0 where
@@ -17,4 +17,4 @@ pub record FormulaAnswered (a : Reply Formula) (e : List ℕ) (r : FormulaReply)
   pub leaves : x ≡ leftIn formulaBytes a e
 
 abbrev pub FormulaAnsweredWith : List ℕ → ℕ → ℕ → List ℕ → FormulaReply → List ℕ → Type 0
-FormulaAnsweredWith c n lost e r x = (F : Formula) (o : Option ℕ) → Holds c n lost F o → FormulaAnswered (unlessFound o 7 (withClasses F)) e r x
+FormulaAnsweredWith c n lost e r x = (F : Formula) (o : Option ℕ) → CellsHold c n lost F o → FormulaAnswered (unlessFound o 7 (withClasses F)) e r x

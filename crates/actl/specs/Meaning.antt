@@ -9,9 +9,9 @@ use Rattle.actl.specs.Formulas.{Formula}
 use Rattle.actl.specs.Grammar.{Name, Set, operand, union, Operand, name, any, except, group, Condition, dot, set, Quantifier, existential, universal, Head, next, until, untilThen, Disjunction, term, or, Term, tru, not, modal, paren}
 
 -- A label's number; 0, which satisfies no set, stands for a name that the table lacks.
-abbrev pub numberIn : Option ℕ → ℕ
-numberIn none = 0
-numberIn (some a) = a
+abbrev pub labelNumber : Option ℕ → ℕ
+labelNumber none = 0
+labelNumber (some a) = a
 
 abbrev mutual
   pub actionOfSet : List (List ℕ) → Set → Action
@@ -19,7 +19,7 @@ abbrev mutual
   actionOfSet names (union x a b o) = Action.or (actionOfSet names x) (actionOfOperand names o)
 
   pub actionOfOperand : List (List ℕ) → Operand → Action
-  actionOfOperand names (name n) = Action.label (numberIn (lookup names (n .bytes)))
+  actionOfOperand names (name n) = Action.label (labelNumber (lookup names (n .bytes)))
   actionOfOperand names any = Action.any
   actionOfOperand names (except a o) = Action.not (actionOfOperand names o)
   actionOfOperand names (group a x b) = actionOfSet names x

@@ -45,11 +45,11 @@ pub data State : Type 0 where
   afterSet : Set → InSet → ℕ → State
   afterDisjunction : Disjunction → InDisjunction → ℕ → State
 
-pub data Step : Type 0 where
-  go : State → Step
-  stop : Step
+pub data ReaderStep : Type 0 where
+  go : State → ReaderStep
+  stop : ReaderStep
 
-abbrev pub on : ℕ → ℕ → Step → Step → Step
+abbrev pub on : ℕ → ℕ → ReaderStep → ReaderStep → ReaderStep
 on b m x y = cond (eqb b m) x y
 
 abbrev pub plugT : Term → InTerm → State
@@ -63,11 +63,11 @@ plugO o (oFirst k) = afterSet (operand o) k 0
 plugO o (oOr x a k b) = afterSet (union x a b o) k 0
 plugO o (oNot k a) = plugO (except a o) k
 
-abbrev pub blankF : InDisjunction → Step
+abbrev pub blankF : InDisjunction → ReaderStep
 blankF fTop = stop
 blankF (fParen k a) = go (termAt (tFirst (fParen k (suc a))))
 
-abbrev pub blankT : InTerm → Step
+abbrev pub blankT : InTerm → ReaderStep
 blankT (tFirst k) = blankF k
 blankT (tOr f a k b) = go (termAt (tOr f a k (suc b)))
 blankT (tNot k a) = go (termAt (tNot k (suc a)))
@@ -84,52 +84,52 @@ blankO (oFirst k) = oFirst (blankS k)
 blankO (oOr x a k b) = oOr x a k (suc b)
 blankO (oNot k a) = oNot k (suc a)
 
-abbrev pub termStep : InTerm → ℕ → Step
+abbrev pub termStep : InTerm → ℕ → ReaderStep
 termStep k b =
     on b 84 (go (plugT tru k)) (on b 126 (go (termAt (tNot k 0))) (on b 40 (go (termAt (tFirst (fParen k 0))))
     (on b 69 (go (afterE k)) (on b 65 (go (afterA k)) stop))))
 
 -- The bytes l as a name, where they are one.
-abbrev pub named : (l : List ℕ) → InOperand → (t : Bool) → isName l ≡ t → Step → Step
+abbrev pub named : (l : List ℕ) → InOperand → (t : Bool) → isName l ≡ t → ReaderStep → ReaderStep
 named l k true e y = go (naming (record { bytes = l; fits = e }) k)
 named l k false e y = y
 
-abbrev pub operandStep : InOperand → ℕ → Step
+abbrev pub operandStep : InOperand → ℕ → ReaderStep
 operandStep k b =
     on b 42 (go (plugO any k)) (on b 126 (go (operandAt (oNot k 0))) (on b 40 (go (operandAt (oFirst (sParen k 0))))
     (named (b ∷ []) k (isName (b ∷ [])) refl stop)))
 
-abbrev pub closeStep : Set → InSet → ℕ → ℕ → Step
+abbrev pub closeStep : Set → InSet → ℕ → ℕ → ReaderStep
 closeStep x (sParen k a) g b = on b 41 (go (plugO (group a x g) k)) stop
 closeStep x (sNext q a k c) g b = on b 93 (go (termAt (tModal (next q a c (set x) g) k 0))) stop
 closeStep x (sUntil a k c) g b = on b 93 (go (termAt (tModal (until a c x g) k 0))) (on b 59 (go (operandAt (oFirst (sThen a c x g k 0)))) stop)
 closeStep y (sThen a c x d k e) g b = on b 93 (go (termAt (tModal (untilThen a c x d e y g) k 0))) stop
 
-abbrev pub setStep : Set → InSet → ℕ → ℕ → Step
+abbrev pub setStep : Set → InSet → ℕ → ℕ → ReaderStep
 setStep x k g b = on b 32 (go (afterSet x k (suc g))) (on b 124 (go (operandAt (oOr x g k 0))) (closeStep x k g b))
 
 -- A name ends at a byte that it cannot have.
-abbrev pub leaveO : Operand → InOperand → ℕ → Step
+abbrev pub leaveO : Operand → InOperand → ℕ → ReaderStep
 leaveO o (oFirst k) b = setStep (operand o) k 0 b
 leaveO o (oOr x a k c) b = setStep (union x a c o) k 0 b
 leaveO o (oNot k a) b = leaveO (except a o) k b
 
-abbrev pub parenStep : Disjunction → InDisjunction → ℕ → ℕ → Step
+abbrev pub parenStep : Disjunction → InDisjunction → ℕ → ℕ → ReaderStep
 parenStep f fTop g b = stop
 parenStep f (fParen k a) g b = on b 41 (go (plugT (paren a f g) k)) stop
 
-abbrev pub step : State → ℕ → Step
-step (termAt k) b = on b 32 (blankT k) (termStep k b)
-step (afterE k) b = on b 88 (go (afterNext existential k 0)) (on b 85 (go (afterUntil k 0)) stop)
-step (afterA k) b = on b 88 (go (afterNext universal k 0)) stop
-step (afterNext q k g) b = on b 32 (go (afterNext q k (suc g))) (on b 91 (go (bracketAt q g k 0)) stop)
-step (afterUntil k g) b = on b 32 (go (afterUntil k (suc g))) (on b 91 (go (operandAt (oFirst (sUntil g k 0)))) stop)
-step (bracketAt q a k g) b = on b 32 (go (bracketAt q a k (suc g))) (on b 46 (go (afterDot q a g k 0)) (operandStep (oFirst (sNext q a k g)) b))
-step (operandAt k) b = on b 32 (go (operandAt (blankO k))) (operandStep k b)
-step (afterDot q a c k g) b = on b 32 (go (afterDot q a c k (suc g))) (on b 93 (go (termAt (tModal (next q a c dot g) k 0))) stop)
-step (naming n k) b = named (n .bytes ++ (b ∷ [])) k (isName (n .bytes ++ (b ∷ []))) refl (leaveO (name n) k b)
-step (afterSet x k g) b = setStep x k g b
-step (afterDisjunction f k g) b = on b 32 (go (afterDisjunction f k (suc g))) (on b 124 (go (termAt (tOr f g k 0))) (parenStep f k g b))
+abbrev pub readByte : State → ℕ → ReaderStep
+readByte (termAt k) b = on b 32 (blankT k) (termStep k b)
+readByte (afterE k) b = on b 88 (go (afterNext existential k 0)) (on b 85 (go (afterUntil k 0)) stop)
+readByte (afterA k) b = on b 88 (go (afterNext universal k 0)) stop
+readByte (afterNext q k g) b = on b 32 (go (afterNext q k (suc g))) (on b 91 (go (bracketAt q g k 0)) stop)
+readByte (afterUntil k g) b = on b 32 (go (afterUntil k (suc g))) (on b 91 (go (operandAt (oFirst (sUntil g k 0)))) stop)
+readByte (bracketAt q a k g) b = on b 32 (go (bracketAt q a k (suc g))) (on b 46 (go (afterDot q a g k 0)) (operandStep (oFirst (sNext q a k g)) b))
+readByte (operandAt k) b = on b 32 (go (operandAt (blankO k))) (operandStep k b)
+readByte (afterDot q a c k g) b = on b 32 (go (afterDot q a c k (suc g))) (on b 93 (go (termAt (tModal (next q a c dot g) k 0))) stop)
+readByte (naming n k) b = named (n .bytes ++ (b ∷ [])) k (isName (n .bytes ++ (b ∷ []))) refl (leaveO (name n) k b)
+readByte (afterSet x k g) b = setStep x k g b
+readByte (afterDisjunction f k g) b = on b 32 (go (afterDisjunction f k (suc g))) (on b 124 (go (termAt (tOr f g k 0))) (parenStep f k g b))
 
 -- A formula that is the whole text, or what is left from the byte that no grammatical text has there.
 pub data Result : Type 0 where
@@ -154,13 +154,13 @@ finish (naming n k) = refused []
 finish (afterSet x k g) = refused []
 finish (afterDisjunction f k g) = finishDisjunction f k g
 
-abbrev pub proceed : Step → (State → Result) → Result → Result
+abbrev pub proceed : ReaderStep → (State → Result) → Result → Result
 proceed (go x) f r = f x
 proceed stop f r = r
 
 abbrev pub run : List ℕ → State → Result
 run [] x = finish x
-run (b ∷ s) x = proceed (step x b) (run s) (refused (b ∷ s))
+run (b ∷ s) x = proceed (readByte x b) (run s) (refused (b ∷ s))
 
 abbrev pub start : State
 start = termAt (tFirst fTop)

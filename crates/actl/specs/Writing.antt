@@ -28,7 +28,7 @@ abbrev pub preparedBytes : List ℕ → ℕ → List ℕ
 preparedBytes c n = n ∷ (cellBytes c n ++ replicate (680 - n * 17) 0)
 
 -- The cells c hold the n nodes of F, and `lost` the offset o of a name that the table lacks.
-pub record Holds (c : List ℕ) (n lost : ℕ) (F : Formula) (o : Option ℕ) : Type 0 where
+pub record CellsHold (c : List ℕ) (n lost : ℕ) (F : Formula) (o : Option ℕ) : Type 0 where
   pub count : n ≡ size F
   pub cells : take (n * 3) c ≡ nodeCells F
   pub lacks : lost ≡ earlier 0 o

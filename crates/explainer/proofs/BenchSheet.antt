@@ -26,7 +26,7 @@ use Rattle.labelling.specs.Satisfaction.{Sat}
 use Rattle.labelling.proofs.Satisfaction.{holds-is-satisfaction}
 use Rattle.listing.specs.Positions.{Position, rootAt, Walk}
 use Rattle.listing.specs.Explains.{Explains}
-use Rattle.listing.specs.Listing.{finalOf, final, leadsOf, leads, targets, canFinish, numberOf, same, movesToAmong, movesOnAmong, movesFromAmong, visit, visits, expandAmong, searchAmong, positionsAmong, movesUptoAmong, Listing, listing}
+use Rattle.listing.specs.Listing.{finalOf, final, leadsOf, leads, targets, canFinish, numberOf, samePosition, movesToAmong, movesOnAmong, movesFromAmong, visit, visits, expandAmong, searchAmong, positionsAmong, movesUptoAmong, Listing, listing}
 use Rattle.listing.specs.Listed.{placed}
 use Rattle.listing.specs.Words.{Accepts}
 use Rattle.listing.proofs.Explains.{explains-is-walk}
@@ -37,7 +37,7 @@ use Rattle.explainer.proofs.Languages.{hasWords, has-words, same-tests}
 -- The test.
 abbrev rowSaid : Listing → Option Position → Bool
 rowSaid L none = true
-rowSaid L (some p) = same (placed L (length (L .rows) - 1)) p
+rowSaid L (some p) = samePosition (placed L (length (L .rows) - 1)) p
 
 abbrev answered : Table → Formula → Answer → Bool
 answered t F a =

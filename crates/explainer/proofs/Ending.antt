@@ -18,7 +18,7 @@ use Rattle.labelling.specs.Replies.{verdictReply, verdictReplied}
 use Rattle.labelling.specs.declared.VerdictReply.{VerdictReply}
 use Rattle.listing.specs.Listing.{Listing, listing}
 use Rattle.listing.specs.Bytes.{rowsBytes, edgesBytes}
-use Rattle.automaton.specs.Replies as built
+use Rattle.automaton.specs.Replies.{buildReply}
 use Rattle.listing.specs.Build.{fitted, built, counts, buildReplied, rowsLeft, edgesLeft}
 use Rattle.automaton.specs.declared.BuildReply.{BuildReply}
 use Rattle.automaton.specs.declared.BuildReply.the-variants as replies
@@ -32,12 +32,12 @@ module _ (t f : List ℕ) (x : Read) (held : HoldsBoth t f x) (long : tableLengt
   prepared : Prepared t f x
   prepared = record { is-table = held .is-table; is-formula = held .is-formula; table-long = long; formula-long = wide }
 
-  module _ (rows edges : List ℕ) (b : BuildReply) (outcome : built.buildReply b ≡ buildReplied t f rows edges) where
+  module _ (rows edges : List ℕ) (b : BuildReply) (outcome : buildReply b ≡ buildReplied t f rows edges) where
     is-fitted : built t f rows edges ≡ fitted (listing (x .table) (x .formula)) rows edges
     unfolding built
     is-fitted = on-prepared prepared (λ t F. fitted (listing t F) rows edges)
 
-    pub refused-said : (numberIn (built.buildReply b) ≡ 0 → ⊥) → (number count : ℕ) → number ≡ numberIn (built.buildReply b) → count ≡ figureIn (λ c. c .rows) (built.buildReply b)
+    pub refused-said : (numberIn (buildReply b) ≡ 0 → ⊥) → (number count : ℕ) → number ≡ numberIn (buildReply b) → count ≡ figureIn (λ c. c .rows) (buildReply b)
         → (table formula rows′ edges′ : List ℕ) → rows′ ≡ rowsLeft t f rows edges → edges′ ≡ edgesLeft t f rows edges
         → Outcome (listingOf x rows edges) (Refused number count) table table formula formula rows rows′ edges edges′
     refused-said h number count p q table formula rows′ edges′ u v = by (fitted (listing (x .table) (x .formula)) rows edges) is-fitted
@@ -57,12 +57,12 @@ module _ (t f : List ℕ) (x : Read) (held : HoldsBoth t f x) (long : tableLengt
               edges-left = v ∙ ap (λ r. leftIn edgesBytes r edges) e;
             }
 
-    pub explained-said : numberIn (built.buildReply b) ≡ 0 → (v : VerdictReply) → verdictReply v ≡ verdictReplied t f
+    pub explained-said : numberIn (buildReply b) ≡ 0 → (v : VerdictReply) → verdictReply v ≡ verdictReplied t f
         → (verdict class count edge-count : ℕ) → verdict ≡ figureIn (λ holds. holds) (verdictReply v) → ClassIn f class
-        → count ≡ figureIn (λ c. c .rows) (built.buildReply b) → edge-count ≡ edgesIn 0 (built.buildReply b)
+        → count ≡ figureIn (λ c. c .rows) (buildReply b) → edge-count ≡ edgesIn 0 (buildReply b)
         → (table table′ formula formula′ rows′ edges′ : List ℕ) → table′ ≡ overwritten t table → formula′ ≡ overwritten f formula
         → rows′ ≡ rowsLeft t f rows edges → edges′ ≡ edgesLeft t f rows edges
-        → ((n g : ℕ) → built.buildReply b ≡ refusal n g → n ≡ 0 → ⊥)
+        → ((n g : ℕ) → buildReply b ≡ refusal n g → n ≡ 0 → ⊥)
         → Outcome (listingOf x rows edges) (Explained verdict class count edge-count) table table′ formula formula′ rows rows′ edges edges′
     unfolding verdictReplied
     explained-said h w s verdict class count edge-count p c q k table table′ formula formula′ rows′ edges′ d m u v never =
@@ -94,7 +94,7 @@ unprepared-not-zero TableForeign e = omega arith
 unprepared-not-zero FormulaForeign e = omega arith
 unprepared-not-zero (BufferShort needed) e = omega arith
 
-pub never-zero : (b : BuildReply) (n g : ℕ) → built.buildReply b ≡ refusal n g → n ≡ 0 → ⊥
+pub never-zero : (b : BuildReply) (n g : ℕ) → buildReply b ≡ refusal n g → n ≡ 0 → ⊥
 never-zero (replies.Built m k) n g e z = let q : _≡_ {A = ℕ} 0 1 = cc in omega arith
 never-zero (replies.RowsShort m) n g e z = let q : 11 ≡ n = cc in omega arith
 never-zero (replies.EdgesShort m) n g e z = let q : 12 ≡ n = cc in omega arith

@@ -9,7 +9,7 @@ use lib.Dec.{eqb, ltb}
 use lib.ListN.{length, replicate}
 use borrow.Author.Tests.{eqb-true, ltb-true, eq-eqb, lt-ltb}
 use Rattle.columns.specs.Bytes.{sameBytes}
-use Rattle.lts.specs.Lists.{consIf, keep, some, every, bind}
+use Rattle.lts.specs.Lists.{consIf, keep, anyOf, every, bind}
 use Rattle.lts.proofs.Lists.{and-true-of, and-true-to, or-true-of, or-true-left, or-true-right, keep-of, keep-to, some-of, some-to, every-of, map-of, map-to}
 use Rattle.listing.specs.Listing.{Listing, Edge}
 use Rattle.listing.specs.Listed.{IsRow, rowAt}
@@ -53,14 +53,14 @@ abbrev emptyIf : Bool → List (List ℕ)
 emptyIf b = consIf b [] []
 
 abbrev after : Language → ℕ → Language
-after K l = record { words = tailsOn l (K .words) ++ emptyIf (some (eqb l) (K .repeated)); repeated = keep (eqb l) (K .repeated) }
+after K l = record { words = tailsOn l (K .words) ++ emptyIf (anyOf (eqb l) (K .repeated)); repeated = keep (eqb l) (K .repeated) }
 
 abbrev isEmpty : List ℕ → Bool
 isEmpty [] = true
 isEmpty (a ∷ w) = false
 
 abbrev nullable : Language → Bool
-nullable K = some isEmpty (K .words)
+nullable K = anyOf isEmpty (K .words)
 
 tails-of : (l : ℕ) (ws : List (List ℕ)) {w : List ℕ} → List·Memᴰ w (tailsOn l ws) → List·Memᴰ (l ∷ w) ws
 tails-of l [] m = absurd (List·Memᴰ·not-nil m)
@@ -98,27 +98,27 @@ repeats l n e = ap (λ v. l ∷ v) e
 after-of : (K : Language) (l : ℕ) (w : List ℕ) → Member (after K l) w → Member K (l ∷ w)
 after-of K l w (inl m) = pick (List·Memᴰ·append-cases (tailsOn l (K .words)) m)
   where
-    empty : (b : Bool) → some (eqb l) (K .repeated) ≡ b → List·Memᴰ w (emptyIf b) → Member K (l ∷ w)
+    empty : (b : Bool) → anyOf (eqb l) (K .repeated) ≡ b → List·Memᴰ w (emptyIf b) → Member K (l ∷ w)
     empty false e n = absurd (List·Memᴰ·not-nil n)
     empty true e n =
         let (a, d, h) = some-of (eqb l) (K .repeated) e in
         let z : w ≡ [] = elim (List·Memᴰ·cases-cons n) [ inl q ↦ q | inr q ↦ absurd (List·Memᴰ·not-nil q) ] in
         inr (a, 0, d, (cc (eqb-true l a h)))
 
-    pick : List·Memᴰ w (tailsOn l (K .words)) ⊎ List·Memᴰ w (emptyIf (some (eqb l) (K .repeated))) → Member K (l ∷ w)
+    pick : List·Memᴰ w (tailsOn l (K .words)) ⊎ List·Memᴰ w (emptyIf (anyOf (eqb l) (K .repeated))) → Member K (l ∷ w)
     pick (inl n) = inl (tails-of l (K .words) n)
-    pick (inr n) = empty (some (eqb l) (K .repeated)) refl n
+    pick (inr n) = empty (anyOf (eqb l) (K .repeated)) refl n
 after-of K l w (inr (a, n, m, e)) =
     let (d, h) = keep-of (eqb l) (K .repeated) m in
     let z = eqb-true l a h in
     inr (a, suc n, d, subst (λ (x : ℕ). x ∷ w ≡ replicate (suc (suc n)) a) (sym z) (repeats a (suc n) e))
 
 after-to : (K : Language) (l : ℕ) (w : List ℕ) → Member K (l ∷ w) → Member (after K l) w
-after-to K l w (inl m) = inl (Memᴰ·append-left (emptyIf (some (eqb l) (K .repeated))) (tails-to l (K .words) m))
+after-to K l w (inl m) = inl (Memᴰ·append-left (emptyIf (anyOf (eqb l) (K .repeated))) (tails-to l (K .words) m))
 after-to K l w (inr (a, zero, m, e)) =
     let z : l ≡ a = cc in
     let d : w ≡ [] = cc in
-    inl (Memᴰ·append-right (tailsOn l (K .words)) (empty (some (eqb l) (K .repeated)) (some-to (eqb l) (K .repeated) m (eq-eqb l a z)) d))
+    inl (Memᴰ·append-right (tailsOn l (K .words)) (empty (anyOf (eqb l) (K .repeated)) (some-to (eqb l) (K .repeated) m (eq-eqb l a z)) d))
   where
     empty : (b : Bool) → b ≡ true → w ≡ [] → List·Memᴰ w (emptyIf b)
     empty true e d = List·Memᴰ·head d
@@ -140,7 +140,7 @@ nullable-to K (inr (a, n, m, e)) = absurd (let z : _≡_ {A = ℕ} 0 1 = cc in o
 
 -- The rows that a letter leads to, from some row of a list.
 abbrev byLetter : List ℕ → ℕ → Edge → Bool
-byLetter S l e = eqb (e .label) l && some (eqb (e .row)) S
+byLetter S l e = eqb (e .label) l && anyOf (eqb (e .row)) S
 
 abbrev next : Listing → List ℕ → ℕ → List ℕ
 next L S l = map (λ e. e .target) (keep (byLetter S l) (L .edges))
@@ -155,7 +155,7 @@ next-of : (L : Listing) (S : List ℕ) (l : ℕ) (w : List ℕ) → ReadsFrom L 
 next-of L S l w (j, m, r) =
     let (e, n, z) = map-of (λ e. e .target) (keep (byLetter S l) (L .edges)) m in
     let (d, h) = keep-of (byLetter S l) (L .edges) n in
-    let (p, q) = and-true-of (eqb (e .label) l) (some (eqb (e .row)) S) h in
+    let (p, q) = and-true-of (eqb (e .label) l) (anyOf (eqb (e .row)) S) h in
     let (i, k, v) = some-of (eqb (e .row)) S q in
     let edge : e ≡ record { row = i; label = l; target = j } = λ x. record { row = eqb-true (e .row) i v x; label = eqb-true (e .label) l p x; target = sym z x } in
     (i, k, reads (subst (λ (y : Edge). List·Memᴰ y (L .edges)) edge d) r)
@@ -164,13 +164,13 @@ next-to : (L : Listing) (S : List ℕ) (l : ℕ) (w : List ℕ) → ReadsFrom L 
 next-to L S l w (i, m, reads {j} h r) =
     (j, map-to (λ (e : Edge). e .target) (keep-to (byLetter S l) (L .edges) h (and-true-to (eqb l l) _ (eq-eqb l l refl) (some-to (eqb i) S m (eq-eqb i i refl)))), r)
 
-final-of : (L : Listing) (S : List ℕ) → some (isFinal L) S ≡ true → ReadsFrom L S []
+final-of : (L : Listing) (S : List ℕ) → anyOf (isFinal L) S ≡ true → ReadsFrom L S []
 final-of L S e =
     let (i, m, h) = some-of (isFinal L) S e in
     let (p, q) = and-true-of (ltb i (length (L .rows))) (rowAt L i .final) h in
     (i, m, ends (ltb-true i (length (L .rows)) p) q)
 
-final-to : (L : Listing) (S : List ℕ) → ReadsFrom L S [] → some (isFinal L) S ≡ true
+final-to : (L : Listing) (S : List ℕ) → ReadsFrom L S [] → anyOf (isFinal L) S ≡ true
 final-to L S (i, m, ends b f) = some-to (isFinal L) S m (and-true-to _ _ (lt-ltb i (length (L .rows)) b) f)
 
 -- The letters that matter.
@@ -225,36 +225,36 @@ abbrev onLetter : Listing → Pair → ℕ → Pair
 onLetter L p l = record { rows = next L (p .rows) l; language = after (p .language) l }
 
 abbrev known : List Pair → Pair → Bool
-known R p = some (samePair p) R
+known R p = anyOf (samePair p) R
 
 abbrev agrees : Listing → List Pair → Pair → Bool
-agrees L R p = Bool·beq (some (isFinal L) (p .rows)) (nullable (p .language)) && every (λ l. known R (onLetter L p l)) (letters L (p .language))
+agrees L R p = Bool·beq (anyOf (isFinal L) (p .rows)) (nullable (p .language)) && every (λ l. known R (onLetter L p l)) (letters L (p .language))
 
 module _ (L : Listing) (R : List Pair) (closed : every (agrees L R) R ≡ true) where
   abbrev Same : Pair → List ℕ → Type 0
   Same p w = Member (p .language) w ↔ ReadsFrom L (p .rows) w
 
-  empties : (p : Pair) → some (isFinal L) (p .rows) ≡ nullable (p .language) → Same p []
+  empties : (p : Pair) → anyOf (isFinal L) (p .rows) ≡ nullable (p .language) → Same p []
   empties p e = (λ m. final-of L (p .rows) (e ∙ nullable-to (p .language) m), λ r. nullable-of (p .language) (sym e ∙ final-to L (p .rows) r))
 
   nexts : (p : Pair) (l : ℕ) (w : List ℕ) → Same (onLetter L p l) w → Same p (l ∷ w)
   nexts p l w h = (λ m. next-of L (p .rows) l w (h .0 (after-to (p .language) l w m)), λ r. after-of (p .language) l w (h .1 (next-to L (p .rows) l w r)))
 
-  others : (p : Pair) (l : ℕ) (w : List ℕ) → some (eqb l) (letters L (p .language)) ≡ false → Same p (l ∷ w)
+  others : (p : Pair) (l : ℕ) (w : List ℕ) → anyOf (eqb l) (letters L (p .language)) ≡ false → Same p (l ∷ w)
   others p l w e =
       let never : List·Memᴰ l (letters L (p .language)) → ⊥ = λ m. true≢false (sym (some-to (eqb l) (letters L (p .language)) m (eq-eqb l l refl)) ∙ e) in
       (λ m. absurd (never (member-letter L (p .language) m)), λ r. absurd (never (read-letter L (p .language) (p .rows) r)))
 
   same-words-from : (w : List ℕ) (p : Pair) → List·Memᴰ p R → Same p w
   same-words-from [] p m =
-      empties p (same-tests _ _ (and-true-of (Bool·beq (some (isFinal L) (p .rows)) (nullable (p .language))) _ (every-of (agrees L R) R closed p m) .0))
-  same-words-from (l ∷ w) p m = case (some (eqb l) (letters L (p .language))) refl (same-words-from w)
+      empties p (same-tests _ _ (and-true-of (Bool·beq (anyOf (isFinal L) (p .rows)) (nullable (p .language))) _ (every-of (agrees L R) R closed p m) .0))
+  same-words-from (l ∷ w) p m = case (anyOf (eqb l) (letters L (p .language))) refl (same-words-from w)
     where
-      case : (b : Bool) → some (eqb l) (letters L (p .language)) ≡ b → ((q : Pair) → List·Memᴰ q R → Same q w) → Same p (l ∷ w)
+      case : (b : Bool) → anyOf (eqb l) (letters L (p .language)) ≡ b → ((q : Pair) → List·Memᴰ q R → Same q w) → Same p (l ∷ w)
       case false e h = others p l w e
       case true e h =
           let (a, n, d) = some-of (eqb l) (letters L (p .language)) e in
-          let k = and-true-of (Bool·beq (some (isFinal L) (p .rows)) (nullable (p .language))) _ (every-of (agrees L R) R closed p m) .1 in
+          let k = and-true-of (Bool·beq (anyOf (isFinal L) (p .rows)) (nullable (p .language))) _ (every-of (agrees L R) R closed p m) .1 in
           let z = eqb-true l a d in
           let there = every-of (λ x. known R (onLetter L p x)) (letters L (p .language)) k a n in
           let (q, o, s) = some-of (samePair (onLetter L p a)) R there in

@@ -6,7 +6,7 @@ use mathlib.Core.List.{List, [], _∷_, List·Memᴰ}
 use Prim.Native.Nat.{ℕ, zero, suc, _≤_, _<_}
 use native.Mathlib.Omega.{arith}
 use lib.ListN.{length}
-use Rattle.lts.specs.Lists.{some}
+use Rattle.lts.specs.Lists.{anyOf}
 use Rattle.lts.specs.Steps.{Step, Table, IsStep, stepsFrom}
 use Rattle.lts.proofs.Lists.{and-true-of, and-true-to, or-true-of, or-true-left, or-true-right, some-of, some-to}
 use Rattle.lts.proofs.StepsFrom.{From, steps-are}
@@ -48,7 +48,7 @@ module _ (t : Table) (a : Mask) (goal : ℕ → Bool) where
   unfolding within into
   round-of n {s} h = step (or-true-of (goal s) _ h)
     where
-      step : (goal s ≡ true) ⊎ (some (into n) (stepsFrom t s) ≡ true) → (goal s ≡ true) ⊎ ((x : From t s) × (passes a (x .0 .label) ≡ true) × Round n (x .0 .to))
+      step : (goal s ≡ true) ⊎ (anyOf (into n) (stepsFrom t s) ≡ true) → (goal s ≡ true) ⊎ ((x : From t s) × (passes a (x .0 .label) ≡ true) × Round n (x .0 .to))
       step (inl e) = inl e
       step (inr e) =
           let (st, m, d) = some-of (into n) (stepsFrom t s) e in

@@ -6,7 +6,7 @@ use mathlib.Core.List.{List, [], _∷_, List·Memᴰ}
 use Prim.Native.Nat.{ℕ, zero, suc, _<_}
 use native.Mathlib.Decide.{map-dec}
 use lib.ListN.{length}
-use Rattle.lts.specs.Lists.{some, every}
+use Rattle.lts.specs.Lists.{anyOf, every}
 use Rattle.lts.specs.Steps.{Step, Table, IsStep, stepsFrom}
 use Rattle.lts.proofs.Lists.{and-true-of, and-true-to, or-true-of, or-true-left, or-true-right, some-of, some-to, every-of, every-to}
 use Rattle.lts.proofs.StepsFrom.{From, steps-are}
@@ -23,7 +23,7 @@ module _ (t : Table) (p : ℕ → Bool) (q : ℕ → Bool) (s : ℕ) where
   abbrev passing : Step → Bool
   passing st = p (st .label) && q (st .to)
 
-  pub some-step : (some passing (stepsFrom t s) ≡ true) ↔ ((x : From t s) × (p (x .0 .label) ≡ true) × (q (x .0 .to) ≡ true))
+  pub some-step : (anyOf passing (stepsFrom t s) ≡ true) ↔ ((x : From t s) × (p (x .0 .label) ≡ true) × (q (x .0 .to) ≡ true))
   some-step = (
     λ e.
         let (st, m, d) = some-of passing (stepsFrom t s) e in

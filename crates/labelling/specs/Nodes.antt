@@ -34,7 +34,7 @@ pub record RowsFrom (table formula : List ℕ) (k : ℕ) (flags : List Bool) : T
   pub rows : (F : Formula) → preparedFormula (labels (tableIn table)) formula ≡ some F → LabelledFrom (tableIn table) F k flags
 
 -- 01: what holds at every node of the prepared formula, at every state.
-pub record Labelled (table formula : List ℕ) (flags : List Bool) : Type 0 where
+pub record NodesLabelled (table formula : List ℕ) (flags : List Bool) : Type 0 where
   pub labelled : (F : Formula) → preparedFormula (labels (tableIn table)) formula ≡ some F → NodeFlags (tableIn table) F flags
 
 -- The answer of the root at the start.

@@ -14,7 +14,7 @@ ghost use Rattle.lts.specs.HoldsTable.{HoldsTable};
 ghost use Rattle.lts.specs.StepArray.{StepsOf};
 ghost use Rattle.labelling.specs.Flags.{flagAt, nodeHolds, Flags};
 ghost use Rattle.labelling.specs.Links.{Linked};
-ghost use Rattle.labelling.specs.Nodes.{RowRead, RowPut, RowsFrom, Labelled};
+ghost use Rattle.labelling.specs.Nodes.{RowRead, RowPut, RowsFrom, NodesLabelled};
 ghost use Rattle.actl.specs.HoldsFormula.{HoldsFormula, ArmsEnd};
 
 // Where a node holds, from where its arms hold.
@@ -124,7 +124,7 @@ pub fn label_nodes(
     requires { ⌜ StepsOf (tableIn (now table)) (now steps) (now firsts) ⌝ }
     requires { ⌜ HoldsFormula (labels (tableIn (now table))) (now formula) ⌝ }
     requires { ⌜ ArmsEnd (labels (tableIn (now table))) (now formula) (now ends) ⌝ }
-    ensures { λ r. ⌜ Labelled (now (table .entry)) (now (formula .entry)) r ⌝ }
+    ensures { λ r. ⌜ NodesLabelled (now (table .entry)) (now (formula .entry)) r ⌝ }
 {
     let links = entering(table);
     let mut flags = [false; 10240];

@@ -10,11 +10,11 @@ ghost use Prim.Native.Nat.{_<_};
 ghost use Rattle.lts.specs.StepArray.{stepsIn, StepsFit};
 ghost use Rattle.actl.specs.Actions as actions;
 ghost use Rattle.actl.specs.Access.{condIn};
-ghost use Rattle.labelling.specs.Flags.{flagAt, same, someStep, atOnce, Flags};
+ghost use Rattle.labelling.specs.Flags.{flagAt, asWanted, someStep, atOnce, Flags};
 
 fn leads(wanted: bool, condition: Condition, label: usize, there: bool) -> bool
     requires { ⌜ label < 64 ⌝ }
-    ensures { λ r. ⌜ r ≡ same wanted (actions.meets (condIn condition) label && there) ⌝ }
+    ensures { λ r. ⌜ r ≡ asWanted wanted (actions.meets (condIn condition) label && there) ⌝ }
 {
     if there {
         crate::conditions::meets(condition, label) == wanted

@@ -6,7 +6,7 @@ use mathlib.Core.List.{List, [], _∷_, List·Memᴰ}
 use Prim.Native.Nat.{ℕ, _<_, _≤_}
 use native.Mathlib.Omega.{arith}
 use borrow.Author.Tests.{eqb-true, eq-eqb}
-use Rattle.lts.specs.Lists.{some}
+use Rattle.lts.specs.Lists.{anyOf}
 use Rattle.lts.specs.Steps.{Step, Table, IsStep, stepsFrom}
 use Rattle.lts.specs.Range.{InRange}
 use Rattle.lts.proofs.Lists.{and-true-of, and-true-to, some-of, some-to}
@@ -73,7 +73,7 @@ module _ (t : Table) (F : Formula) (r : InRange t) (c : HasClass F) (w : List �
 -- The test of words.
 module _ (t : Table) (F : Formula) where
   abbrev goes : List ℕ → ℕ → ℕ → Step → Bool
-  goes w k l st = some (λ q. acceptsFrom t F w (at q (st .to))) (targets F k l)
+  goes w k l st = anyOf (λ q. acceptsFrom t F w (at q (st .to))) (targets F k l)
 
   pub acceptsFrom-of : (w : List ℕ) (p : Position) → p .place ≤ size F → acceptsFrom t F w p ≡ true → Walk t F p w
   unfolding acceptsFrom

@@ -12,7 +12,7 @@ use Rattle.actl.specs.Formulas.{Formula}
 use Rattle.actl.proofs.Classes.{HasClass}
 use Rattle.listing.specs.Positions.{Position, at, rootAt, Joins, Reached, begin, onward, CanFinish}
 use Rattle.listing.specs.Listing.{canFinish, numberOf, Move, positionAt, movesUpto, Edge, edgeOf}
-use Rattle.listing.specs.Listed.{Below}
+use Rattle.listing.specs.Listed.{PositionBelow}
 use Rattle.listing.proofs.Tests.{leads-inside}
 use Rattle.listing.proofs.Finishing.{step-finishes, canFinish-is}
 use Rattle.listing.proofs.Numbers.{number-mem, number-found}
@@ -33,7 +33,7 @@ edgesOf t F R = map (edgeOf R) (movesUpto t F R (length R))
 
 -- The order of edges, over positions.
 abbrev pub BeforeIn : List Position → Edge → Edge → Type 0
-BeforeIn R a b = (a .row < b .row) ⊎ ((a .row ≡ b .row) × ((a .label < b .label) ⊎ ((a .label ≡ b .label) × Below (positionAt R (a .target)) (positionAt R (b .target)))))
+BeforeIn R a b = (a .row < b .row) ⊎ ((a .row ≡ b .row) × ((a .label < b .label) ⊎ ((a .label ≡ b .label) × PositionBelow (positionAt R (a .target)) (positionAt R (b .target)))))
 
 -- What an edge has to be.
 pub record IsEdge (t : Table) (F : Formula) (R : List Position) (e : Edge) : Type 0 where
@@ -86,7 +86,7 @@ module _ (t : Table) (F : Formula) (w : InRange t) (c : HasClass F) where
     before : (x y : Move) → List·Memᴰ x M → List·Memᴰ y M → Sooner x y → BeforeIn R (edgeOf R x) (edgeOf R y)
     before x y m n (inl z) = inl z
     before x y m n (inr (e, inl z)) = inr (e, inl z)
-    before x y m n (inr (e, inr (d, b))) = inr (e, inr (d, subst₂ Below (sym (found m)) (sym (found n)) b))
+    before x y m n (inr (e, inr (d, b))) = inr (e, inr (d, subst₂ PositionBelow (sym (found m)) (sym (found n)) b))
 
     pub edges-rising : Rising (BeforeIn R) (edgesOf t F R)
     edges-rising = map-rising (edgeOf R) Sooner (BeforeIn R) M before (upto-rising (canFinish t F) t F w R (length R))

@@ -3,7 +3,7 @@ use mathlib.Core.Path.{_≡_}
 use mathlib.Core.Bool.{Bool, true, _&&_}
 use mathlib.Core.List.{List, [], _∷_, List·Memᴰ}
 use Prim.Native.Nat.{ℕ}
-use Rattle.lts.specs.Lists.{some}
+use Rattle.lts.specs.Lists.{anyOf}
 use Rattle.lts.specs.Steps.{Step, Table, stepsFrom}
 use Rattle.actl.specs.Formulas.{Formula}
 use Rattle.listing.specs.Positions.{Position, at, rootAt}
@@ -23,7 +23,7 @@ Accepts L w = Reads L 0 w
 unfoldable pub acceptsFrom : Table → Formula → List ℕ → Position → Bool
 acceptsFrom t F [] p = final F (p .place)
 acceptsFrom t F (l ∷ w) p =
-    some (λ st. onLabel l st && some (λ q. acceptsFrom t F w (at q (st .to))) (targets F (p .place) l)) (stepsFrom t (p .state))
+    anyOf (λ st. onLabel l st && anyOf (λ q. acceptsFrom t F w (at q (st .to))) (targets F (p .place) l)) (stepsFrom t (p .state))
 
 abbrev pub accepts : Table → Formula → List ℕ → Bool
 accepts t F w = acceptsFrom t F w (rootAt t)

@@ -8,7 +8,7 @@ use native.Mathlib.Nat.{add-zero, add-suc, suc-add, zero-add}
 use native.Mathlib.Omega.{arith}
 use lib.ListN.{length, getD, take, drop}
 use lib.Seq.{slice}
-use Rattle.lts.specs.Lists.{upFrom, consIf, keep, some, every, orElse, Rising, bind}
+use Rattle.lts.specs.Lists.{upFrom, consIf, keep, anyOf, every, orElse, Rising, bind}
 
 -- Booleans.
 pub and-true-of : (a b : Bool) → (a && b) ≡ true → (a ≡ true) × (b ≡ true)
@@ -115,19 +115,19 @@ module _ {A : Type 0} where
         step true d = (λ y m. r .0 y (keep-of l m .0), d)
         step false d = d
 
-    pub some-of : (l : List A) → some p l ≡ true → (x : A) × List·Memᴰ x l × (p x ≡ true)
+    pub some-of : (l : List A) → anyOf p l ≡ true → (x : A) × List·Memᴰ x l × (p x ≡ true)
     some-of [] e = absurd (false≢true e)
-    some-of (x ∷ l) e = step (some-of l) (or-true-of (p x) (some p l) e)
+    some-of (x ∷ l) e = step (some-of l) (or-true-of (p x) (anyOf p l) e)
       where
-        step : (some p l ≡ true → (y : A) × List·Memᴰ y l × (p y ≡ true)) → (p x ≡ true) ⊎ (some p l ≡ true) → (y : A) × List·Memᴰ y (x ∷ l) × (p y ≡ true)
+        step : (anyOf p l ≡ true → (y : A) × List·Memᴰ y l × (p y ≡ true)) → (p x ≡ true) ⊎ (anyOf p l ≡ true) → (y : A) × List·Memᴰ y (x ∷ l) × (p y ≡ true)
         step h (inl d) = (x, List·Memᴰ·head refl, d)
         step h (inr d) = let (y, m, z) = h d in (y, List·Memᴰ·tail m, z)
 
-    pub some-to : (l : List A) {x : A} → List·Memᴰ x l → p x ≡ true → some p l ≡ true
+    pub some-to : (l : List A) {x : A} → List·Memᴰ x l → p x ≡ true → anyOf p l ≡ true
     some-to [] m e = absurd (List·Memᴰ·not-nil m)
     some-to (y ∷ l) {x} m e = step (λ d. some-to l d e) (List·Memᴰ·cases-cons m)
       where
-        step : (List·Memᴰ x l → some p l ≡ true) → (x ≡ y) ⊎ List·Memᴰ x l → some p (y ∷ l) ≡ true
+        step : (List·Memᴰ x l → anyOf p l ≡ true) → (x ≡ y) ⊎ List·Memᴰ x l → anyOf p (y ∷ l) ≡ true
         step h (inl d) = or-true-left (p y) _ (ap p (sym d) ∙ e)
         step h (inr d) = or-true-right (p y) _ (h d)
 

@@ -18,8 +18,8 @@ use Rattle.lts.specs.Lines.{LineAt, NoLineAt, Labelled}
 abbrev pub header : HeaderFields → Header
 header c = record { states = c .states; labels = c .labels; transitions = c .transitions; start = c .start }
 
-abbrev pub step : Transition → Step
-step t = record { from = t .from; label = t .label; to = t .to }
+abbrev pub transitionStep : Transition → Step
+transitionStep t = record { from = t .from; label = t .label; to = t .to }
 
 abbrev pub HeaderSays : List ℕ → HeaderLine → Type 0
 HeaderSays s (LaidHeader c) = (l : List ℕ) × LineAt (λ l. headerLaidOut (headerOf l) l) s 0 25 l × (headerOf l ≡ header c)
@@ -30,5 +30,5 @@ LabelSays s at (Label number end) = Labelled s at number end
 LabelSays s at NoLabel = NoLineAt labelLaidOut s at
 
 abbrev pub TransitionSays : List ℕ → ℕ → TransitionLine → Type 0
-TransitionSays s at (Row t) = (l : List ℕ) × LineAt stepLaidOut s at (at + 19) l × (stepOf l ≡ step t)
+TransitionSays s at (Row t) = (l : List ℕ) × LineAt stepLaidOut s at (at + 19) l × (stepOf l ≡ transitionStep t)
 TransitionSays s at NoRow = NoLineAt stepLaidOut s at

@@ -16,9 +16,9 @@ module _ {A : Type 0} where
   keep p [] = []
   keep p (x ∷ l) = consIf (p x) x (keep p l)
 
-  abbrev pub some : (A → Bool) → List A → Bool
-  some p [] = false
-  some p (x ∷ l) = p x || some p l
+  abbrev pub anyOf : (A → Bool) → List A → Bool
+  anyOf p [] = false
+  anyOf p (x ∷ l) = p x || anyOf p l
 
   abbrev pub every : (A → Bool) → List A → Bool
   every p [] = true

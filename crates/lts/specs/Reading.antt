@@ -7,7 +7,7 @@ use lib.ListN.{length, drop}
 use Rattle.columns.specs.Bytes.{sameBytes}
 use Rattle.columns.specs.Columns.{valueAt}
 use Rattle.lts.specs.Reply.{Reply, accepted, refusal, unless}
-use Rattle.lts.specs.Lists.{some}
+use Rattle.lts.specs.Lists.{anyOf}
 use Rattle.lts.specs.Steps.{Step, Table}
 use Rattle.lts.specs.Names.{isName}
 use Rattle.lts.specs.Text.{headerLine, labelLine, transitionLine}
@@ -53,7 +53,7 @@ labelLaidOut l = sameBytes l (labelLine (valueAt 0 l) (drop 7 l)) && isName (dro
 
 -- 01: "a label name used on an earlier line"
 abbrev pub used : List (List ℕ) → List ℕ → Bool
-used names name = some (λ n. sameBytes n name) names
+used names name = anyOf (λ n. sameBytes n name) names
 
 abbrev pub stepOf : List ℕ → Step
 stepOf l = record { from = valueAt 0 l; label = valueAt 6 l; to = valueAt 12 l }

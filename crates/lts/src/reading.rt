@@ -11,7 +11,7 @@ ghost use Rattle.lts.specs.Prepared.{transitionSlot};
 ghost use Rattle.lts.specs.Replies.{tableReply};
 ghost use Rattle.lts.specs.TableReading.{tableReplied, tableLeft};
 ghost use Rattle.lts.specs.Slots.{risesAfter, headBytes, counted};
-ghost use Rattle.lts.specs.LineReplies.{header, step, HeaderSays, LabelSays, TransitionSays};
+ghost use Rattle.lts.specs.LineReplies.{header, transitionStep, HeaderSays, LabelSays, TransitionSays};
 ghost use Rattle.lts.specs.Progress.{LabelProgress, LabelsRead, TransitionProgress, TransitionsRead};
 ghost use Rattle.lts.specs.Reply.{overwritten};
 ghost use mathlib.Core.List.{_++_};
@@ -170,7 +170,7 @@ fn header_in_range(c: HeaderFields) -> bool
 }
 
 fn transition_in_range(c: HeaderFields, t: Transition) -> bool
-    ensures { λ r. ⌜ r ≡ stepInRange (header c) (step t) ⌝ }
+    ensures { λ r. ⌜ r ≡ stepInRange (header c) (transitionStep t) ⌝ }
 {
     if c.states <= t.from {
         return false;
@@ -182,7 +182,7 @@ fn transition_in_range(c: HeaderFields, t: Transition) -> bool
 }
 
 fn below(a: Transition, b: Transition) -> bool
-    ensures { λ r. ⌜ r ≡ stepBelow (step a) (step b) ⌝ }
+    ensures { λ r. ⌜ r ≡ stepBelow (transitionStep a) (transitionStep b) ⌝ }
 {
     if a.from < b.from {
         return true;
@@ -202,7 +202,7 @@ fn below(a: Transition, b: Transition) -> bool
 // Whether a transition is above the last of the first `count` in the transition slots.
 fn rises(slots: &[u8], count: usize, t: Transition) -> bool
     requires { ⌜ (length (now slots) ≡ 3072) × (count ≤ 1024) ⌝ }
-    ensures { λ r. ⌜ r ≡ risesAfter (now (slots .entry)) count (step t) ⌝ }
+    ensures { λ r. ⌜ r ≡ risesAfter (now (slots .entry)) count (transitionStep t) ⌝ }
 {
     if count == 0 {
         return true;
@@ -218,7 +218,7 @@ fn rises(slots: &[u8], count: usize, t: Transition) -> bool
 
 fn write_transition(slots: &mut [u8], count: usize, t: Transition)
     requires { ⌜ (count * 3 + 3 ≤ length (now slots)) × ((t .from < 256) × ((t .label < 256) × (t .to < 256))) ⌝ }
-    ensures { λ _. ⌜ now (slots .exit) ≡ pasted (now (slots .entry)) (count * 3) (transitionSlot (step t)) ⌝ }
+    ensures { λ _. ⌜ now (slots .exit) ≡ pasted (now (slots .entry)) (count * 3) (transitionSlot (transitionStep t)) ⌝ }
 {
     let i = count * 3;
     slots[i] = t.from as u8;

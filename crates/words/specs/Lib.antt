@@ -1,4 +1,4 @@
 pub mod Replies
-pub mod Fronts
+pub mod Frontier
 pub mod Reached
 pub mod Answered

@@ -1,4 +1,4 @@
--- Reading a word without a listing: the front that its letters reach.
+-- Reading a word without a listing: the frontier that its letters reach.
 use mathlib.Core.Path.{_≡_}
 use mathlib.Core.Bool.{Bool, cond, _&&_}
 use mathlib.Core.List.{List, [], _∷_}
@@ -7,7 +7,7 @@ use Prim.Native.Nat.{ℕ, _+_, _*_, _≤_, _<_}
 use lib.Bits.{bitOr}
 use lib.Dec.{eqb}
 use lib.ListN.{length, getD}
-use Rattle.lts.specs.Lists.{upFrom, some as any}
+use Rattle.lts.specs.Lists.{upFrom, anyOf as any}
 use Rattle.lts.specs.Steps.{Step, labels}
 use Rattle.lts.specs.Prepared.{tableIn}
 use Rattle.actl.specs.Formulas.{Formula}
@@ -16,7 +16,7 @@ use Rattle.labelling.specs.Flags.{flagAt}
 use Rattle.listing.specs.Listing.{onLabel}
 use Rattle.listing.specs.Masks.{bitAt, columnOf}
 use Rattle.listing.specs.Words.{accepts}
-use Rattle.words.specs.Fronts.{stateIn, nowhere, emptied, brought, through}
+use Rattle.words.specs.Frontier.{hasState, nowhere, emptied, brought, through}
 
 -- The target places of place k on label l, as `target_masks` leaves them.
 abbrev pub maskAt : List ℕ → ℕ → ℕ → ℕ
@@ -42,12 +42,12 @@ abbrev pub placesRead : List Step → List ℕ → ℕ → ℕ → List ℕ → 
 placesRead steps masks places l next = cond (eqb (targetsOf masks places l) 0) next (stepsTaken l (targetsOf masks places l) steps next)
 
 abbrev pub stateRead : (ℕ → List Step) → List ℕ → List ℕ → ℕ → ℕ → List ℕ → List ℕ
-stateRead from masks reached l s next = cond (stateIn reached s) (placesRead (from s) masks (getD reached s 0) l next) next
+stateRead from masks reached l s next = cond (hasState reached s) (placesRead (from s) masks (getD reached s 0) l next) next
 
 abbrev pub letterRead : (ℕ → List Step) → List ℕ → ℕ → List ℕ → List ℕ → List ℕ
 letterRead from masks l reached next = through (stateRead from masks reached l) 256 0 (emptied next)
 
--- Two fronts take turns.
+-- Two frontiers take turns.
 unfoldable pub wordRead : (ℕ → List Step) → List ℕ → List ℕ → List ℕ → List ℕ → List ℕ
 wordRead from masks [] reached next = reached
 wordRead from masks (l ∷ w) reached next = wordRead from masks w (letterRead from masks l reached next) reached
@@ -57,16 +57,16 @@ abbrev pub rootReached : ℕ → List ℕ
 rootReached start = brought start 1 nowhere
 
 -- Some place of a set is final.
-abbrev pub finalIn : List Bool → ℕ → ℕ → Bool
-finalIn finals places k = bitAt places k && flagAt finals k
+abbrev pub finalPlace : List Bool → ℕ → ℕ → Bool
+finalPlace finals places k = bitAt places k && flagAt finals k
 
 abbrev pub someFinal : List Bool → ℕ → Bool
-someFinal finals places = any (finalIn finals places) (upFrom 0 41)
+someFinal finals places = any (finalPlace finals places) (upFrom 0 41)
 
 -- Letters that have a mask.
 pub record Letters (w : List ℕ) : Type 0 where
   pub few : (i : ℕ) → i < length w → getD w i 0 ≤ 40
 
 -- The answer for the table and the formula in bytes.
-pub record Answers (table formula w : List ℕ) (r : Bool) : Type 0 where
+pub record AcceptsAnswer (table formula w : List ℕ) (r : Bool) : Type 0 where
   pub answer : (F : Formula) → preparedFormula (labels (tableIn table)) formula ≡ some F → r ≡ accepts (tableIn table) F w

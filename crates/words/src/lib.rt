@@ -1,5 +1,5 @@
 // Whether the automaton accepts a word: the positions that its letters reach, as a mask of places for each state. No rows are built.
-use crate::fronts::has;
+use crate::frontier::has;
 use crate::reading::read_word;
 use crate::reading::wide;
 use actl::inputs::Inputs;
@@ -13,7 +13,7 @@ use lts::prepared::label_count;
 use lts::prepared::start_state;
 use lts::steps::steps_of;
 
-mod fronts;
+mod frontier;
 mod reading;
 
 ghost use mathlib.Core.Path.{_≡_};
@@ -26,7 +26,7 @@ ghost use Rattle.lts.specs.HoldsTable.{HoldsTable};
 ghost use Rattle.actl.specs.HoldsFormula.{HoldsFormula};
 ghost use Rattle.listing.specs.Bytes.{bitOf};
 ghost use Rattle.words.specs.Replies.{badLetter, wordReply, wordReplied};
-ghost use Rattle.words.specs.Reached.{finalIn, someFinal, Letters, Answers};
+ghost use Rattle.words.specs.Reached.{finalPlace, someFinal, Letters, AcceptsAnswer};
 ghost use Rattle.words.specs.Answered.{Answered};
 
 // What `accepts` answers. specs/Replies.antt lists the number and the figure of each case.
@@ -56,7 +56,7 @@ fn bad_letter(labels: usize, word: &[u8]) -> Lookup
 
 fn is_final(finals: &[bool; 41], places: u64, k: usize) -> bool
     requires { ⌜ k ≤ 40 ⌝ }
-    ensures { λ r. ⌜ r ≡ finalIn (now (finals .entry)) places k ⌝ }
+    ensures { λ r. ⌜ r ≡ finalPlace (now (finals .entry)) places k ⌝ }
 {
     if has(places, k) { finals[k] } else { false }
 }
@@ -79,7 +79,7 @@ fn is_accepted(table: &[u8], formula: &[u8], word: &[u8]) -> bool
     requires { ⌜ HoldsTable (now table) ⌝ }
     requires { ⌜ HoldsFormula (labels (tableIn (now table))) (now formula) ⌝ }
     requires { ⌜ Letters (now word) ⌝ }
-    ensures { λ r. ⌜ Answers (now (table .entry)) (now (formula .entry)) (now (word .entry)) r ⌝ }
+    ensures { λ r. ⌜ AcceptsAnswer (now (table .entry)) (now (formula .entry)) (now (word .entry)) r ⌝ }
 {
     let all = steps_of(table);
     let steps = all.steps;

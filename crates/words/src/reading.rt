@@ -1,9 +1,9 @@
 // The letters of a word, one after the other: the positions that they reach. No rows are built.
-use crate::fronts::all_places;
-use crate::fronts::bring;
-use crate::fronts::clear;
-use crate::fronts::next_bit;
-use crate::fronts::next_state;
+use crate::frontier::all_places;
+use crate::frontier::bring;
+use crate::frontier::clear;
+use crate::frontier::next_bit;
+use crate::frontier::next_state;
 use listing::masks::column;
 use lts::steps::label_of;
 use lts::steps::leaving;
@@ -11,7 +11,7 @@ use lts::steps::state_of;
 ghost use mathlib.Core.Path.{_≡_};
 ghost use Prim.Native.Nat.{ℕ, _<_, _≤_};
 ghost use Rattle.lts.specs.StepArray.{stepAt, stepsIn, StepsFit};
-ghost use Rattle.words.specs.Fronts.{nowhere, allPlaces};
+ghost use Rattle.words.specs.Frontier.{nowhere, allPlaces};
 ghost use Rattle.words.specs.Reached.{targetsOf, stepTaken, stepsTaken, placesRead, letterRead, wordRead, rootReached, Letters};
 
 pub fn wide(letter: u8) -> usize
@@ -112,7 +112,7 @@ fn read_letter(
     }
 }
 
-// The places to which the word leads from the root at a start state. Two fronts take turns.
+// The places to which the word leads from the root at a start state. Two frontiers take turns.
 pub fn read_word(
     steps: &[u16; 1280],
     firsts: &[u16; 257],

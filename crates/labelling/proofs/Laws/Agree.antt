@@ -6,7 +6,7 @@ use mathlib.Core.List.{List, [], _∷_, List·Memᴰ, List·Memᴰ·head, List·
 use Prim.Native.Nat.{ℕ, zero, suc, _≤_, _<_}
 use native.Mathlib.Omega.{arith}
 use lib.ListN.{length}
-use Rattle.lts.specs.Lists.{some, every}
+use Rattle.lts.specs.Lists.{anyOf, every}
 use Rattle.lts.specs.Steps.{Step, Table, stepsFrom}
 use Rattle.lts.specs.Range.{InRange}
 use Rattle.lts.proofs.StepsFrom.{step-below}
@@ -15,7 +15,7 @@ use Rattle.labelling.specs.Holds.{within, enters}
 use Rattle.labelling.specs.Flags.{leadsTo}
 
 module _ {A : Type 0} (p q : A → Bool) where
-  pub some-same : (l : List A) → ((x : A) → List·Memᴰ x l → p x ≡ q x) → some p l ≡ some q l
+  pub some-same : (l : List A) → ((x : A) → List·Memᴰ x l → p x ≡ q x) → anyOf p l ≡ anyOf q l
   some-same [] h = refl
   some-same (x ∷ l) h = rw (h x (List·Memᴰ·head refl), some-same l (λ y m. h y (List·Memᴰ·tail m)))
 
@@ -36,7 +36,7 @@ module _ (t : Table) (r : InRange t) where
     abbrev to-q : (ℕ → Bool) → Step → Bool
     to-q m st = m (st .label) && q (st .to)
 
-    pub some-agree : (m : ℕ → Bool) → Agree (λ s. some (to-p m) (stepsFrom t s)) (λ s. some (to-q m) (stepsFrom t s))
+    pub some-agree : (m : ℕ → Bool) → Agree (λ s. anyOf (to-p m) (stepsFrom t s)) (λ s. anyOf (to-q m) (stepsFrom t s))
     some-agree m s h = some-same (to-p m) (to-q m) (stepsFrom t s) (λ st n. ap (λ b. m (st .label) && b) (a (st .to) (step-below t r s h st n)))
 
     pub every-agree : (m : ℕ → Bool) → Agree (λ s. every (to-p m) (stepsFrom t s)) (λ s. every (to-q m) (stepsFrom t s))
@@ -46,5 +46,5 @@ module _ (t : Table) (r : InRange t) where
   unfolding within
   within-agree p q a m zero s h = a s h
   within-agree p q a m (suc n) s h =
-      ap (λ b. b || some (λ st. passes m (st .label) && within t m p n (st .to)) (stepsFrom t s)) (a s h)
+      ap (λ b. b || anyOf (λ st. passes m (st .label) && within t m p n (st .to)) (stepsFrom t s)) (a s h)
       ∙ ap (λ b. q s || b) (some-agree (within t m p n) (within t m q n) (within-agree p q a m n) (passes m) s h)

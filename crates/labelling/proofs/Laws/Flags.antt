@@ -7,13 +7,13 @@ use native.Mathlib.Decide.{ℕ-discrete}
 use native.Mathlib.Omega.{arith}
 use lib.ListN.{length, set, replicate, length-set, length-replicate}
 use lib.Seq.{getD-set-same, getD-set-other}
-use Rattle.lts.specs.Lists.{some, every}
+use Rattle.lts.specs.Lists.{anyOf, every}
 use Rattle.lts.specs.Steps.{Step}
 use Rattle.lts.specs.StepArray.{stepAt, stepsBetween}
 use Rattle.lts.proofs.Laws.StepArray.{between-next, between-over}
-use Rattle.labelling.specs.Flags.{same, flagAt, Flags}
+use Rattle.labelling.specs.Flags.{asWanted, flagAt, Flags}
 
-pub same-there : (wanted result m there : Bool) → result ≡ m → there ≡ true → Bool·beq result wanted ≡ same wanted (m && there)
+pub same-there : (wanted result m there : Bool) → result ≡ m → there ≡ true → Bool·beq result wanted ≡ asWanted wanted (m && there)
 same-there true true true true e d = refl
 same-there true true true false e d = absurd (false≢true d)
 same-there true true false there e d = absurd (true≢false e)
@@ -25,7 +25,7 @@ same-there false true false there e d = absurd (true≢false e)
 same-there false false true there e d = absurd (false≢true e)
 same-there false false false there e d = refl
 
-pub same-nowhere : (wanted m there : Bool) → there ≡ false → not wanted ≡ same wanted (m && there)
+pub same-nowhere : (wanted m there : Bool) → there ≡ false → not wanted ≡ asWanted wanted (m && there)
 same-nowhere wanted m true e = absurd (true≢false e)
 same-nowhere true true false e = refl
 same-nowhere true false false e = refl
@@ -37,27 +37,27 @@ not-or true b = refl
 not-or false b = refl
 
 module _ {A : Type 0} (p : A → Bool) where
-  pub some-wanted : (l : List A) → some (λ x. same true (p x)) l ≡ some p l
+  pub some-wanted : (l : List A) → anyOf (λ x. asWanted true (p x)) l ≡ anyOf p l
   some-wanted l = refl
 
   -- All pass exactly if none fails.
-  pub every-not-some : (l : List A) → not (some (λ x. same false (p x)) l) ≡ every p l
+  pub every-not-some : (l : List A) → not (anyOf (λ x. asWanted false (p x)) l) ≡ every p l
   every-not-some [] = refl
-  every-not-some (x ∷ l) = not-or (p x) (some (λ x. same false (p x)) l) ∙ ap (λ b. p x && b) (every-not-some l)
+  every-not-some (x ∷ l) = not-or (p x) (anyOf (λ x. asWanted false (p x)) l) ∙ ap (λ b. p x && b) (every-not-some l)
 
 -- Steps that are not searched yet, from k to before `end`.
 module _ (p : Step → Bool) (steps : List ℕ) (s k end : ℕ) where
   abbrev rest : Bool
-  rest = some p (stepsBetween steps s (k + 1) end)
+  rest = anyOf p (stepsBetween steps s (k + 1) end)
 
-  pub some-found : k < end → p (stepAt steps s k) ≡ true → some p (stepsBetween steps s k end) ≡ true
-  some-found h e = ap (some p) (between-next steps s k end h) ∙ ap (λ b. b || rest) e
+  pub some-found : k < end → p (stepAt steps s k) ≡ true → anyOf p (stepsBetween steps s k end) ≡ true
+  some-found h e = ap (anyOf p) (between-next steps s k end h) ∙ ap (λ b. b || rest) e
 
-  pub some-later : k < end → p (stepAt steps s k) ≡ false → some p (stepsBetween steps s k end) ≡ some p (stepsBetween steps s (k + 1) end)
-  some-later h e = ap (some p) (between-next steps s k end h) ∙ ap (λ b. b || rest) e
+  pub some-later : k < end → p (stepAt steps s k) ≡ false → anyOf p (stepsBetween steps s k end) ≡ anyOf p (stepsBetween steps s (k + 1) end)
+  some-later h e = ap (anyOf p) (between-next steps s k end h) ∙ ap (λ b. b || rest) e
 
-  pub some-none : end ≤ k → some p (stepsBetween steps s k end) ≡ false
-  some-none h = ap (some p) (between-over steps s k end h)
+  pub some-none : end ≤ k → anyOf p (stepsBetween steps s k end) ≡ false
+  some-none h = ap (anyOf p) (between-over steps s k end h)
 
 -- Flags of the states below `end`, set a state at a time.
 pub record FlagsBelow (p : ℕ → Bool) (end : ℕ) (flags : List Bool) : Type 0 where

@@ -19,7 +19,7 @@ use Rattle.actl.proofs.Laws.Forms.{length-form}
 use Rattle.actl.proofs.Laws.Prepared.{prepared-of, prepared-few, prepared-count, prepared-shaped}
 use Rattle.labelling.specs.Holds.{holds}
 use Rattle.labelling.specs.Flags.{NodeFlags}
-use Rattle.labelling.specs.Nodes.{RowsFrom, Labelled, AtStart}
+use Rattle.labelling.specs.Nodes.{RowsFrom, NodesLabelled, AtStart}
 use Rattle.actl.specs.HoldsFormula.{HoldsFormula}
 
 module _ (n : ℕ) (b : List ℕ) (h : HoldsFormula n b) where
@@ -41,13 +41,13 @@ module _ (table formula : List ℕ) where
     rows = λ F d. record { flag = λ j s l m h. absurd (omega (arith, prepared-count (labels (tableIn table)) formula d)) };
   }
 
-  pub rows-all : (k : ℕ) {flags : List Bool} → k ≤ 0 → RowsFrom table formula k flags → Labelled table formula flags
+  pub rows-all : (k : ℕ) {flags : List Bool} → k ≤ 0 → RowsFrom table formula k flags → NodesLabelled table formula flags
   rows-all k h r = record {
     labelled = λ F d. record { places = r .places; flag = λ j s l m. r .rows F d .flag j s (omega arith) l m };
   }
 
 -- Node 0 is the root: its flag at the start is the answer.
-pub root-at-start : (table formula : List ℕ) → HoldsTable table → (flags : List Bool) → Labelled table formula flags → (start : ℕ) → start ≡ tableIn table .start
+pub root-at-start : (table formula : List ℕ) → HoldsTable table → (flags : List Bool) → NodesLabelled table formula flags → (start : ℕ) → start ≡ tableIn table .start
     → AtStart table formula (getD flags start false)
 root-at-start table formula h flags d start e = record {
   answered = λ F f.

@@ -22,18 +22,18 @@ use Rattle.listing.proofs.Inside.{Inside, joins-inside}
 use Rattle.listing.proofs.Laws.MasksFound.{bit-pow}
 use Rattle.listing.proofs.Reading.{accepts-is}
 use Rattle.listing.proofs.Tests.{leads-inside, final-of, final-to}
-use Rattle.words.specs.Fronts.{stateIn, nowhere, emptied, allPlaces}
-use Rattle.words.specs.Reached.{placesRead, stateRead, letterRead, wordRead, rootReached, finalIn, someFinal, Letters}
+use Rattle.words.specs.Frontier.{hasState, nowhere, emptied, allPlaces}
+use Rattle.words.specs.Reached.{placesRead, stateRead, letterRead, wordRead, rootReached, finalPlace, someFinal, Letters}
 use Rattle.words.proofs.Laws.Through.{through-same}
-use Rattle.words.proofs.Laws.Fronts.{reachedAt, nowhere-reached, length-brought, brought-reached}
+use Rattle.words.proofs.Laws.Frontiers.{reachedAt, nowhere-reached, length-brought, brought-reached}
 use Rattle.words.proofs.Laws.Reaching.{all-reached, length-letter, letter-of, letter-to}
 
--- The same steps bring a word to the same front.
+-- The same steps bring a word to the same frontier.
 module _ (from more : ℕ → List Step) (same : (s : ℕ) → s < 256 → from s ≡ more s) (masks : List ℕ) where
   letter-same : (l : ℕ) (reached next : List ℕ) → letterRead from masks l reached next ≡ letterRead more masks l reached next
   letter-same l reached next =
       through-same (stateRead from masks reached l) (stateRead more masks reached l) 256
-      (λ s x h. ap (λ steps. cond (stateIn reached s) (placesRead steps masks (getD reached s 0) l x) x) (same s h)) 256 0 (emptied next) (omega arith)
+      (λ s x h. ap (λ steps. cond (hasState reached s) (placesRead steps masks (getD reached s 0) l x) x) (same s h)) 256 0 (emptied next) (omega arith)
 
   pub word-same : (w reached next : List ℕ) → wordRead from masks w reached next ≡ wordRead more masks w reached next
   unfolding wordRead
@@ -92,7 +92,7 @@ module _ (t : Table) (w : InRange t) where
     walk-leading {p} (stop f) = (p, refl, f)
     walk-leading (go {q = r} m u) = let (q, b, f) = walk-leading u in (q, (r, m, b), f)
 
-    -- A front, and the one that takes turns with it: only places of F are reached.
+    -- A frontier, and the one that takes turns with it: only places of F are reached.
     record Fits (reached next : List ℕ) : Type 0 where
       long : length reached ≡ 260
       next-long : length next ≡ 260
@@ -139,7 +139,7 @@ module _ (t : Table) (w : InRange t) where
 
       found-is-accepted : someFinal finals (allPlaces reached) ≡ true → accepts t F v ≡ true
       found-is-accepted e =
-          let (k, n, b) = some-of (finalIn finals (allPlaces reached)) (upFrom 0 41) e in
+          let (k, n, b) = some-of (finalPlace finals (allPlaces reached)) (upFrom 0 41) e in
           let (z, f) = and-true-of (bitAt (allPlaces reached) k) (flagAt finals k) b in
           let (s, m, a) = some-of (λ x. reachedAt reached x k) (upFrom 0 256) (sym (all-reached reached k) ∙ z) in
           let (p, c, o, led) = word-of v h (rootReached (t .start)) nowhere root-fits (at k s) (omega (arith, upFrom-of 0 256 m)) a in
@@ -157,7 +157,7 @@ module _ (t : Table) (w : InRange t) where
           let mark : flagAt finals (q .place) ≡ true = g .flag (q .place) (omega arith) (inside .0) ∙ final-to F (q .place) f in
           let among : bitAt (allPlaces reached) (q .place) ≡ true =
           all-reached reached (q .place) ∙ some-to (λ x. reachedAt reached x (q .place)) (upFrom 0 256) (upFrom-to 0 256 (q .state) (omega arith) (omega arith)) z in
-          some-to (finalIn finals (allPlaces reached)) (upFrom 0 41) (upFrom-to 0 41 (q .place) (omega arith) (omega (arith, inside .0)))
+          some-to (finalPlace finals (allPlaces reached)) (upFrom 0 41) (upFrom-to 0 41 (q .place) (omega arith) (omega (arith, inside .0)))
           (and-true-to (bitAt (allPlaces reached) (q .place)) (flagAt finals (q .place)) among mark)
 
       pub found-as-accepted : someFinal finals (allPlaces (wordRead (stepsFrom t) masks v (rootReached (t .start)) nowhere)) ≡ accepts t F v

@@ -11,7 +11,7 @@ use lib.Pow.{shr-shr}
 use borrow.Author.Tests.{eq-eqb, ne-eqb, eqb-true, eqb-false}
 use Rattle.listing.specs.Masks.{bitAt}
 use Rattle.listing.proofs.Laws.MasksFound.{bit-zero}
-use Rattle.words.specs.Fronts.{FirstFrom}
+use Rattle.words.specs.Frontier.{FirstFrom}
 
 -- Bits of what is left after a shift.
 bit-shift : (m k j : ℕ) → bitAt (m / 2 ^ k) j ≡ bitAt m (k + j)

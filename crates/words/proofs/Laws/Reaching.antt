@@ -9,7 +9,7 @@ use lib.Bits.{bitOr}
 use lib.Dec.{eqb}
 use lib.ListN.{length, getD}
 use borrow.Author.Tests.{eqb-true, eq-eqb}
-use Rattle.lts.specs.Lists.{upFrom, some}
+use Rattle.lts.specs.Lists.{upFrom, anyOf}
 use Rattle.lts.specs.Steps.{Step, Table, IsStep, stepsFrom}
 use Rattle.lts.specs.Range.{InRange}
 use Rattle.lts.proofs.Lists.{some-of, some-to, and-true-of, and-true-to, upFrom-of, upFrom-to}
@@ -21,19 +21,19 @@ use Rattle.listing.specs.Positions.{at, Joins}
 use Rattle.listing.proofs.Laws.MasksFound.{bit-or, bit-zero, target-bit}
 use Rattle.listing.proofs.Moves.{leaving}
 use Rattle.listing.proofs.Tests.{leads-of, leads-to}
-use Rattle.words.specs.Fronts.{stateIn, emptied, brought, placesAdded, allPlaces}
+use Rattle.words.specs.Frontier.{hasState, emptied, brought, placesAdded, allPlaces}
 use Rattle.words.specs.Reached.{maskAt, targetsAdded, targetsOf, stepTaken, stepsTaken, placesRead, stateRead, letterRead}
 use Rattle.words.proofs.Laws.Through.{or-none, through-adds, through-good}
-use Rattle.words.proofs.Laws.Fronts.{reachedAt, reached-of, reached-to, and-no, emptied-reached, length-emptied, length-brought, brought-reached}
+use Rattle.words.proofs.Laws.Frontiers.{reachedAt, reached-of, reached-to, and-no, emptied-reached, length-emptied, length-brought, brought-reached}
 
 -- The places of all states.
-pub all-reached : (front : List ℕ) (q : ℕ) → bitAt (allPlaces front) q ≡ some (λ s. reachedAt front s q) (upFrom 0 256)
-all-reached front q =
-    through-adds (placesAdded front) (λ m. bitAt m q) (λ s. reachedAt front s q) (λ m. Unit {0}) 256 (λ s m h u. tt) (λ s m h u. adds s m (stateIn front s)) 256 0 0 (omega arith) tt
-    ∙ ap (λ b. b || some (λ s. reachedAt front s q) (upFrom 0 256)) (bit-zero q)
+pub all-reached : (frontier : List ℕ) (q : ℕ) → bitAt (allPlaces frontier) q ≡ anyOf (λ s. reachedAt frontier s q) (upFrom 0 256)
+all-reached frontier q =
+    through-adds (placesAdded frontier) (λ m. bitAt m q) (λ s. reachedAt frontier s q) (λ m. Unit {0}) 256 (λ s m h u. tt) (λ s m h u. adds s m (hasState frontier s)) 256 0 0 (omega arith) tt
+    ∙ ap (λ b. b || anyOf (λ s. reachedAt frontier s q) (upFrom 0 256)) (bit-zero q)
   where
-    adds : (s m : ℕ) (b : Bool) → bitAt (cond b (bitOr m (getD front s 0)) m) q ≡ (bitAt m q || bitAt (cond b (getD front s 0) 0) q)
-    adds s m true = bit-or m (getD front s 0) q
+    adds : (s m : ℕ) (b : Bool) → bitAt (cond b (bitOr m (getD frontier s 0)) m) q ≡ (bitAt m q || bitAt (cond b (getD frontier s 0) 0) q)
+    adds s m true = bit-or m (getD frontier s 0) q
     adds s m false = or-none (bitAt m q) ∙ ap (λ b. bitAt m q || b) (sym (bit-zero q))
 
 -- The target places of a set of places.
@@ -41,10 +41,10 @@ module _ (masks : List ℕ) (places l q : ℕ) where
   abbrev led : ℕ → Bool
   led k = bitAt places k && bitAt (maskAt masks k l) q
 
-  targets-led : bitAt (targetsOf masks places l) q ≡ some (λ k. bitAt places k && bitAt (maskAt masks k l) q) (upFrom 0 41)
+  targets-led : bitAt (targetsOf masks places l) q ≡ anyOf (λ k. bitAt places k && bitAt (maskAt masks k l) q) (upFrom 0 41)
   targets-led =
       through-adds (targetsAdded masks places l) (λ m. bitAt m q) led (λ m. Unit {0}) 41 (λ k m h u. tt) (λ k m h u. adds k m (bitAt places k)) 41 0 0 (omega arith) tt
-      ∙ ap (λ b. b || some led (upFrom 0 41)) (bit-zero q)
+      ∙ ap (λ b. b || anyOf led (upFrom 0 41)) (bit-zero q)
     where
       adds : (k m : ℕ) (b : Bool) → bitAt (cond b (bitOr m (maskAt masks k l)) m) q ≡ (bitAt m q || (b && bitAt (maskAt masks k l) q))
       adds k m true = bit-or m (maskAt masks k l) q
@@ -82,13 +82,13 @@ module _ (l m : ℕ) where
         case false = or-none (reachedAt next v q) ∙ ap (λ b. reachedAt next v q || b) (and-no (bitAt m q))
 
     steps-add : (steps : List Step) (next : List ℕ) → ((st : Step) → List·Memᴰ st steps → st .to < 256) → length next ≡ 260
-        → reachedAt (stepsTaken l m steps next) v q ≡ (reachedAt next v q || bitAt m q && some (enters l v) steps)
+        → reachedAt (stepsTaken l m steps next) v q ≡ (reachedAt next v q || bitAt m q && anyOf (enters l v) steps)
     unfolding stepsTaken
     steps-add [] next h e = or-none (reachedAt next v q) ∙ ap (λ b. reachedAt next v q || b) (and-no (bitAt m q))
     steps-add (st ∷ steps) next h e =
         steps-add steps (stepTaken l m st next) (λ x i. h x (List·Memᴰ·tail i)) (length-taken st next ∙ e)
-        ∙ (ap (λ b. b || bitAt m q && some (enters l v) steps) (step-adds st next (h st (List·Memᴰ·head refl)) e)
-        ∙ spread (reachedAt next v q) (bitAt m q) (enters l v st) (some (enters l v) steps))
+        ∙ (ap (λ b. b || bitAt m q && anyOf (enters l v) steps) (step-adds st next (h st (List·Memᴰ·head refl)) e)
+        ∙ spread (reachedAt next v q) (bitAt m q) (enters l v st) (anyOf (enters l v) steps))
 
 -- What a state brings, and all states.
 module _ (t : Table) (w : InRange t) (masks : List ℕ) (l : ℕ) where
@@ -103,7 +103,7 @@ module _ (t : Table) (w : InRange t) (masks : List ℕ) (l : ℕ) where
   targetsOn places = targetsOf masks places l
 
   length-state : (reached : List ℕ) (s : ℕ) (next : List ℕ) → length (stateRead (stepsFrom t) masks reached l s next) ≡ length next
-  length-state reached s next = let places = getD reached s 0 in case places (stateIn reached s) (eqb (targetsOn places) 0)
+  length-state reached s next = let places = getD reached s 0 in case places (hasState reached s) (eqb (targetsOn places) 0)
     where
       case : (places : ℕ) (b c : Bool) → length (cond b (cond c next (stepsTaken l (targetsOn places) (stepsFrom t s) next)) next) ≡ length next
       case places false c = refl
@@ -116,33 +116,33 @@ module _ (t : Table) (w : InRange t) (masks : List ℕ) (l : ℕ) where
 
   module _ (v q : ℕ) (few : v < 256) where
     abbrev brings : List ℕ → ℕ → Bool
-    brings reached s = stateIn reached s && (bitAt (targetsOn (getD reached s 0)) q && some (enters l v) (stepsFrom t s))
+    brings reached s = hasState reached s && (bitAt (targetsOn (getD reached s 0)) q && anyOf (enters l v) (stepsFrom t s))
 
     places-add : (places s : ℕ) (next : List ℕ) → s < 256 → length next ≡ 260
-        → reachedAt (placesRead (stepsFrom t s) masks places l next) v q ≡ (reachedAt next v q || bitAt (targetsOn places) q && some (enters l v) (stepsFrom t s))
+        → reachedAt (placesRead (stepsFrom t s) masks places l next) v q ≡ (reachedAt next v q || bitAt (targetsOn places) q && anyOf (enters l v) (stepsFrom t s))
     places-add places s next h e = case (eqb (targetsOn places) 0) refl
       where
         case : (b : Bool) → eqb (targetsOn places) 0 ≡ b
-            → reachedAt (cond b next (stepsTaken l (targetsOn places) (stepsFrom t s) next)) v q ≡ (reachedAt next v q || bitAt (targetsOn places) q && some (enters l v) (stepsFrom t s))
+            → reachedAt (cond b next (stepsTaken l (targetsOn places) (stepsFrom t s) next)) v q ≡ (reachedAt next v q || bitAt (targetsOn places) q && anyOf (enters l v) (stepsFrom t s))
         case true d =
             let none : bitAt (targetsOn places) q ≡ false = ap (λ m. bitAt m q) (eqb-true (targetsOn places) 0 d) ∙ bit-zero q in
-            or-none (reachedAt next v q) ∙ ap (λ b. reachedAt next v q || b && some (enters l v) (stepsFrom t s)) (sym none)
+            or-none (reachedAt next v q) ∙ ap (λ b. reachedAt next v q || b && anyOf (enters l v) (stepsFrom t s)) (sym none)
         case false d = steps-add l (targetsOn places) v q few (stepsFrom t s) next (stay s h) e
 
     state-adds : (reached : List ℕ) (s : ℕ) (next : List ℕ) → s < 256 → length next ≡ 260
         → reachedAt (stateRead (stepsFrom t) masks reached l s next) v q ≡ (reachedAt next v q || brings reached s)
-    state-adds reached s next h e = case (stateIn reached s)
+    state-adds reached s next h e = case (hasState reached s)
       where
         case : (b : Bool) → reachedAt (cond b (placesRead (stepsFrom t s) masks (getD reached s 0) l next) next) v q
-            ≡ (reachedAt next v q || b && (bitAt (targetsOn (getD reached s 0)) q && some (enters l v) (stepsFrom t s)))
+            ≡ (reachedAt next v q || b && (bitAt (targetsOn (getD reached s 0)) q && anyOf (enters l v) (stepsFrom t s)))
         case true = places-add (getD reached s 0) s next h e
         case false = or-none (reachedAt next v q)
 
-    letter-reached : (reached next : List ℕ) → length next ≡ 260 → reachedAt (letterRead (stepsFrom t) masks l reached next) v q ≡ some (brings reached) (upFrom 0 256)
+    letter-reached : (reached next : List ℕ) → length next ≡ 260 → reachedAt (letterRead (stepsFrom t) masks l reached next) v q ≡ anyOf (brings reached) (upFrom 0 256)
     letter-reached reached next e =
         through-adds (stateRead (stepsFrom t) masks reached l) (λ x. reachedAt x v q) (brings reached) (λ x. length x ≡ 260) 256 (λ s x h i. length-state reached s x ∙ i) (λ s x h i. state-adds reached s x h i)
         256 0 (emptied next) (omega arith) (length-emptied next ∙ e)
-        ∙ ap (λ b. b || some (brings reached) (upFrom 0 256)) (emptied-reached next v q few)
+        ∙ ap (λ b. b || anyOf (brings reached) (upFrom 0 256)) (emptied-reached next v q few)
 
     -- The same as moves of the automaton, where only places of F are reached.
     module _ (F : Formula) (small : size F ≤ 40) (d : MasksOf F 0 masks) (few-labels : l ≤ 40) (reached next : List ℕ) (long : length next ≡ 260)
@@ -154,7 +154,7 @@ module _ (t : Table) (w : InRange t) (masks : List ℕ) (l : ℕ) where
       letter-of z =
           let (s, m, a) = some-of (brings reached) (upFrom 0 256) (sym (letter-reached reached next long) ∙ z) in
           let below : s < 256 = omega (arith, upFrom-of 0 256 m) in
-          let (i, b) = and-true-of (stateIn reached s) _ a in
+          let (i, b) = and-true-of (hasState reached s) _ a in
           let (g, c) = and-true-of (bitAt (targetsOn (getD reached s 0)) q) _ b in
           let (st, n, y) = some-of (enters l v) (stepsFrom t s) c in
           let (e, o) = and-true-of (onLabel l st) (eqb v (st .to)) y in
@@ -171,7 +171,7 @@ module _ (t : Table) (w : InRange t) (masks : List ℕ) (l : ℕ) where
           let (i, has) = reached-of reached x j z in
           let inside = within x j h z in
           let st : Step = record { from = x; label = l; to = v } in
-          let enter : some (enters l v) (stepsFrom t x) ≡ true =
+          let enter : anyOf (enters l v) (stepsFrom t x) ≡ true =
           some-to (enters l v) (stepsFrom t x) (steps-are t x st .1 (refl, step)) (and-true-to (onLabel l st) (eqb v v) (eq-eqb l l refl) (eq-eqb v v refl)) in
           let goes : bitAt (targetsOn (getD reached x 0)) q ≡ true =
           targets-led masks (getD reached x 0) l q
@@ -179,4 +179,4 @@ module _ (t : Table) (w : InRange t) (masks : List ℕ) (l : ℕ) where
           (and-true-to (bitAt (getD reached x 0) j) (bitAt (maskAt masks j l) q) has (mask-leads j inside ∙ leads-to F j l q moves)) in
           letter-reached reached next long
           ∙ some-to (brings reached) (upFrom 0 256) (upFrom-to 0 256 x (omega arith) (omega arith))
-          (and-true-to (stateIn reached x) _ i (and-true-to (bitAt (targetsOn (getD reached x 0)) q) _ goes enter))
+          (and-true-to (hasState reached x) _ i (and-true-to (bitAt (targetsOn (getD reached x 0)) q) _ goes enter))

@@ -5,8 +5,8 @@ use Prim.Native.Nat.{ℕ, zero, suc, _+_, _-_, _≤_, _<_}
 use native.Mathlib.Decide.{decLt}
 use native.Mathlib.Numerals.{add-one}
 use native.Mathlib.Omega.{arith}
-use Rattle.lts.specs.Lists.{upFrom, some}
-use Rattle.words.specs.Fronts.{through, FirstFrom}
+use Rattle.lts.specs.Lists.{upFrom, anyOf}
+use Rattle.words.specs.Frontier.{through, FirstFrom}
 
 -- Numbers below n that are not gone through yet, from k on.
 module _ {A : Type 0} (f : ℕ → A → A) (n : ℕ) where
@@ -55,13 +55,13 @@ or-none false = refl
 module _ {A : Type 0} (f : ℕ → A → A) (g : A → Bool) (h : ℕ → Bool) (Good : A → Type 0) (limit : ℕ)
     (good : (k : ℕ) (a : A) → k < limit → Good a → Good (f k a))
     (adds : (k : ℕ) (a : A) → k < limit → Good a → g (f k a) ≡ (g a || h k)) where
-  pub through-adds : (n k : ℕ) (a : A) → k + n ≤ limit → Good a → g (through f n k a) ≡ (g a || some h (upFrom k n))
+  pub through-adds : (n k : ℕ) (a : A) → k + n ≤ limit → Good a → g (through f n k a) ≡ (g a || anyOf h (upFrom k n))
   unfolding through
   through-adds zero k a b x = or-none (g a)
   through-adds (suc n) k a b x =
       let here : k < limit = omega arith in
       through-adds n (suc k) (f k a) (omega arith) (good k a here x)
-      ∙ (ap (λ c. c || some h (upFrom (suc k) n)) (adds k a here x) ∙ or-assoc (g a) (h k) (some h (upFrom (suc k) n)))
+      ∙ (ap (λ c. c || anyOf h (upFrom (suc k) n)) (adds k a here x) ∙ or-assoc (g a) (h k) (anyOf h (upFrom (suc k) n)))
 
 pub through-good : {A : Type 0} (f : ℕ → A → A) (Good : A → Type 0) (limit : ℕ) → ((k : ℕ) (a : A) → k < limit → Good a → Good (f k a))
     → (n k : ℕ) (a : A) → k + n ≤ limit → Good a → Good (through f n k a)

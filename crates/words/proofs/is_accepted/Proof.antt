@@ -6,7 +6,7 @@ use Rattle.lts.specs.Prepared.{tableIn}
 use Rattle.lts.specs.StepArray.{stepsIn}
 use Rattle.labelling.proofs.Laws.Prepared.{formula-long}
 use Rattle.listing.proofs.Laws.Places.{spells}
-use Rattle.words.specs.Fronts.{nowhere, allPlaces}
+use Rattle.words.specs.Frontier.{nowhere, allPlaces}
 use Rattle.words.specs.Reached.{wordRead, rootReached, someFinal}
 use Rattle.words.proofs.Laws.Accepting.{word-same, found-as-accepted}
 use Rattle.words.proofs.is_accepted.Statement.{statement}

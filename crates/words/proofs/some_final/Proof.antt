@@ -2,19 +2,19 @@
 use mathlib.Core.Path.{_≡_, sym, _∙_}
 use Prim.Native.Nat.{_≤_, _-_}
 use native.Mathlib.Omega.{arith}
-use Rattle.words.specs.Reached.{finalIn, someFinal}
+use Rattle.words.specs.Reached.{finalPlace, someFinal}
 use Rattle.words.proofs.Laws.Left.{anyLeft, any-start, any-found, any-later, any-over}
 use Rattle.words.proofs.some_final.Statement.{statement}
 use Rattle.words.proofs.some_final.Tie as tie
 
 abbrev Inv-loop : tie.InvT-loop
-Inv-loop finals places k₀ k = (k ≤ 41) × (someFinal finals places ≡ anyLeft (finalIn finals places) 41 k)
+Inv-loop finals places k₀ k = (k ≤ 41) × (someFinal finals places ≡ anyLeft (finalPlace finals places) 41 k)
 
 abbrev μ-loop : tie.MeasureT-loop
 μ-loop finals places k₀ k = 41 - k
 
 loop-holds : tie.Need-loop-holds Inv-loop μ-loop
-loop-holds c = (omega arith, any-start (finalIn (c .args .finals .now) (c .args .places)) 41)
+loop-holds c = (omega arith, any-start (finalPlace (c .args .finals .now) (c .args .places)) 41)
 
 is-final-requires : tie.Need-is-final-requires Inv-loop μ-loop
 is-final-requires c κs = omega (arith, c .loop-test .taken)

@@ -3,7 +3,7 @@ use mathlib.Core.Path.{_≡_, refl, sym, ap, _∙_}
 use mathlib.Core.Bool.{Bool, true, false}
 use Prim.Native.Nat.{ℕ, _≤_, _<_, _+_, _-_}
 use native.Mathlib.Omega.{arith}
-use Rattle.lts.specs.Lists.{some}
+use Rattle.lts.specs.Lists.{anyOf}
 use Rattle.lts.specs.Steps.{Step}
 use Rattle.lts.specs.StepArray.{stepAt, stepsBetween, stepsIn, spanOf}
 use Rattle.lts.specs.declared.steps.Span.{Span}
@@ -15,7 +15,7 @@ use Rattle.labelling.proofs.steps.some_step.Tie as tie
 
 abbrev Inv-loop : tie.InvT-loop
 Inv-loop steps firsts wanted condition arm s end k₀ k = (spanOf firsts s .from ≤ k) × (end ≡ spanOf firsts s .to)
-    × (someStep wanted (condIn condition) (flagAt arm) (stepsIn steps firsts s) ≡ some (leadsAsWanted wanted (condIn condition) (flagAt arm)) (stepsBetween steps s k end))
+    × (someStep wanted (condIn condition) (flagAt arm) (stepsIn steps firsts s) ≡ anyOf (leadsAsWanted wanted (condIn condition) (flagAt arm)) (stepsBetween steps s k end))
 
 abbrev μ-loop : tie.MeasureT-loop
 μ-loop steps firsts wanted condition arm s end k₀ k = end - k
@@ -48,7 +48,7 @@ loop-holds c =
     let start = c .before in
     let span : c .leaving .result ≡ spanOf (start .args .firsts .now) (start .args .s) = c .leaving .ensures in
     let from = ap (λ (x : Span). x .from) span in
-    (omega (arith, from), ap (λ (x : Span). x .to) span, ap (λ (x : Span). some (leadsAsWanted (start .args .wanted) (condIn (start .args .condition)) (flagAt (start .args .arm .now))) (stepsBetween (start .args .steps .now) (start .args .s) (x .from) (x .to))) (sym span))
+    (omega (arith, from), ap (λ (x : Span). x .to) span, ap (λ (x : Span). anyOf (leadsAsWanted (start .args .wanted) (condIn (start .args .condition)) (flagAt (start .args .arm .now))) (stepsBetween (start .args .steps .now) (start .args .s) (x .from) (x .to))) (sym span))
 
 mul-step : tie.Need-mul-step Inv-loop μ-loop
 mul-step c = omega (arith, placed c)

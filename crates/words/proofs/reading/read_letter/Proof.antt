@@ -8,7 +8,7 @@ use lib.ListN.{getD}
 use borrow.Author.Needs.{needs}
 use Rattle.lts.specs.Steps.{Step}
 use Rattle.lts.specs.StepArray.{stepsIn}
-use Rattle.words.specs.Fronts.{stateIn, emptied, through}
+use Rattle.words.specs.Frontier.{hasState, emptied, through}
 use Rattle.words.specs.Reached.{placesRead, stateRead}
 use Rattle.words.proofs.Laws.Through.{left, left-over, left-skip, left-turn}
 use Rattle.words.proofs.reading.read_letter.Statement.{statement}
@@ -16,12 +16,12 @@ use Rattle.words.proofs.reading.read_letter.Tie as tie
 
 abbrev Inv-loop : tie.InvT-loop
 Inv-loop steps firsts masks letter reached next₀ label s₀ next s =
-    (s < 256 → stateIn reached s ≡ true) × (through (stateRead (stepsIn steps firsts) masks reached label) 256 0 next₀ ≡ left (stateRead (stepsIn steps firsts) masks reached label) 256 s next)
+    (s < 256 → hasState reached s ≡ true) × (through (stateRead (stepsIn steps firsts) masks reached label) 256 0 next₀ ≡ left (stateRead (stepsIn steps firsts) masks reached label) 256 s next)
 
 abbrev μ-loop : tie.MeasureT-loop
 μ-loop steps firsts masks letter reached next₀ label s₀ next s = 256 - s
 
-idle : (from : ℕ → List Step) (masks reached : List ℕ) (label s : ℕ) (next : List ℕ) → stateIn reached s ≡ false → stateRead from masks reached label s next ≡ next
+idle : (from : ℕ → List Step) (masks reached : List ℕ) (label s : ℕ) (next : List ℕ) → hasState reached s ≡ false → stateRead from masks reached label s next ≡ next
 idle from masks reached label s next e = ap (λ b. cond b (placesRead (from s) masks (getD reached s 0) label next) next) e
 
 wide-requires : tie.Need-wide-requires Inv-loop μ-loop
@@ -39,7 +39,7 @@ loop-holds c =
     let label = c .before .before .before .wide .result in
     let from = stepsIn (a .steps .now) (a .firsts .now) in
     let first = c .next-state .ensures in
-    (first .found, left-skip (stateRead from (a .masks .now) (a .reached .now) label) 256 (stateIn (a .reached .now)) (idle from (a .masks .now) (a .reached .now) label) _ first)
+    (first .found, left-skip (stateRead from (a .masks .now) (a .reached .now) label) 256 (hasState (a .reached .now)) (idle from (a .masks .now) (a .reached .now) label) _ first)
 
 mul-read-places : tie.Need-mul-read-places Inv-loop μ-loop
 mul-read-places c = omega (arith, c .loop-test .taken)
@@ -72,7 +72,7 @@ loop-again c =
     let more = placesRead (from (loop .s)) (a .masks .now) (getD (a .reached .now) (loop .s) 0) label (loop .next) in (
       first .found,
       loop .inv .1
-          ∙ left-turn (stateRead from (a .masks .now) (a .reached .now) label) 256 (stateIn (a .reached .now)) (idle from (a .masks .now) (a .reached .now) label) (loop .next) _ taken
+          ∙ left-turn (stateRead from (a .masks .now) (a .reached .now) label) 256 (hasState (a .reached .now)) (idle from (a .masks .now) (a .reached .now) label) (loop .next) _ taken
           (ap (λ b. cond b more (loop .next)) (loop .inv .0 taken) ∙ sym (c .before .read-places .ensures)) first,
     )
 

@@ -2,7 +2,7 @@
 use mathlib.Core.Path.{_≡_, sym, ap, _∙_}
 use borrow.Author.Needs.{needs}
 use Rattle.lts.specs.StepArray.{stepAt}
-use Rattle.words.specs.Fronts.{brought}
+use Rattle.words.specs.Frontier.{brought}
 use Rattle.words.proofs.Laws.Left.{step-taken, step-not-taken}
 use Rattle.words.proofs.reading.take_step.Statement.{statement}
 use Rattle.words.proofs.reading.take_step.Tie as tie

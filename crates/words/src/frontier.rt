@@ -4,7 +4,7 @@ ghost use mathlib.Core.Path.{_≡_};
 ghost use mathlib.Core.Bool.{cond};
 ghost use Prim.Native.Nat.{_^_, _<_, _≤_};
 ghost use Rattle.listing.specs.Masks.{bitAt};
-ghost use Rattle.words.specs.Fronts.{stateIn, emptied, brought, allPlaces, FirstFrom};
+ghost use Rattle.words.specs.Frontier.{hasState, emptied, brought, allPlaces, FirstFrom};
 
 pub fn has(mask: u64, k: usize) -> bool
     requires { ⌜ k < 64 ⌝ }
@@ -35,13 +35,13 @@ pub fn next_bit(mask: u64, k: usize) -> usize
 }
 
 // The first state that has places, from s on; 256 or more if there is none.
-pub fn next_state(front: &[u64; 260], s: usize) -> usize
+pub fn next_state(frontier: &[u64; 260], s: usize) -> usize
     requires { ⌜ s ≤ 256 ⌝ }
-    ensures { λ r. ⌜ FirstFrom (stateIn (now (front .entry))) s 256 r ⌝ }
+    ensures { λ r. ⌜ FirstFrom (hasState (now (frontier .entry))) s 256 r ⌝ }
 {
     let mut v = s;
     while v < 256 {
-        let k = next_bit(front[256 + v / 64], v % 64);
+        let k = next_bit(frontier[256 + v / 64], v % 64);
         if k < 64 {
             return v / 64 * 64 + k;
         }
@@ -50,13 +50,13 @@ pub fn next_state(front: &[u64; 260], s: usize) -> usize
     v
 }
 
-pub fn clear(front: &mut [u64; 260])
-    ensures { λ _. ⌜ now (front .exit) ≡ emptied (now (front .entry)) ⌝ }
+pub fn clear(frontier: &mut [u64; 260])
+    ensures { λ _. ⌜ now (frontier .exit) ≡ emptied (now (frontier .entry)) ⌝ }
 {
-    front[256] = 0;
-    front[257] = 0;
-    front[258] = 0;
-    front[259] = 0;
+    frontier[256] = 0;
+    frontier[257] = 0;
+    frontier[258] = 0;
+    frontier[259] = 0;
 }
 
 fn kept(marked: bool, places: u64) -> u64
@@ -66,25 +66,25 @@ fn kept(marked: bool, places: u64) -> u64
 }
 
 // Brings places to state s. What its mask says from an earlier letter is no place of it.
-pub fn bring(front: &mut [u64; 260], s: usize, places: u64)
+pub fn bring(frontier: &mut [u64; 260], s: usize, places: u64)
     requires { ⌜ s < 256 ⌝ }
-    ensures { λ _. ⌜ now (front .exit) ≡ brought s places (now (front .entry)) ⌝ }
+    ensures { λ _. ⌜ now (frontier .exit) ≡ brought s places (now (frontier .entry)) ⌝ }
 {
-    let marks = front[256 + s / 64];
-    let had = kept(has(marks, s % 64), front[s]);
-    front[s] = had | places;
-    front[256 + s / 64] = marks | bit(s % 64);
+    let marks = frontier[256 + s / 64];
+    let had = kept(has(marks, s % 64), frontier[s]);
+    frontier[s] = had | places;
+    frontier[256 + s / 64] = marks | bit(s % 64);
 }
 
 // The places of all states together.
-pub fn all_places(front: &[u64; 260]) -> u64
-    ensures { λ r. ⌜ r ≡ allPlaces (now (front .entry)) ⌝ }
+pub fn all_places(frontier: &[u64; 260]) -> u64
+    ensures { λ r. ⌜ r ≡ allPlaces (now (frontier .entry)) ⌝ }
 {
     let mut found = 0u64;
-    let mut s = next_state(front, 0);
+    let mut s = next_state(frontier, 0);
     while s < 256 {
-        found = found | front[s];
-        s = next_state(front, s + 1);
+        found = found | frontier[s];
+        s = next_state(frontier, s + 1);
     }
     found
 }

@@ -1,11 +1,11 @@
--- `fronts::next_bit` meets its contract: the zeros below the first bit of what is left after a shift.
+-- `frontiers::next_bit` meets its contract: the zeros below the first bit of what is left after a shift.
 use Prim.Native.Nat.{_/_, _^_}
 use native.Mathlib.Omega.{arith}
 use lib.Count.{trailing-le}
 use Rattle.words.proofs.Laws.Bits.{first-bit}
 use borrow.Author.Needs.{needs}
-use Rattle.words.proofs.fronts.next_bit.Statement.{statement}
-use Rattle.words.proofs.fronts.next_bit.Tie as tie
+use Rattle.words.proofs.frontiers.next_bit.Statement.{statement}
+use Rattle.words.proofs.frontiers.next_bit.Tie as tie
 
 shr-wide : tie.Need-shr-wide
 shr-wide c = search needs

@@ -1,13 +1,13 @@
--- `fronts::bring` meets its contract: both masks are as they are brought.
+-- `frontiers::bring` meets its contract: both masks are as they are brought.
 use mathlib.Core.Path.{_≡_, ap, _∙_}
 use mathlib.Core.Bool.{cond}
 use Prim.Native.Nat.{_+_, _/_, _%_, _^_}
 use lib.Bits.{bitOr}
 use lib.ListN.{getD, set}
-use Rattle.words.specs.Fronts.{marksAt, placesAt, brought}
+use Rattle.words.specs.Frontier.{marksAt, placesAt, brought}
 use borrow.Author.Needs.{needs}
-use Rattle.words.proofs.fronts.bring.Statement.{statement}
-use Rattle.words.proofs.fronts.bring.Tie as tie
+use Rattle.words.proofs.frontiers.bring.Statement.{statement}
+use Rattle.words.proofs.frontiers.bring.Tie as tie
 
 add-marks : tie.Need-add-marks
 add-marks c = search needs
@@ -30,31 +30,31 @@ element-copy-out-kept c = search needs
 kept-requires : tie.Need-kept-requires
 kept-requires c κs = search needs
 
-mul-front : tie.Need-mul-front
-mul-front c = search needs
+mul-frontier : tie.Need-mul-frontier
+mul-frontier c = search needs
 
-element-write-front : tie.Need-element-write-front
-element-write-front c = search needs
+element-write-frontier : tie.Need-element-write-frontier
+element-write-frontier c = search needs
 
 bit-requires : tie.Need-bit-requires
 bit-requires c κs = search needs
 
-add-front : tie.Need-add-front
-add-front c = search needs
+add-frontier : tie.Need-add-frontier
+add-frontier c = search needs
 
-mul-front-2 : tie.Need-mul-front-2
-mul-front-2 c = search needs
+mul-frontier-2 : tie.Need-mul-frontier-2
+mul-frontier-2 c = search needs
 
-element-write-front-2 : tie.Need-element-write-front-2
-element-write-front-2 c = search needs
+element-write-frontier-2 : tie.Need-element-write-frontier-2
+element-write-frontier-2 c = search needs
 
 returns : tie.Need-returns
 unfolding brought
 returns c =
     let a = c .before .before .before .before .before .args in
-    let had : c .before .kept .result ≡ placesAt (a .front .now) (a .s) = c .before .kept .ensures ∙ ap (λ b. cond b (getD (a .front .now) (a .s) 0) 0) (c .before .before .before .has .ensures) in
+    let had : c .before .kept .result ≡ placesAt (a .frontier .now) (a .s) = c .before .kept .ensures ∙ ap (λ b. cond b (getD (a .frontier .now) (a .s) 0) 0) (c .before .before .before .has .ensures) in
     let bit : c .bit .result ≡ 2 ^ (a .s % 64) = c .bit .ensures in
-    (λ i. set (set (a .front .now) (a .s) (bitOr (had i) (a .places))) (256 + a .s / 64) (bitOr (marksAt (a .front .now) (a .s)) (bit i)))
+    (λ i. set (set (a .frontier .now) (a .s) (bitOr (had i) (a .places))) (256 + a .s / 64) (bitOr (marksAt (a .frontier .now) (a .s)) (bit i)))
 
 pub bring-spec : {M : Type 1} → statement M
 bring-spec =
@@ -67,10 +67,10 @@ bring-spec =
     mul-kept
     element-copy-out-kept
     kept-requires
-    mul-front
-    element-write-front
+    mul-frontier
+    element-write-frontier
     bit-requires
-    add-front
-    mul-front-2
-    element-write-front-2
+    add-frontier
+    mul-frontier-2
+    element-write-frontier-2
     returns)

@@ -1,4 +1,4 @@
--- A front: the positions that a word has reached. For each of 256 states the mask of its places; behind them, in four masks, the states
+-- A frontier: the positions that a word has reached. For each of 256 states the mask of its places; behind them, in four masks, the states
 -- that have places. A state without its bit there has none, whatever its own mask says.
 use mathlib.Core.Path.{_≡_}
 use mathlib.Core.Bool.{Bool, true, false, cond}
@@ -9,24 +9,24 @@ use lib.ListN.{getD, set, replicate}
 use Rattle.listing.specs.Masks.{bitAt}
 
 abbrev pub marksAt : List ℕ → ℕ → ℕ
-marksAt front s = getD front (256 + s / 64) 0
+marksAt frontier s = getD frontier (256 + s / 64) 0
 
-abbrev pub stateIn : List ℕ → ℕ → Bool
-stateIn front s = bitAt (marksAt front s) (s % 64)
+abbrev pub hasState : List ℕ → ℕ → Bool
+hasState frontier s = bitAt (marksAt frontier s) (s % 64)
 
 abbrev pub placesAt : List ℕ → ℕ → ℕ
-placesAt front s = cond (stateIn front s) (getD front s 0) 0
+placesAt frontier s = cond (hasState frontier s) (getD frontier s 0) 0
 
 abbrev pub nowhere : List ℕ
 nowhere = replicate 260 0
 
 -- No state has places any more.
 abbrev pub emptied : List ℕ → List ℕ
-emptied front = set (set (set (set front 256 0) 257 0) 258 0) 259 0
+emptied frontier = set (set (set (set frontier 256 0) 257 0) 258 0) 259 0
 
 -- Places brought to a state.
 unfoldable pub brought : ℕ → ℕ → List ℕ → List ℕ
-brought s places front = set (set front s (bitOr (placesAt front s) places)) (256 + s / 64) (bitOr (marksAt front s) (2 ^ (s % 64)))
+brought s places frontier = set (set frontier s (bitOr (placesAt frontier s) places)) (256 + s / 64) (bitOr (marksAt frontier s) (2 ^ (s % 64)))
 
 -- What n numbers from k on make of a, one after the other.
 unfoldable pub through : {A : Type 0} → (ℕ → A → A) → ℕ → ℕ → A → A
@@ -35,10 +35,10 @@ through f (suc n) k a = through f n (suc k) (f k a)
 
 -- The places of all states together.
 abbrev pub placesAdded : List ℕ → ℕ → ℕ → ℕ
-placesAdded front s found = cond (stateIn front s) (bitOr found (getD front s 0)) found
+placesAdded frontier s found = cond (hasState frontier s) (bitOr found (getD frontier s 0)) found
 
 abbrev pub allPlaces : List ℕ → ℕ
-allPlaces front = through (placesAdded front) 256 0 0
+allPlaces frontier = through (placesAdded frontier) 256 0 0
 
 -- The first number from k on that passes a test; n or more, if there is none below n.
 pub record FirstFrom (p : ℕ → Bool) (k n r : ℕ) : Type 0 where

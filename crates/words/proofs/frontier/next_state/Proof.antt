@@ -1,18 +1,18 @@
--- `fronts::next_state` meets its contract: no state from s to before v has places.
+-- `frontiers::next_state` meets its contract: no state from s to before v has places.
 use mathlib.Core.Path.{_≡_}
 use mathlib.Core.Bool.{false}
 use Prim.Native.Nat.{ℕ, _-_, _≤_, _<_}
 use native.Mathlib.Omega.{arith}
-use Rattle.words.specs.Fronts.{stateIn}
-use Rattle.words.proofs.Laws.Fronts.{state-found, state-later}
-use Rattle.words.proofs.fronts.next_state.Statement.{statement}
-use Rattle.words.proofs.fronts.next_state.Tie as tie
+use Rattle.words.specs.Frontier.{hasState}
+use Rattle.words.proofs.Laws.Frontiers.{state-found, state-later}
+use Rattle.words.proofs.frontiers.next_state.Statement.{statement}
+use Rattle.words.proofs.frontiers.next_state.Tie as tie
 
 abbrev Inv-loop : tie.InvT-loop
-Inv-loop front s v₀ v = (s ≤ v) × (v ≤ 256) × ((j : ℕ) → s ≤ j → j < v → stateIn front j ≡ false)
+Inv-loop frontier s v₀ v = (s ≤ v) × (v ≤ 256) × ((j : ℕ) → s ≤ j → j < v → hasState frontier j ≡ false)
 
 abbrev μ-loop : tie.MeasureT-loop
-μ-loop front s v₀ v = 256 - v
+μ-loop frontier s v₀ v = 256 - v
 
 loop-holds : tie.Need-loop-holds Inv-loop μ-loop
 loop-holds c = (omega arith, c .pre, λ j a b. absurd (omega arith))
@@ -39,7 +39,7 @@ returns : tie.Need-returns Inv-loop μ-loop
 returns c =
     let start = c .before .before .before .before .before in
     let loop = c .before .before .before .before .loop in
-    state-found (start .args .front .now) (start .args .s) (loop .v) (c .before .next-bit .result) (c .before .before .before .loop-test .taken) (loop .inv .0) (loop .inv .2) (c .before .next-bit .ensures) (c .if1 .taken)
+    state-found (start .args .frontier .now) (start .args .s) (loop .v) (c .before .next-bit .result) (c .before .before .before .loop-test .taken) (loop .inv .0) (loop .inv .2) (c .before .next-bit .ensures) (c .if1 .taken)
 
 mul-v : tie.Need-mul-v Inv-loop μ-loop
 mul-v c = omega arith
@@ -54,7 +54,7 @@ loop-again : tie.Need-loop-again Inv-loop μ-loop
 loop-again c =
     let start = c .before .before .before .before .before in
     let loop = c .before .before .before .before .loop in
-    let later = state-later (start .args .front .now) (start .args .s) (loop .v) (c .before .next-bit .result) (c .before .before .before .loop-test .taken) (loop .inv .0) (loop .inv .2) (c .before .next-bit .ensures) (c .if1 .left) in
+    let later = state-later (start .args .frontier .now) (start .args .s) (loop .v) (c .before .next-bit .result) (c .before .before .before .loop-test .taken) (loop .inv .0) (loop .inv .2) (c .before .next-bit .ensures) (c .if1 .left) in
     (omega arith, omega arith, later)
 
 returns-2 : tie.Need-returns-2 Inv-loop μ-loop

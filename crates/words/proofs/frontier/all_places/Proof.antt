@@ -1,4 +1,4 @@
--- `fronts::all_places` meets its contract: what the states from s on add is left.
+-- `frontiers::all_places` meets its contract: what the states from s on add is left.
 use mathlib.Core.Path.{_≡_, sym, ap, _∙_}
 use mathlib.Core.Bool.{true, false, cond}
 use mathlib.Core.List.{List}
@@ -6,28 +6,28 @@ use Prim.Native.Nat.{ℕ, _-_, _<_}
 use native.Mathlib.Omega.{arith}
 use lib.Bits.{bitOr}
 use lib.ListN.{getD}
-use Rattle.words.specs.Fronts.{stateIn, placesAdded, allPlaces}
+use Rattle.words.specs.Frontier.{hasState, placesAdded, allPlaces}
 use Rattle.words.proofs.Laws.Through.{left, left-over, left-skip, left-turn}
-use Rattle.words.proofs.fronts.all_places.Statement.{statement}
-use Rattle.words.proofs.fronts.all_places.Tie as tie
+use Rattle.words.proofs.frontiers.all_places.Statement.{statement}
+use Rattle.words.proofs.frontiers.all_places.Tie as tie
 
 abbrev Inv-loop : tie.InvT-loop
-Inv-loop front found₀ s₀ found s = (s < 256 → stateIn front s ≡ true) × (allPlaces front ≡ left (placesAdded front) 256 s found)
+Inv-loop frontier found₀ s₀ found s = (s < 256 → hasState frontier s ≡ true) × (allPlaces frontier ≡ left (placesAdded frontier) 256 s found)
 
 abbrev μ-loop : tie.MeasureT-loop
-μ-loop front found₀ s₀ found s = 256 - s
+μ-loop frontier found₀ s₀ found s = 256 - s
 
-idle : (front : List ℕ) (s found : ℕ) → stateIn front s ≡ false → placesAdded front s found ≡ found
-idle front s found e = ap (λ b. cond b (bitOr found (getD front s 0)) found) e
+idle : (frontier : List ℕ) (s found : ℕ) → hasState frontier s ≡ false → placesAdded frontier s found ≡ found
+idle frontier s found e = ap (λ b. cond b (bitOr found (getD frontier s 0)) found) e
 
 next-state-requires : tie.Need-next-state-requires Inv-loop μ-loop
 next-state-requires c κs = omega arith
 
 loop-holds : tie.Need-loop-holds Inv-loop μ-loop
 loop-holds c =
-    let front = c .before .args .front .now in
+    let frontier = c .before .args .frontier .now in
     let first = c .next-state .ensures in
-    (first .found, left-skip (placesAdded front) 256 (stateIn front) (idle front) 0 first)
+    (first .found, left-skip (placesAdded frontier) 256 (hasState frontier) (idle frontier) 0 first)
 
 mul-found : tie.Need-mul-found Inv-loop μ-loop
 mul-found c = omega arith
@@ -46,17 +46,17 @@ loop-less c = omega (arith, c .next-state2 .ensures .from)
 
 loop-again : tie.Need-loop-again Inv-loop μ-loop
 loop-again c =
-    let front = c .before .before .before .before .before .args .front .now in
+    let frontier = c .before .before .before .before .before .args .frontier .now in
     let loop = c .before .before .before .loop in
     let taken = c .before .before .loop-test .taken in
     let first = c .next-state2 .ensures in
-    let more = bitOr (loop .found) (getD front (loop .s) 0) in
-    (first .found, loop .inv .1 ∙ left-turn (placesAdded front) 256 (stateIn front) (idle front) (loop .found) more taken (ap (λ b. cond b more (loop .found)) (loop .inv .0 taken)) first)
+    let more = bitOr (loop .found) (getD frontier (loop .s) 0) in
+    (first .found, loop .inv .1 ∙ left-turn (placesAdded frontier) 256 (hasState frontier) (idle frontier) (loop .found) more taken (ap (λ b. cond b more (loop .found)) (loop .inv .0 taken)) first)
 
 returns : tie.Need-returns Inv-loop μ-loop
 returns c =
-    let front = c .before .before .before .args .front .now in
-    sym (c .before .loop .inv .1 ∙ left-over (placesAdded front) 256 (c .before .loop .s) (c .before .loop .found) (c .loop-test .left))
+    let frontier = c .before .before .before .args .frontier .now in
+    sym (c .before .loop .inv .1 ∙ left-over (placesAdded frontier) 256 (c .before .loop .s) (c .before .loop .found) (c .loop-test .left))
 
 pub all-places-spec : {M : Type 1} → statement M
 all-places-spec =

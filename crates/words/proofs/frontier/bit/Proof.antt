@@ -1,11 +1,11 @@
--- `fronts::bit` meets its contract: the shifted bit fits.
+-- `frontiers::bit` meets its contract: the shifted bit fits.
 use mathlib.Core.Path.{_∙_}
 use native.Mathlib.Nat.{one-mul}
 use native.Mathlib.Omega.{arith}
 use lib.Pow.{shl-exact}
 use borrow.Author.Needs.{needs}
-use Rattle.words.proofs.fronts.bit.Statement.{statement}
-use Rattle.words.proofs.fronts.bit.Tie as tie
+use Rattle.words.proofs.frontiers.bit.Statement.{statement}
+use Rattle.words.proofs.frontiers.bit.Tie as tie
 
 shl-result : tie.Need-shl-result
 shl-result c = search needs
