@@ -4,12 +4,8 @@ use Prim.Native.Nat.{ℕ}
 use Rattle.actl.specs.Grammar.{Quantifier}
 use Rattle.actl.specs.Reader.{InTerm, termAt, afterNext, afterUntil}
 use Rattle.actl.specs.Cursor.{Fails}
-use Rattle.actl.specs.declared.reading.Labels.the-variants as labels
 use Rattle.actl.specs.declared.reading.Heading.{Heading}
 use Rattle.actl.specs.declared.reading.Heading.the-variants as heading
-use Rattle.actl.specs.declared.reading.Nodes.the-variants as written
-use Rattle.actl.specs.declared.reading.Chain.the-variants as chain
-use Rattle.actl.specs.declared.reading.Reading.the-variants as reading
 use Rattle.actl.specs.Readers.{NextRead, UntilRead, HeadRead}
 
 abbrev pub NextSays : List (List ℕ) → List ℕ → ℕ → ℕ → ℕ → Heading → Type 0

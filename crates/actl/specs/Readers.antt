@@ -19,11 +19,6 @@ use Rattle.actl.specs.Meaning.{actionOfOperand, maskIn, modalOf, formula
 use Rattle.actl.specs.Reading.{unknownAt, firstUnknown}
 use Rattle.actl.specs.Prepared.{Slot, slot, slotOf}
 use Rattle.actl.specs.Cursor.{peek, Token, Moves, Marked}
-use Rattle.actl.specs.declared.reading.Labels.the-variants as labels
-use Rattle.actl.specs.declared.reading.Heading.the-variants as heading
-use Rattle.actl.specs.declared.reading.Nodes.the-variants as written
-use Rattle.actl.specs.declared.reading.Chain.the-variants as chain
-use Rattle.actl.specs.declared.reading.Reading.the-variants as reading
 
 -- The label names of the table in prepared bytes.
 abbrev pub namesIn : List ℕ → List (List ℕ)

@@ -6,10 +6,6 @@ use Rattle.actl.specs.Reader.{oFirst, operandAt}
 use Rattle.actl.specs.Cursor.{Fails}
 use Rattle.actl.specs.declared.reading.Labels.{Labels}
 use Rattle.actl.specs.declared.reading.Labels.the-variants as labels
-use Rattle.actl.specs.declared.reading.Heading.the-variants as heading
-use Rattle.actl.specs.declared.reading.Nodes.the-variants as written
-use Rattle.actl.specs.declared.reading.Chain.the-variants as chain
-use Rattle.actl.specs.declared.reading.Reading.the-variants as reading
 use Rattle.actl.specs.Readers.{OperandRead, SetRead, EnclosedRead, Unclosed}
 
 abbrev pub OperandSays : List (List ℕ) → List ℕ → ℕ → ℕ → Labels → Type 0

@@ -4,8 +4,6 @@ use mathlib.Core.List.{List}
 use Prim.Native.Nat.{ℕ}
 use Rattle.actl.specs.Reader.{tFirst, termAt}
 use Rattle.actl.specs.Cursor.{Fails}
-use Rattle.actl.specs.declared.reading.Labels.the-variants as labels
-use Rattle.actl.specs.declared.reading.Heading.the-variants as heading
 use Rattle.actl.specs.declared.reading.Nodes.{Nodes}
 use Rattle.actl.specs.declared.reading.Nodes.the-variants as written
 use Rattle.actl.specs.declared.reading.Chain.{Chain}

@@ -2,10 +2,9 @@
 use mathlib.Core.Path.{_≡_}
 use mathlib.Core.List.{List}
 use Prim.Native.Nat.{ℕ, _+_}
-use Rattle.lts.specs.Steps.{Step}
+use Rattle.lts.specs.Access.{stepIn}
 use Rattle.lts.specs.Reading.{Header, headerOf, headerLaidOut, labelLaidOut, stepOf, stepLaidOut}
 use Rattle.lts.specs.declared.reading.HeaderFields.{HeaderFields}
-use Rattle.lts.specs.declared.reading.Transition.{Transition}
 use Rattle.lts.specs.declared.reading.HeaderLine.{HeaderLine}
 use Rattle.lts.specs.declared.reading.HeaderLine.the-variants.{Header as LaidHeader, NoHeader}
 use Rattle.lts.specs.declared.reading.LabelLine.{LabelLine}
@@ -18,9 +17,6 @@ use Rattle.lts.specs.Lines.{LineAt, NoLineAt, Labelled}
 abbrev pub header : HeaderFields → Header
 header c = record { states = c .states; labels = c .labels; transitions = c .transitions; start = c .start }
 
-abbrev pub transitionStep : Transition → Step
-transitionStep t = record { from = t .from; label = t .label; to = t .to }
-
 abbrev pub HeaderSays : List ℕ → HeaderLine → Type 0
 HeaderSays s (LaidHeader c) = (l : List ℕ) × LineAt (λ l. headerLaidOut (headerOf l) l) s 0 25 l × (headerOf l ≡ header c)
 HeaderSays s NoHeader = NoLineAt (λ l. headerLaidOut (headerOf l) l) s 0
@@ -30,5 +26,5 @@ LabelSays s at (Label number end) = Labelled s at number end
 LabelSays s at NoLabel = NoLineAt labelLaidOut s at
 
 abbrev pub TransitionSays : List ℕ → ℕ → TransitionLine → Type 0
-TransitionSays s at (Row t) = (l : List ℕ) × LineAt stepLaidOut s at (at + 19) l × (stepOf l ≡ transitionStep t)
+TransitionSays s at (Row t) = (l : List ℕ) × LineAt stepLaidOut s at (at + 19) l × (stepOf l ≡ stepIn t)
 TransitionSays s at NoRow = NoLineAt stepLaidOut s at

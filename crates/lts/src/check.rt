@@ -2,7 +2,7 @@
 use crate::names::Lookup;
 use crate::names::find;
 use crate::names::name_end;
-use crate::prepared::Transition;
+use crate::prepared::below;
 use crate::prepared::byte;
 use crate::prepared::label_count;
 use crate::prepared::start_state;
@@ -14,9 +14,7 @@ ghost use Prim.Native.Nat.{_+_, _*_, _≤_, _<_};
 ghost use lib.ListN.{length};
 ghost use Rattle.lts.specs.Steps.{labels};
 ghost use Rattle.lts.specs.Names.{longestName};
-ghost use Rattle.lts.specs.Reading.{stepBelow};
 ghost use Rattle.lts.specs.Prepared.{tableLength, tableIn, byteAt, preparedTable};
-ghost use Rattle.lts.specs.Access.{stepIn};
 ghost use Rattle.lts.specs.Answers.{Decides, isSome};
 ghost use Rattle.lts.specs.Check.{ZerosFrom, CountsHeld, NameHeld, NewName, NamesHeld, TransitionHeld, TransitionsHeld};
 
@@ -159,17 +157,4 @@ fn transition_held(table: &[u8], states: usize, most: usize, k: usize) -> bool
         return true;
     }
     below(transition_at(table, k - 1), here)
-}
-
-// Rising by (from, label, to).
-fn below(a: Transition, b: Transition) -> bool
-    ensures { λ r. ⌜ r ≡ stepBelow (stepIn a) (stepIn b) ⌝ }
-{
-    if a.from != b.from {
-        return a.from < b.from;
-    }
-    if a.label != b.label {
-        return a.label < b.label;
-    }
-    a.to < b.to
 }

@@ -5,7 +5,8 @@ ghost use Prim.Native.Nat.{_≤_, _<_};
 ghost use lib.ListN.{length};
 ghost use Rattle.lts.specs.Steps.{labels};
 ghost use Rattle.lts.specs.Prepared.{tableLength, tableIn, byteAt};
-ghost use Rattle.lts.specs.Access.{StepRead};
+ghost use Rattle.lts.specs.Reading.{stepBelow};
+ghost use Rattle.lts.specs.Access.{StepRead, stepIn};
 ghost use Rattle.lts.specs.Answers.{Counted};
 
 pub struct Transition {
@@ -59,4 +60,17 @@ pub fn transition_at(table: &[u8], k: usize) -> Transition
         label: byte(table, 647 + at),
         to: byte(table, 648 + at),
     }
+}
+
+// Rising by (from, label, to).
+pub fn below(a: Transition, b: Transition) -> bool
+    ensures { λ r. ⌜ r ≡ stepBelow (stepIn a) (stepIn b) ⌝ }
+{
+    if a.from != b.from {
+        return a.from < b.from;
+    }
+    if a.label != b.label {
+        return a.label < b.label;
+    }
+    a.to < b.to
 }

@@ -5,13 +5,14 @@ ghost use Prim.Native.Nat.{_+_, _*_, _<_, _≤_};
 ghost use lib.Dec.{eqb};
 ghost use lib.ListN.{length, getD, replicate};
 ghost use Rattle.columns.specs.Write.{pasted};
-ghost use Rattle.lts.specs.Reading.{headerInRange, stepInRange, stepBelow};
+ghost use Rattle.lts.specs.Reading.{headerInRange, stepInRange};
 ghost use Rattle.lts.specs.Names.{longestName};
 ghost use Rattle.lts.specs.Prepared.{transitionSlot};
 ghost use Rattle.lts.specs.Replies.{tableReply};
 ghost use Rattle.lts.specs.TableReading.{tableReplied, tableLeft};
 ghost use Rattle.lts.specs.Slots.{risesAfter, headBytes, counted};
-ghost use Rattle.lts.specs.LineReplies.{header, transitionStep, HeaderSays, LabelSays, TransitionSays};
+ghost use Rattle.lts.specs.LineReplies.{header, HeaderSays, LabelSays, TransitionSays};
+ghost use Rattle.lts.specs.Access.{stepIn};
 ghost use Rattle.lts.specs.Progress.{LabelProgress, LabelsRead, TransitionProgress, TransitionsRead};
 ghost use Rattle.lts.specs.Reply.{overwritten};
 ghost use mathlib.Core.List.{_++_};
@@ -19,6 +20,8 @@ use crate::TableReply;
 use crate::names::Lookup;
 use crate::names::find;
 use crate::names::name_end;
+use crate::prepared::Transition;
+use crate::prepared::below;
 use columns::Column;
 
 // What line 1 says.
@@ -38,12 +41,6 @@ pub enum HeaderLine {
 pub enum LabelLine {
     Label(usize, usize),
     NoLabel,
-}
-
-pub struct Transition {
-    pub from: usize,
-    pub label: usize,
-    pub to: usize,
 }
 
 pub enum TransitionLine {
@@ -170,7 +167,7 @@ fn header_in_range(c: HeaderFields) -> bool
 }
 
 fn transition_in_range(c: HeaderFields, t: Transition) -> bool
-    ensures { λ r. ⌜ r ≡ stepInRange (header c) (transitionStep t) ⌝ }
+    ensures { λ r. ⌜ r ≡ stepInRange (header c) (stepIn t) ⌝ }
 {
     if c.states <= t.from {
         return false;
@@ -181,28 +178,10 @@ fn transition_in_range(c: HeaderFields, t: Transition) -> bool
     t.to < c.states
 }
 
-fn below(a: Transition, b: Transition) -> bool
-    ensures { λ r. ⌜ r ≡ stepBelow (transitionStep a) (transitionStep b) ⌝ }
-{
-    if a.from < b.from {
-        return true;
-    }
-    if b.from < a.from {
-        return false;
-    }
-    if a.label < b.label {
-        return true;
-    }
-    if b.label < a.label {
-        return false;
-    }
-    a.to < b.to
-}
-
 // Whether a transition is above the last of the first `count` in the transition slots.
 fn rises(slots: &[u8], count: usize, t: Transition) -> bool
     requires { ⌜ (length (now slots) ≡ 3072) × (count ≤ 1024) ⌝ }
-    ensures { λ r. ⌜ r ≡ risesAfter (now (slots .entry)) count (transitionStep t) ⌝ }
+    ensures { λ r. ⌜ r ≡ risesAfter (now (slots .entry)) count (stepIn t) ⌝ }
 {
     if count == 0 {
         return true;
@@ -218,7 +197,7 @@ fn rises(slots: &[u8], count: usize, t: Transition) -> bool
 
 fn write_transition(slots: &mut [u8], count: usize, t: Transition)
     requires { ⌜ (count * 3 + 3 ≤ length (now slots)) × ((t .from < 256) × ((t .label < 256) × (t .to < 256))) ⌝ }
-    ensures { λ _. ⌜ now (slots .exit) ≡ pasted (now (slots .entry)) (count * 3) (transitionSlot (transitionStep t)) ⌝ }
+    ensures { λ _. ⌜ now (slots .exit) ≡ pasted (now (slots .entry)) (count * 3) (transitionSlot (stepIn t)) ⌝ }
 {
     let i = count * 3;
     slots[i] = t.from as u8;

@@ -8,10 +8,11 @@ use native.Mathlib.Omega.{arith}
 use Rattle.lts.proofs.Laws.Progress.{transition-refused, transition-out-of-range, transition-not-rising, transition-accepted, in-range}
 use Rattle.lts.proofs.Laws.SlotBytes.{step-written, rises-stored}
 use Rattle.columns.specs.Write.{pasted}
-use Rattle.lts.specs.LineReplies.{TransitionSays, header, transitionStep}
+use Rattle.lts.specs.LineReplies.{TransitionSays, header}
+use Rattle.lts.specs.Access.{stepIn}
 use Rattle.lts.specs.Reading.{stepInRange}
 use Rattle.lts.specs.Prepared.{transitionSlot}
-use Rattle.lts.specs.declared.reading.Transition.{Transition}
+use Rattle.lts.specs.declared.prepared.Transition.{Transition}
 use Rattle.lts.specs.declared.reading.TransitionLine.the-variants.{Row}
 use Rattle.lts.proofs.reading.read_transition.Statement.{statement}
 use Rattle.lts.proofs.reading.read_transition.Tie as tie
@@ -30,7 +31,7 @@ says c = subst (TransitionSays (entry c .args .text .now) (entry c .args .at)) (
 abbrev known : tie.Else1 → tie.After-known-told
 known c = c .before .before
 
-in-bounds : (c : tie.Else1) → stepInRange (header (entry (known c) .args .counts)) (transitionStep (read (known c))) ≡ true
+in-bounds : (c : tie.Else1) → stepInRange (header (entry (known c) .args .counts)) (stepIn (read (known c))) ≡ true
 in-bounds c = sym (c .before .transition-in-range .ensures) ∙ not-false _ (c .if1 .left)
 
 add-line : tie.Need-add-line
@@ -63,7 +64,7 @@ returns-2 c =
     let row = c .before .before in
     let a = entry row .args in
     let (l, lies, values) = says row in
-    λ left names steps e f g. transition-out-of-range (header (a .counts)) (a .text .now) (a .at) left names steps (a .at + 19) l lies (transitionStep (read row)) values _ (omega arith)
+    λ left names steps e f g. transition-out-of-range (header (a .counts)) (a .text .now) (a .at) left names steps (a .at + 19) l lies (stepIn (read row)) values _ (omega arith)
     (sym (c .before .transition-in-range .ensures) ∙ not-true _ (c .if1 .taken))
 
 rises-requires : tie.Need-rises-requires
@@ -77,7 +78,7 @@ returns-3 c =
     let ranged = c .before .before .before in
     let row = known ranged in
     let a = entry row .args in
-    let t = transitionStep (read row) in
+    let t = stepIn (read row) in
     let (l, lies, values) = says row in
     λ left names steps e f g. transition-not-rising (header (a .counts)) (a .text .now) (a .at) left names steps (a .at + 19) l lies t values _ (omega arith) (in-bounds ranged)
     (sym (rises-stored (a .slots .now) (a .count) steps t f g) ∙ sym (c .before .rises .ensures) ∙ not-true _ (c .if2 .taken))
@@ -86,7 +87,7 @@ write-transition-requires : tie.Need-write-transition-requires
 write-transition-requires c κs =
     let ranged = c .before .before .before .before in
     let row = known ranged in
-    let r = in-range (header (entry row .args .counts)) (transitionStep (read row)) (in-bounds ranged) in
+    let r = in-range (header (entry row .args .counts)) (stepIn (read row)) (in-bounds ranged) in
     let p = entry row .pre in
     omega arith
 
@@ -103,7 +104,7 @@ returns-4 c =
     let row = known ranged in
     let start = entry row in
     let a = start .args in
-    let t = transitionStep (read row) in
+    let t = stepIn (read row) in
     let (l, lies, values) = says row in
     λ left names steps e f g. record {
       last = t;

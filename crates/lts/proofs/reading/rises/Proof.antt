@@ -4,13 +4,13 @@ use mathlib.Core.Path.{_≡_, sym, ap, _∙_}
 use Prim.Native.Nat.{suc, _+_, _-_, _*_}
 use native.Mathlib.Omega.{arith}
 use Rattle.lts.specs.Slots.{risesAfter}
-use Rattle.lts.specs.LineReplies.{transitionStep}
+use Rattle.lts.specs.Access.{stepIn}
 use Rattle.lts.proofs.reading.rises.Statement.{statement}
 use Rattle.lts.proofs.reading.rises.Tie as tie
 
 returns : tie.Need-returns
 unfolding risesAfter
-returns c = ap (λ n. risesAfter (c .before .before .args .slots .now) n (transitionStep (c .before .before .args .t))) (sym (c .if1 .taken))
+returns c = ap (λ n. risesAfter (c .before .before .args .slots .now) n (stepIn (c .before .before .args .t))) (sym (c .if1 .taken))
 
 sub-i : tie.Need-sub-i
 sub-i c = search needs
@@ -50,7 +50,7 @@ unfolding risesAfter
 returns-2 c =
     let a = c .before .before .before .before .before .before .args in
     let some : a .count ≡ suc (a .count - 1) = omega (arith, c .before .before .before .before .if1 .left) in
-    c .below .ensures ∙ ap (λ n. risesAfter (a .slots .now) n (transitionStep (a .t))) (sym some)
+    c .below .ensures ∙ ap (λ n. risesAfter (a .slots .now) n (stepIn (a .t))) (sym some)
 
 pub rises-spec : {M : Type 1} → statement M
 rises-spec =

@@ -5,8 +5,8 @@ use Prim.Native.Nat.{ℕ}
 use native.Mathlib.Omega.{arith}
 use lib.Dec.{ltb, eqb}
 use borrow.Author.Tests.{le-ltb, eq-eqb, ne-eqb}
-use Rattle.lts.proofs.check.below.Statement.{statement}
-use Rattle.lts.proofs.check.below.Tie as tie
+use Rattle.lts.proofs.prepared.below.Statement.{statement}
+use Rattle.lts.proofs.prepared.below.Tie as tie
 
 or-none : (t : Bool) → t ≡ (t || false)
 or-none true = refl
