@@ -1,23 +1,20 @@
 -- Laws that several proofs cite, by topic.
 pub mod Accepted
-pub mod Skeletons
 pub mod Checked
 pub mod Classed
-pub mod Decided
-pub mod Parsing
 pub mod Forms
-pub mod Inputs
 pub mod Lists
 pub mod Masks
 pub mod Numbers
+pub mod Parsing
 pub mod Polish
 pub mod Prepared
 pub mod Recoded
 pub mod Replies
 pub mod Sets
+pub mod Skeletons
 pub mod Slots
 pub mod Table
 pub mod Unique
-pub mod Walked
 pub mod Walks
 pub mod Widths

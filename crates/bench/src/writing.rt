@@ -1,8 +1,8 @@
 // Text to standard output; what `explain` answered, as text.
 use explainer::ExplainReply;
-use explainer::print::write_listing;
-use explainer::print::write_refusal;
 use libc::STDOUT_FILENO;
+use listing_text::print::write_listing;
+use listing_text::print::write_refusal;
 
 pub fn print(text: &[u8]) {
     io::write_all(STDOUT_FILENO, text);

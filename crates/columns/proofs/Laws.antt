@@ -1,11 +1,10 @@
--- Laws of bytes and of numbers in six columns.
+-- Laws that several proofs cite, by topic.
 pub mod Bytes
 pub mod Columns
-pub mod Figures
-pub mod Copying
-pub mod Pasting
-pub mod Decimal
--- Laws that several proofs cite.
-pub mod Compared
 pub mod ColumnsRead
+pub mod Compared
+pub mod Copying
+pub mod Decimal
+pub mod Figures
+pub mod Pasting
 pub mod Scan

@@ -1,8 +1,7 @@
 // Writing numbers in six columns.
 ghost use mathlib.Core.Path.{_≡_};
-ghost use mathlib.Core.List.{_++_};
-ghost use Prim.Native.Nat.{ℕ, _+_, _≤_};
-ghost use lib.ListN.{length, take, drop};
+ghost use Prim.Native.Nat.{_+_, _≤_};
+ghost use lib.ListN.{length, take};
 ghost use Rattle.columns.specs.Columns.{column, numbersLine};
 ghost use Rattle.columns.specs.Write.{Spread, pasted};
 

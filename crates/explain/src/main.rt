@@ -1,10 +1,10 @@
 // The program `explain`: reads table.txt and formula.txt in the folder that it runs in, and writes the listing or the refusal's line.
 ghost use Rattle.io.specs.Counts.{Counts};
-use explainer::files::Scanned;
-use explainer::files::explain_files;
-use explainer::files::scan_chunk;
-use explainer::files::scan_start;
 use libc::STDOUT_FILENO;
+use listing_text::files::Scanned;
+use listing_text::files::explain_files;
+use listing_text::files::scan_chunk;
+use listing_text::files::scan_start;
 
 // The formula file so far, and whether there may be more of it.
 struct Portion {

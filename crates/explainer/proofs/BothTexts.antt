@@ -12,26 +12,26 @@ use Rattle.lts.specs.Reply.{Reply, accepted, refusal, unless, overwritten, left
 use Rattle.lts.specs.Steps.{Table, labels}
 use Rattle.lts.specs.Reading.{readTable}
 use Rattle.lts.specs.Prepared.{tableLength, tableBytes, preparedTable}
-use Rattle.lts.specs.Replies as lts
+use Rattle.table_text.specs.Replies as lts
 use Rattle.lts.specs.TableReading.{tableReading, tableReplied, tableLeft}
-use Rattle.lts.specs.declared.TableReply.{TableReply}
-use Rattle.lts.specs.declared.TableReply.the-variants as tables
+use Rattle.table_text.specs.declared.TableReply.{TableReply}
+use Rattle.table_text.specs.declared.TableReply.the-variants as tables
 use Rattle.lts.proofs.Laws.TableBytes.{table-bytes-length}
 use Rattle.lts.proofs.Laws.Texts.{text-of-read}
 use Rattle.actl.specs.Formulas.{Formula, size}
 use Rattle.actl.specs.Reading.{readFormula}
 use Rattle.actl.specs.Prepared.{formulaLength, formulaBytes}
-use Rattle.actl.specs.Replies as actl
+use Rattle.formula_text.specs.Replies as actl
 use Rattle.actl.specs.FormulaReading.{withTable, formulaReading, formulaReplied, formulaLeft}
-use Rattle.actl.specs.declared.FormulaReply.{FormulaReply}
-use Rattle.actl.specs.declared.FormulaReply.the-variants as formulas
+use Rattle.formula_text.specs.declared.FormulaReply.{FormulaReply}
+use Rattle.formula_text.specs.declared.FormulaReply.the-variants as formulas
 use Rattle.actl.proofs.Laws.Forms.{length-form}
-use Rattle.explainer.specs.Interface.{numberIn, figureIn}
-use Rattle.explainer.specs.Explanation.{andThen}
+use Rattle.replies.specs.Interface.{numberIn, figureIn}
+use Rattle.explanations.specs.Explanation.{andThen}
 use Rattle.explainer.specs.Readings.{ReadBoth}
-use Rattle.explainer.specs.BothTexts.{Read, readings}
+use Rattle.explanations.specs.BothTexts.{Read, readings}
 use Rattle.explainer.specs.declared.readings.BothRead.the-variants.{Ready, Refused}
-use Rattle.explainer.proofs.Explained.{reading-leaves-table, reading-leaves-formula}
+use Rattle.explanations.proofs.Explained.{reading-leaves-table, reading-leaves-formula}
 
 -- A reply with the number 0 accepted; any other is the refusal that number and figure say.
 pub table-zero : (r : TableReply) → numberIn (lts.tableReply r) ≡ 0 → lts.tableReply r ≡ accepted tt

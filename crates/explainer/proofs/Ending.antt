@@ -10,21 +10,21 @@ use Rattle.lts.specs.Reply.{Reply, accepted, refusal, overwritten, leftIn, answ
 use Rattle.lts.specs.Prepared.{tableLength, tableBytes}
 use Rattle.actl.specs.Formulas.{Formula, tru, not, or, ex, ax, eu, euThen, nodes, classOf}
 use Rattle.actl.specs.Prepared.{formulaLength, formulaBytes}
-use Rattle.actl.specs.Inputs.{unpreparedNumber}
-use Rattle.actl.specs.declared.inputs.Unprepared.{Unprepared}
-use Rattle.actl.specs.declared.inputs.Unprepared.the-variants.{TableForeign, FormulaForeign, BufferShort}
-use Rattle.labelling.specs.Holds as holds
+use Rattle.formula_check.specs.Inputs.{unpreparedNumber}
+use Rattle.formula_check.specs.declared.inputs.Unprepared.{Unprepared}
+use Rattle.formula_check.specs.declared.inputs.Unprepared.the-variants.{TableForeign, FormulaForeign, BufferShort}
+use Rattle.satisfaction.specs.Holds as holds
 use Rattle.labelling.specs.Replies.{verdictReply, verdictReplied}
 use Rattle.labelling.specs.declared.VerdictReply.{VerdictReply}
-use Rattle.listing.specs.Listing.{Listing, listing}
-use Rattle.listing.specs.Bytes.{rowsBytes, edgesBytes}
-use Rattle.automaton.specs.Replies.{buildReply}
-use Rattle.listing.specs.Build.{fitted, built, counts, buildReplied, rowsLeft, edgesLeft}
-use Rattle.automaton.specs.declared.BuildReply.{BuildReply}
-use Rattle.automaton.specs.declared.BuildReply.the-variants as replies
-use Rattle.explainer.specs.Interface.{numberIn, figureIn, edgesIn}
+use Rattle.automaton.specs.Listing.{Listing, listing}
+use Rattle.automaton.specs.Bytes.{rowsBytes, edgesBytes}
+use Rattle.building.specs.Replies.{buildReply}
+use Rattle.automaton.specs.Build.{fitted, built, counts, buildReplied, rowsLeft, edgesLeft}
+use Rattle.building.specs.declared.BuildReply.{BuildReply}
+use Rattle.building.specs.declared.BuildReply.the-variants as replies
+use Rattle.replies.specs.Interface.{numberIn, figureIn, edgesIn}
 use Rattle.explainer.specs.Readings.{Outcome}
-use Rattle.explainer.specs.BothTexts.{Read, HoldsBoth, listingOf, ClassIn}
+use Rattle.explanations.specs.BothTexts.{Read, HoldsBoth, listingOf, ClassIn}
 use Rattle.explainer.specs.declared.ExplainReply.the-variants.{Explained, Refused}
 use Rattle.explainer.proofs.Explaining.{Prepared, on-prepared}
 

@@ -23,10 +23,10 @@ use Rattle.actl.specs.FormulaReading.{onPrepared, withTable, withFormula, longE
 use Rattle.actl.proofs.Laws.Forms.{length-form}
 use Rattle.actl.proofs.Laws.Prepared as formulas
 use Rattle.actl.proofs.Laws.Accepted.{reading-leaves-form}
-use Rattle.listing.specs.Listing.{Listing, listing}
-use Rattle.listing.specs.Build.{fitted}
-use Rattle.explainer.specs.Explanation.{Explanation, andThen, explanation}
-use Rattle.explainer.specs.BothTexts.{Read, readings}
+use Rattle.automaton.specs.Listing.{Listing, listing}
+use Rattle.automaton.specs.Build.{fitted}
+use Rattle.explanations.specs.Explanation.{Explanation, andThen, explanation}
+use Rattle.explanations.specs.BothTexts.{Read, readings}
 use Rattle.explainer.proofs.BothTexts.{enough}
 
 abbrev both : Table → Formula → Read

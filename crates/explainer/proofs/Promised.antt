@@ -13,19 +13,19 @@ use Rattle.lts.specs.Steps.{labels}
 use Rattle.lts.specs.Prepared.{tableLength, tableBytes, preparedTable}
 use Rattle.actl.specs.Prepared.{formulaLength, formulaBytes, preparedFormula}
 use Rattle.actl.specs.FormulaReading.{longEnough}
-use Rattle.listing.specs.Build.{Counts}
-use Rattle.explainer.specs.Explained.{FromTexts}
-use Rattle.explainer.specs.Explanation.{Explanation, andThen, countsOf, explainReplied, rowsExplained, edgesExplained, explanation, explaining}
+use Rattle.automaton.specs.Build.{Counts}
+use Rattle.explanations.specs.Explained.{FromTexts}
+use Rattle.explanations.specs.Explanation.{Explanation, andThen, countsOf, explainReplied, rowsExplained, edgesExplained, explanation, explaining}
 use Rattle.explainer.specs.Replies.{explainReply}
 use Rattle.explainer.specs.Readings.{ReadBoth, Outcome}
-use Rattle.explainer.specs.BothTexts.{Read, readings, HoldsBoth, listingOf}
+use Rattle.explanations.specs.BothTexts.{Read, readings, HoldsBoth, listingOf}
 use Rattle.explainer.specs.Promise.{Promise}
 use Rattle.explainer.specs.declared.ExplainReply.{ExplainReply}
 use Rattle.explainer.specs.declared.ExplainReply.the-variants as replies
 use Rattle.explainer.specs.declared.readings.BothRead.the-variants.{Ready, Refused}
 use Rattle.explainer.proofs.BothTexts.{enough}
 use Rattle.explainer.proofs.Explaining.{explanation-of-readings, readings-prepared}
-use Rattle.explainer.proofs.Explained.{explain-explains}
+use Rattle.explanations.proofs.Explained.{explain-explains}
 
 stopped : {A : Type 0} (b : Bool) (n f : ℕ) (r : Reply A) → b ≡ false → unless b n f r ≡ refusal n f
 stopped true n f r e = absurd (let z : _≡_ {A = ℕ} 0 1 = cc in omega arith)

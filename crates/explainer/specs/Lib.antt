@@ -1,13 +1,3 @@
-pub mod Shown
-pub mod Traces
-pub mod Positions
-pub mod Explained
-pub mod Explanation
-pub mod Printed
-pub mod Files
-pub mod BenchSheet
-pub mod Interface
-pub mod Readings
 pub mod Promise
+pub mod Readings
 pub mod Replies
-pub mod BothTexts

@@ -2,8 +2,8 @@
 use mathlib.Core.List.{List}
 use Prim.Native.Nat.{ℕ}
 use Rattle.lts.specs.Reply.{answers}
-use Rattle.explainer.specs.Explained.{FromTexts}
-use Rattle.explainer.specs.Explanation.{countsOf, explaining}
+use Rattle.explanations.specs.Explained.{FromTexts}
+use Rattle.explanations.specs.Explanation.{countsOf, explaining}
 use Rattle.explainer.specs.Replies.{explainReply}
 use Rattle.explainer.specs.Readings.{Outcome}
 use Rattle.explainer.specs.declared.ExplainReply.{ExplainReply}

@@ -5,12 +5,12 @@ use Prim.Native.Nat.{ℕ}
 use Rattle.lts.specs.Reply.{Reply, accepted, refusal}
 use Rattle.lts.specs.Prepared.{tableBytes}
 use Rattle.actl.specs.Prepared.{formulaBytes}
-use Rattle.explainer.specs.Explanation.{Explanation, explainReplied, tableExplained, formulaExplained, rowsExplained, edgesExplained}
+use Rattle.explanations.specs.Explanation.{Explanation, explainReplied, tableExplained, formulaExplained, rowsExplained, edgesExplained}
 use Rattle.explainer.specs.Replies.{explainReply}
 use Rattle.explainer.specs.declared.ExplainReply.{ExplainReply}
 use Rattle.explainer.specs.declared.readings.BothRead.{BothRead}
 use Rattle.explainer.specs.declared.readings.BothRead.the-variants.{Ready, Refused}
-use Rattle.explainer.specs.BothTexts.{Read}
+use Rattle.explanations.specs.BothTexts.{Read}
 
 -- Prepared: the prepared bytes of what was read; refused: the number and the figure.
 abbrev pub ReadBoth : Reply Read → BothRead → List ℕ → List ℕ → Type 0

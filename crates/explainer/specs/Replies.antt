@@ -1,9 +1,9 @@
 -- The number and the figures of each case that `explain` answers.
 use Rattle.lts.specs.Reply.{Reply, accepted, refusal}
-use Rattle.labelling.specs.Holds.{verdict}
+use Rattle.satisfaction.specs.Holds.{verdict}
 use Rattle.explainer.specs.declared.ExplainReply.{ExplainReply}
 use Rattle.explainer.specs.declared.ExplainReply.the-variants.{Explained, Refused}
-use Rattle.explainer.specs.Explanation.{Summary}
+use Rattle.explanations.specs.Explanation.{Summary}
 
 abbrev pub explainReply : ExplainReply → Reply Summary
 explainReply (Explained verdict class rows edges) = accepted (record { verdict = verdict; class = class; rows = rows; edges = edges })

@@ -3,16 +3,16 @@ ghost use mathlib.Core.Path.{_≡_};
 ghost use Prim.Native.Nat.{_≤_};
 ghost use lib.ListN.{length};
 ghost use Rattle.explainer.specs.Readings.{Outcome};
-ghost use Rattle.explainer.specs.BothTexts.{Read, HoldsBoth, listingOf, ClassIn};
+ghost use Rattle.explanations.specs.BothTexts.{Read, HoldsBoth, listingOf, ClassIn};
 use crate::ExplainReply;
-use crate::interface::build_edges;
-use crate::interface::build_figure;
-use crate::interface::build_number;
-use crate::interface::verdict_figure;
-use actl::walk::shape_of;
-use automaton::build;
+use building::build;
 use bytes::copy;
+use formulas::walk::shape_of;
 use labelling::verdict;
+use replies::build_edges;
+use replies::build_figure;
+use replies::build_number;
+use replies::verdict_figure;
 
 fn wide(class: u8) -> u64
     ensures { λ r. ⌜ r ≡ class ⌝ }

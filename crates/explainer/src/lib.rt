@@ -5,10 +5,7 @@ use crate::readings::BothRead;
 use crate::readings::read_both;
 
 pub mod exports;
-pub mod files;
 pub mod finishing;
-mod interface;
-pub mod print;
 pub mod readings;
 
 // What `explain` answers: verdict, class, rows and edges, or the number and the figure of a refusal.

@@ -2,13 +2,13 @@
 ghost use mathlib.Core.Path.{_≡_};
 ghost use lib.ListN.{length};
 ghost use Rattle.explainer.specs.Readings.{ReadBoth};
-ghost use Rattle.explainer.specs.BothTexts.{readings};
-use crate::interface::formula_figure;
-use crate::interface::formula_number;
-use crate::interface::table_figure;
-use crate::interface::table_number;
-use actl::read_formula;
-use lts::reading::read_table;
+ghost use Rattle.explanations.specs.BothTexts.{readings};
+use formula_text::read_formula;
+use replies::formula_figure;
+use replies::formula_number;
+use replies::table_figure;
+use replies::table_number;
+use table_text::read_table;
 
 pub enum BothRead {
     Ready,

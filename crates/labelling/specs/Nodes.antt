@@ -10,8 +10,8 @@ use Rattle.lts.specs.Steps.{Table, labels}
 use Rattle.lts.specs.Prepared.{tableIn}
 use Rattle.actl.specs.Formulas.{Formula, tru, size, nodes}
 use Rattle.actl.specs.Prepared.{preparedFormula}
-use Rattle.labelling.specs.Holds.{holds}
-use Rattle.labelling.specs.Flags.{flagAt, NodeFlags}
+use Rattle.satisfaction.specs.Holds.{holds}
+use Rattle.until_search.specs.Flags.{flagAt, NodeFlags}
 
 -- The row of node k, where there is a place for it.
 pub record RowRead (k : ℕ) (flags row : List Bool) : Type 0 where

@@ -3,8 +3,8 @@ use mathlib.Core.List.{List}
 use Prim.Native.Nat.{ℕ}
 use Rattle.lts.specs.Reply.{Reply, accepted}
 use Rattle.actl.specs.FormulaReading.{onPrepared}
-use Rattle.actl.specs.Inputs.{unprepared}
-use Rattle.labelling.specs.Holds.{verdict}
+use Rattle.formula_check.specs.Inputs.{unprepared}
+use Rattle.satisfaction.specs.Holds.{verdict}
 use Rattle.labelling.specs.declared.VerdictReply.{VerdictReply}
 use Rattle.labelling.specs.declared.VerdictReply.the-variants.{Holds, Fails, Refused}
 

@@ -1,16 +1,13 @@
 // Where the nodes of a formula hold, and the verdict.
-use actl::inputs::Inputs;
-use actl::inputs::Unprepared;
-use actl::inputs::check_inputs;
-use actl::walk::shape_of;
-use lts::prepared::start_state;
-use lts::steps::steps_of;
+use formula_check::inputs::Inputs;
+use formula_check::inputs::Unprepared;
+use formula_check::inputs::check_inputs;
+use formulas::walk::shape_of;
+use tables::prepared::start_state;
+use tables::steps::steps_of;
 
-pub mod conditions;
-mod links;
 pub mod nodes;
 mod steps;
-mod until;
 
 ghost use mathlib.Core.Path.{_≡_};
 ghost use Rattle.lts.specs.Steps.{labels};

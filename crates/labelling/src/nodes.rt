@@ -1,19 +1,20 @@
 // Where every node of a prepared formula holds: from the last node to the first, so that arms come before their node.
-use crate::links::entering;
 use crate::steps::label_at_once;
-use crate::until::until;
-use actl::node::Node;
-use actl::node::node_at;
-use actl::node::node_count;
+use formulas::node::Node;
+use formulas::node::node_at;
+use formulas::node::node_count;
+use formulas::walk::right_arm;
+use until_search::links::entering;
+use until_search::until;
 ghost use mathlib.Core.Path.{_≡_};
 ghost use Prim.Native.Nat.{_+_, _<_};
 ghost use lib.ListN.{length, getD};
 ghost use Rattle.lts.specs.Steps.{labels};
 ghost use Rattle.lts.specs.Prepared.{tableIn};
 ghost use Rattle.lts.specs.HoldsTable.{HoldsTable};
-ghost use Rattle.lts.specs.StepArray.{StepsOf};
-ghost use Rattle.labelling.specs.Flags.{flagAt, nodeHolds, Flags};
-ghost use Rattle.labelling.specs.Links.{Linked};
+ghost use Rattle.tables.specs.StepArray.{StepsOf};
+ghost use Rattle.until_search.specs.Flags.{flagAt, nodeHolds, Flags};
+ghost use Rattle.until_search.specs.Links.{Linked};
 ghost use Rattle.labelling.specs.Nodes.{RowRead, RowPut, RowsFrom, NodesLabelled};
 ghost use Rattle.actl.specs.HoldsFormula.{HoldsFormula, ArmsEnd};
 
@@ -70,20 +71,6 @@ fn put_row(flags: &mut [bool; 10240], k: usize, found: &[bool; 256])
         flags[k * 256 + s] = found[s];
         s += 1;
     }
-}
-
-fn wide(byte: u8) -> usize
-    ensures { λ r. ⌜ r ≡ byte ⌝ }
-{
-    byte as usize
-}
-
-// The right arm of node k, if it has one: it stands behind the whole left arm.
-pub fn right_arm(ends: &[u8; 40], k: usize) -> usize
-    requires { ⌜ k < 40 ⌝ }
-    ensures { λ r. ⌜ (k + 1 < 40 → r ≡ getD (now (ends .entry)) (k + 1) 0) ⌝ }
-{
-    if k + 1 < 40 { wide(ends[k + 1]) } else { 40 }
 }
 
 fn label_row(

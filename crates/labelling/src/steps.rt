@@ -1,23 +1,23 @@
 // What holds at a state by the steps that leave it, idle steps included.
-use actl::node::Condition;
-use actl::node::Node;
-use lts::steps::label_of;
-use lts::steps::leaving;
-use lts::steps::state_of;
+use formulas::node::Condition;
+use formulas::node::Node;
+use tables::steps::label_of;
+use tables::steps::leaving;
+use tables::steps::state_of;
 ghost use mathlib.Core.Path.{_≡_};
 ghost use mathlib.Core.Bool.{_&&_};
 ghost use Prim.Native.Nat.{_<_};
-ghost use Rattle.lts.specs.StepArray.{stepsIn, StepsFit};
+ghost use Rattle.tables.specs.StepArray.{stepsIn, StepsFit};
 ghost use Rattle.actl.specs.Actions as actions;
-ghost use Rattle.actl.specs.Access.{condIn};
-ghost use Rattle.labelling.specs.Flags.{flagAt, asWanted, someStep, atOnce, Flags};
+ghost use Rattle.formulas.specs.Access.{condIn};
+ghost use Rattle.until_search.specs.Flags.{flagAt, asWanted, someStep, atOnce, Flags};
 
 fn leads(wanted: bool, condition: Condition, label: usize, there: bool) -> bool
     requires { ⌜ label < 64 ⌝ }
     ensures { λ r. ⌜ r ≡ asWanted wanted (actions.meets (condIn condition) label && there) ⌝ }
 {
     if there {
-        crate::conditions::meets(condition, label) == wanted
+        formulas::conditions::meets(condition, label) == wanted
     } else {
         !wanted
     }

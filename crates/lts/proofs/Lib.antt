@@ -1,4 +1,4 @@
+pub mod Examples
+pub mod Laws
 pub mod Lists
 pub mod StepsFrom
-pub mod Laws
-pub mod Examples

@@ -1,7 +1,2 @@
--- Laws that the proofs of functions cite, by topic.
-pub mod Bits
-pub mod Through
-pub mod Frontiers
+-- Laws that several proofs cite, by topic.
 pub mod Left
-pub mod Reaching
-pub mod Accepting

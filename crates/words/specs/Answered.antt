@@ -9,8 +9,8 @@ use Rattle.lts.specs.Prepared.{tableIn}
 use Rattle.actl.specs.Formulas.{Formula}
 use Rattle.actl.specs.Prepared.{preparedFormula}
 use Rattle.actl.specs.Reading.{unlessFound}
-use Rattle.listing.specs.Words.{accepts}
-use Rattle.listing.specs.Bytes.{bitOf}
+use Rattle.automaton.specs.Words.{accepts}
+use Rattle.automaton.specs.Bytes.{bitOf}
 use Rattle.words.specs.Replies.{wordReply, badLetter}
 use Rattle.words.specs.declared.WordReply.{WordReply}
 

@@ -1,4 +1,2 @@
-pub mod Replies
-pub mod Frontier
-pub mod Reached
 pub mod Answered
+pub mod Replies

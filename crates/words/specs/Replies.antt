@@ -8,9 +8,9 @@ use Rattle.lts.specs.Reply.{Reply, accepted, refusal}
 use Rattle.lts.specs.Steps.{labels}
 use Rattle.actl.specs.Reading.{unlessFound}
 use Rattle.actl.specs.FormulaReading.{onPrepared}
-use Rattle.actl.specs.Inputs.{unprepared}
-use Rattle.listing.specs.Words.{accepts}
-use Rattle.listing.specs.Bytes.{bitOf}
+use Rattle.formula_check.specs.Inputs.{unprepared}
+use Rattle.automaton.specs.Words.{accepts}
+use Rattle.automaton.specs.Bytes.{bitOf}
 use Rattle.words.specs.declared.WordReply.{WordReply}
 use Rattle.words.specs.declared.WordReply.the-variants.{Accepted, NotAccepted, WordBad, Refused}
 

@@ -1,19 +1,19 @@
 // Whether the automaton accepts a word: the positions that its letters reach, as a mask of places for each state. No rows are built.
-use crate::frontier::has;
+use crate::frontiers::has;
 use crate::reading::read_word;
 use crate::reading::wide;
-use actl::inputs::Inputs;
-use actl::inputs::Unprepared;
-use actl::inputs::check_inputs;
-use actl::walk::shape_of;
-use listing::masks::final_places;
-use listing::masks::target_masks;
-use lts::names::Lookup;
-use lts::prepared::label_count;
-use lts::prepared::start_state;
-use lts::steps::steps_of;
+use formula_check::inputs::Inputs;
+use formula_check::inputs::Unprepared;
+use formula_check::inputs::check_inputs;
+use formulas::walk::shape_of;
+use tables::names::Lookup;
+use tables::prepared::label_count;
+use tables::prepared::start_state;
+use tables::steps::steps_of;
+use target_masks::final_places;
+use target_masks::target_masks;
 
-mod frontier;
+mod frontiers;
 mod reading;
 
 ghost use mathlib.Core.Path.{_≡_};
@@ -21,12 +21,12 @@ ghost use Prim.Native.Nat.{_≤_};
 ghost use Rattle.lts.specs.Reply.{accepted};
 ghost use Rattle.lts.specs.Steps.{labels};
 ghost use Rattle.lts.specs.Prepared.{tableIn};
-ghost use Rattle.lts.specs.Access.{foundIn};
+ghost use Rattle.tables.specs.Access.{foundIn};
 ghost use Rattle.lts.specs.HoldsTable.{HoldsTable};
 ghost use Rattle.actl.specs.HoldsFormula.{HoldsFormula};
-ghost use Rattle.listing.specs.Bytes.{bitOf};
+ghost use Rattle.automaton.specs.Bytes.{bitOf};
 ghost use Rattle.words.specs.Replies.{badLetter, wordReply, wordReplied};
-ghost use Rattle.words.specs.Reached.{finalPlace, someFinal, Letters, AcceptsAnswer};
+ghost use Rattle.frontier.specs.Reached.{finalPlace, someFinal, Letters, AcceptsAnswer};
 ghost use Rattle.words.specs.Answered.{Answered};
 
 // What `accepts` answers. specs/Replies.antt lists the number and the figure of each case.

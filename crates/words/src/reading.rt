@@ -1,18 +1,18 @@
 // The letters of a word, one after the other: the positions that they reach. No rows are built.
-use crate::frontier::all_places;
-use crate::frontier::bring;
-use crate::frontier::clear;
-use crate::frontier::next_bit;
-use crate::frontier::next_state;
-use listing::masks::column;
-use lts::steps::label_of;
-use lts::steps::leaving;
-use lts::steps::state_of;
+use crate::frontiers::all_places;
+use crate::frontiers::bring;
+use crate::frontiers::clear;
+use crate::frontiers::next_bit;
+use crate::frontiers::next_state;
+use tables::steps::label_of;
+use tables::steps::leaving;
+use tables::steps::state_of;
+use target_masks::column;
 ghost use mathlib.Core.Path.{_≡_};
 ghost use Prim.Native.Nat.{ℕ, _<_, _≤_};
-ghost use Rattle.lts.specs.StepArray.{stepAt, stepsIn, StepsFit};
-ghost use Rattle.words.specs.Frontier.{nowhere, allPlaces};
-ghost use Rattle.words.specs.Reached.{targetsOf, stepTaken, stepsTaken, placesRead, letterRead, wordRead, rootReached, Letters};
+ghost use Rattle.tables.specs.StepArray.{stepAt, stepsIn, StepsFit};
+ghost use Rattle.frontier.specs.Frontier.{nowhere, allPlaces};
+ghost use Rattle.frontier.specs.Reached.{targetsOf, stepTaken, stepsTaken, placesRead, letterRead, wordRead, rootReached, Letters};
 
 pub fn wide(letter: u8) -> usize
     ensures { λ r. ⌜ r ≡ letter ⌝ }

@@ -9,9 +9,9 @@ use mathlib.Core.Path.{_≡_, ap, _∙_, subst}
 use Prim.Native.Nat.{_≤_}
 use native.Mathlib.Omega.{arith}
 use lib.ListN.{length}
-use Rattle.explainer.specs.Explanation.{andThen}
+use Rattle.explanations.specs.Explanation.{andThen}
 use Rattle.explainer.specs.Readings.{ReadBoth}
-use Rattle.explainer.specs.BothTexts.{readings, listingOf}
+use Rattle.explanations.specs.BothTexts.{readings, listingOf}
 use Rattle.explainer.proofs.Promised.{was-read, was-refused, promised-refusal, promised-listing, short-table, short-formula, long-enough}
 
 returns : tie.Need-returns

@@ -14,17 +14,17 @@ use Rattle.lts.specs.Range.{InRange}
 use Rattle.actl.specs.Actions.{Mask, inSet, Cond, silent, labels, meets}
 use Rattle.actl.specs.Formulas.{Formula, tru, not, or, ex, ax, eu, euThen, size, nodes, At, root, in-not, in-left, in-right, in-ex, in-ax, in-eu, in-euThen}
 use Rattle.actl.specs.Prepared.{Slot, slotOf}
-use Rattle.actl.specs.Access.{condIn, slotOfNode}
-use Rattle.actl.specs.declared.node.Condition.{Condition}
-use Rattle.actl.specs.declared.node.Condition.the-variants.{Silent, Labels}
-use Rattle.actl.specs.declared.node.Node.{Node}
-use Rattle.actl.specs.declared.node.Node.the-variants.{True, Not, Or, Ex, Ax, Until, UntilThen}
-use Rattle.actl.proofs.NodeSlots.{nodeIn, node-in-slot}
+use Rattle.formulas.specs.Access.{condIn, slotOfNode}
+use Rattle.formulas.specs.declared.node.Condition.{Condition}
+use Rattle.formulas.specs.declared.node.Condition.the-variants.{Silent, Labels}
+use Rattle.formulas.specs.declared.node.Node.{Node}
+use Rattle.formulas.specs.declared.node.Node.the-variants.{True, Not, Or, Ex, Ax, Until, UntilThen}
+use Rattle.formulas.proofs.NodeSlots.{nodeIn, node-in-slot}
 use Rattle.actl.proofs.Subformulas.{node-at, at-node, at-lt}
-use Rattle.labelling.specs.Holds.{within, enters, holds}
-use Rattle.labelling.specs.Flags.{flagAt, nodeHolds, Flags}
+use Rattle.satisfaction.specs.Holds.{within, enters, holds}
+use Rattle.until_search.specs.Flags.{flagAt, nodeHolds, Flags}
 use Rattle.labelling.specs.Nodes.{RowRead, RowPut, LabelledFrom}
-use Rattle.labelling.proofs.Laws.Agree.{Agree, some-agree, every-agree, within-agree}
+use Rattle.until_search.proofs.Laws.Agree.{Agree, some-agree, every-agree, within-agree}
 
 -- The rows of f's arms say where they hold.
 abbrev pub ArmsAgree : Table → Formula → (ℕ → Bool) → (ℕ → Bool) → Type 0

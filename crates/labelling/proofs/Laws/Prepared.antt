@@ -17,8 +17,8 @@ use Rattle.actl.proofs.Nodes.{size-pos}
 use Rattle.actl.proofs.Subformulas.{node-at}
 use Rattle.actl.proofs.Laws.Forms.{length-form}
 use Rattle.actl.proofs.Laws.Prepared.{prepared-of, prepared-few, prepared-count, prepared-shaped}
-use Rattle.labelling.specs.Holds.{holds}
-use Rattle.labelling.specs.Flags.{NodeFlags}
+use Rattle.satisfaction.specs.Holds.{holds}
+use Rattle.until_search.specs.Flags.{NodeFlags}
 use Rattle.labelling.specs.Nodes.{RowsFrom, NodesLabelled, AtStart}
 use Rattle.actl.specs.HoldsFormula.{HoldsFormula}
 

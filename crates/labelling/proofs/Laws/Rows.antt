@@ -8,9 +8,9 @@ use native.Mathlib.Decide.{ℕ-discrete}
 use native.Mathlib.Omega.{arith}
 use lib.ListN.{length, getD, set, replicate, length-set, length-replicate}
 use lib.Seq.{getD-set-same, getD-set-other}
-use Rattle.labelling.specs.Flags.{flagAt}
+use Rattle.until_search.specs.Flags.{flagAt}
 use Rattle.labelling.specs.Nodes.{RowRead, RowPut}
-use Rattle.labelling.proofs.Laws.Flags.{FlagsBelow}
+use Rattle.until_search.proofs.Laws.Flags.{FlagsBelow}
 
 -- A row that is not there is empty.
 pub row-none : (k : ℕ) (flags : List Bool) → 40 ≤ k → RowRead k flags (replicate 256 false)

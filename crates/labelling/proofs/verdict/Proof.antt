@@ -6,9 +6,9 @@ use Prim.Native.Nat.{ℕ}
 use Rattle.lts.specs.Reply.{Reply, accepted}
 use Rattle.lts.specs.Steps.{Table}
 use Rattle.actl.specs.Formulas.{Formula}
-use Rattle.actl.specs.Inputs.{inputsReply}
-use Rattle.actl.proofs.Laws.Inputs.{checked, Both, both, goes-on, unprepared-again}
-use Rattle.labelling.specs.Holds.{verdict}
+use Rattle.formula_check.specs.Inputs.{inputsReply}
+use Rattle.formula_check.proofs.Laws.Inputs.{checked, Both, both, goes-on, unprepared-again}
+use Rattle.satisfaction.specs.Holds.{verdict}
 use Rattle.labelling.specs.Replies.{verdictReplied}
 use Rattle.labelling.proofs.verdict.Statement.{statement}
 use Rattle.labelling.proofs.verdict.Tie as tie

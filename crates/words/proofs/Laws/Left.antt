@@ -12,11 +12,11 @@ use lib.Seq.{drop-cons}
 use borrow.Author.Tests.{lt-ltb, le-ltb, ltb-false, eq-eqb, ne-eqb}
 use Rattle.lts.specs.Lists.{upFrom, anyOf as any}
 use Rattle.lts.specs.Steps.{Step}
-use Rattle.lts.specs.StepArray.{stepAt, stepsBetween}
-use Rattle.lts.proofs.Laws.StepArray.{between-next, between-over}
+use Rattle.tables.specs.StepArray.{stepAt, stepsBetween}
+use Rattle.tables.proofs.Laws.StepArray.{between-next, between-over}
 use Rattle.words.specs.Replies.{badFrom, badLetter}
-use Rattle.words.specs.Frontier.{brought}
-use Rattle.words.specs.Reached.{stepTaken, stepsTaken, letterRead, wordRead, Letters}
+use Rattle.frontier.specs.Frontier.{brought}
+use Rattle.frontier.specs.Reached.{stepTaken, stepsTaken, letterRead, wordRead, Letters}
 
 over : (w : List ℕ) (i : ℕ) → length w ≤ i → drop i w ≡ []
 over w i h = empty (drop i w) (omega (arith, length-drop i w))

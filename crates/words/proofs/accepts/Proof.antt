@@ -6,8 +6,8 @@ use Prim.Native.Nat.{ℕ}
 use Rattle.lts.specs.Reply.{Reply}
 use Rattle.lts.specs.Steps.{Table}
 use Rattle.actl.specs.Formulas.{Formula}
-use Rattle.actl.specs.Inputs.{inputsReply}
-use Rattle.actl.proofs.Laws.Inputs.{checked, Both, both, goes-on, unprepared-again}
+use Rattle.formula_check.specs.Inputs.{inputsReply}
+use Rattle.formula_check.proofs.Laws.Inputs.{checked, Both, both, goes-on, unprepared-again}
 use Rattle.words.specs.Replies.{wordReplied}
 use Rattle.words.specs.Answered.{wordAnswer}
 use Rattle.words.proofs.accepts.Statement.{statement}

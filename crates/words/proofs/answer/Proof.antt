@@ -3,10 +3,10 @@ use mathlib.Core.Path.{_≡_, sym, ap, _∙_}
 use Rattle.lts.specs.Reply.{accepted}
 use Rattle.lts.specs.Steps.{labels}
 use Rattle.lts.specs.Prepared.{tableIn}
-use Rattle.lts.specs.Access.{foundIn}
+use Rattle.tables.specs.Access.{foundIn}
 use Rattle.actl.specs.Reading.{unlessFound}
-use Rattle.listing.specs.Bytes.{bitOf}
-use Rattle.listing.specs.Words.{accepts}
+use Rattle.automaton.specs.Bytes.{bitOf}
+use Rattle.automaton.specs.Words.{accepts}
 use Rattle.words.specs.Replies.{badLetter}
 use Rattle.words.proofs.Laws.Left.{letters-few}
 use borrow.Author.Needs.{needs}

@@ -1,7 +1,7 @@
 -- `answer_of` meets its contract: 1 or 0.
 use mathlib.Core.Path.{sym, ap}
 use Rattle.lts.specs.Reply.{accepted}
-use Rattle.listing.specs.Bytes.{bitOf}
+use Rattle.automaton.specs.Bytes.{bitOf}
 use Rattle.words.proofs.answer_of.Statement.{statement}
 use Rattle.words.proofs.answer_of.Tie as tie
 

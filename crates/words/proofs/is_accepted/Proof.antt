@@ -3,12 +3,12 @@ use mathlib.Core.Path.{_≡_, ap, _∙_}
 use borrow.Author.Needs.{needs}
 use Rattle.lts.specs.Steps.{stepsFrom}
 use Rattle.lts.specs.Prepared.{tableIn}
-use Rattle.lts.specs.StepArray.{stepsIn}
+use Rattle.tables.specs.StepArray.{stepsIn}
 use Rattle.labelling.proofs.Laws.Prepared.{formula-long}
-use Rattle.listing.proofs.Laws.Places.{spells}
-use Rattle.words.specs.Frontier.{nowhere, allPlaces}
-use Rattle.words.specs.Reached.{wordRead, rootReached, someFinal}
-use Rattle.words.proofs.Laws.Accepting.{word-same, found-as-accepted}
+use Rattle.target_masks.proofs.Laws.Places.{spells}
+use Rattle.frontier.specs.Frontier.{nowhere, allPlaces}
+use Rattle.frontier.specs.Reached.{wordRead, rootReached, someFinal}
+use Rattle.frontier.proofs.Laws.Accepting.{word-same, found-as-accepted}
 use Rattle.words.proofs.is_accepted.Statement.{statement}
 use Rattle.words.proofs.is_accepted.Tie as tie
 

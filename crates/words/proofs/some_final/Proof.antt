@@ -2,7 +2,7 @@
 use mathlib.Core.Path.{_≡_, sym, _∙_}
 use Prim.Native.Nat.{_≤_, _-_}
 use native.Mathlib.Omega.{arith}
-use Rattle.words.specs.Reached.{finalPlace, someFinal}
+use Rattle.frontier.specs.Reached.{finalPlace, someFinal}
 use Rattle.words.proofs.Laws.Left.{anyLeft, any-start, any-found, any-later, any-over}
 use Rattle.words.proofs.some_final.Statement.{statement}
 use Rattle.words.proofs.some_final.Tie as tie

@@ -3,11 +3,11 @@ use Rattle.explainer.proofs.exports.explainer_accepts.Statement.{statem
 use Rattle.explainer.proofs.exports.explainer_accepts.Tie as tie
 use Rattle.explainer.proofs.exports.explainer_accepts.Reads as reads
 use Rattle.explainer.proofs.exports.explainer_accepts.Lts as lts
-use Rattle.explainer.proofs.interface.word_figure.Reads as word-figure-reads
-use Rattle.explainer.proofs.interface.word_number.Reads as word-number-reads
+use Rattle.replies.proofs.word_figure.Reads as word-figure-reads
+use Rattle.replies.proofs.word_number.Reads as word-number-reads
 use Rattle.words.proofs.accepts.Reads as accepts-reads
 use mathlib.Core.Path.{ap, _∙_}
-use Rattle.explainer.specs.Interface.{numberIn, figureIn}
+use Rattle.replies.specs.Interface.{numberIn, figureIn}
 
 accepts-requires : tie.Need-accepts-requires
 accepts-requires c κs = search needs

@@ -3,12 +3,12 @@ use Rattle.explainer.proofs.exports.explainer_build.Statement.{statemen
 use Rattle.explainer.proofs.exports.explainer_build.Tie as tie
 use Rattle.explainer.proofs.exports.explainer_build.Reads as reads
 use Rattle.explainer.proofs.exports.explainer_build.Lts as lts
-use Rattle.automaton.proofs.build.Reads as build-reads
-use Rattle.explainer.proofs.interface.build_edges.Reads as build-edges-reads
-use Rattle.explainer.proofs.interface.build_figure.Reads as build-figure-reads
-use Rattle.explainer.proofs.interface.build_number.Reads as build-number-reads
+use Rattle.building.proofs.build.Reads as build-reads
+use Rattle.replies.proofs.build_edges.Reads as build-edges-reads
+use Rattle.replies.proofs.build_figure.Reads as build-figure-reads
+use Rattle.replies.proofs.build_number.Reads as build-number-reads
 use mathlib.Core.Path.{ap, _∙_}
-use Rattle.explainer.specs.Interface.{numberIn, figureIn, edgesIn}
+use Rattle.replies.specs.Interface.{numberIn, figureIn, edgesIn}
 
 build-requires : tie.Need-build-requires
 build-requires c κs = search needs

@@ -3,11 +3,11 @@ use Rattle.explainer.proofs.exports.explainer_read_formula.Statement.{s
 use Rattle.explainer.proofs.exports.explainer_read_formula.Tie as tie
 use Rattle.explainer.proofs.exports.explainer_read_formula.Reads as reads
 use Rattle.explainer.proofs.exports.explainer_read_formula.Lts as lts
-use Rattle.actl.proofs.read_formula.Reads as read-formula-reads
-use Rattle.explainer.proofs.interface.formula_figure.Reads as formula-figure-reads
-use Rattle.explainer.proofs.interface.formula_number.Reads as formula-number-reads
+use Rattle.formula_text.proofs.read_formula.Reads as read-formula-reads
+use Rattle.replies.proofs.formula_figure.Reads as formula-figure-reads
+use Rattle.replies.proofs.formula_number.Reads as formula-number-reads
 use mathlib.Core.Path.{ap, _∙_}
-use Rattle.explainer.specs.Interface.{numberIn, figureIn}
+use Rattle.replies.specs.Interface.{numberIn, figureIn}
 
 read-formula-requires : tie.Need-read-formula-requires
 read-formula-requires c κs = search needs

@@ -3,11 +3,11 @@ use Rattle.explainer.proofs.exports.explainer_read_table.Statement.{sta
 use Rattle.explainer.proofs.exports.explainer_read_table.Tie as tie
 use Rattle.explainer.proofs.exports.explainer_read_table.Reads as reads
 use Rattle.explainer.proofs.exports.explainer_read_table.Lts as lts
-use Rattle.explainer.proofs.interface.table_figure.Reads as table-figure-reads
-use Rattle.explainer.proofs.interface.table_number.Reads as table-number-reads
-use Rattle.lts.proofs.reading.read_table.Reads as read-table-reads
+use Rattle.replies.proofs.table_figure.Reads as table-figure-reads
+use Rattle.replies.proofs.table_number.Reads as table-number-reads
+use Rattle.table_text.proofs.read_table.Reads as read-table-reads
 use mathlib.Core.Path.{ap, _∙_}
-use Rattle.explainer.specs.Interface.{numberIn, figureIn}
+use Rattle.replies.specs.Interface.{numberIn, figureIn}
 
 read-table-requires : tie.Need-read-table-requires
 read-table-requires c κs = search needs

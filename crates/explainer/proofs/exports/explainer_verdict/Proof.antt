@@ -3,11 +3,11 @@ use Rattle.explainer.proofs.exports.explainer_verdict.Statement.{statem
 use Rattle.explainer.proofs.exports.explainer_verdict.Tie as tie
 use Rattle.explainer.proofs.exports.explainer_verdict.Reads as reads
 use Rattle.explainer.proofs.exports.explainer_verdict.Lts as lts
-use Rattle.explainer.proofs.interface.verdict_figure.Reads as verdict-figure-reads
-use Rattle.explainer.proofs.interface.verdict_number.Reads as verdict-number-reads
+use Rattle.replies.proofs.verdict_figure.Reads as verdict-figure-reads
+use Rattle.replies.proofs.verdict_number.Reads as verdict-number-reads
 use Rattle.labelling.proofs.verdict.Reads as verdict-reads
 use mathlib.Core.Path.{ap, _∙_}
-use Rattle.explainer.specs.Interface.{numberIn, figureIn}
+use Rattle.replies.specs.Interface.{numberIn, figureIn}
 
 verdict-requires : tie.Need-verdict-requires
 verdict-requires c κs = search needs

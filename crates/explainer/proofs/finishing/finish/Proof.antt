@@ -3,13 +3,13 @@ use Rattle.explainer.proofs.finishing.finish.Statement.{statement}
 use Rattle.explainer.proofs.finishing.finish.Tie as tie
 use Rattle.explainer.proofs.finishing.finish.Reads as reads
 use Rattle.explainer.proofs.finishing.finish.Lts as lts
-use Rattle.automaton.proofs.build.Reads as build-reads
+use Rattle.building.proofs.build.Reads as build-reads
 use Rattle.bytes.proofs.copy.Reads as copy-reads
 use Rattle.explainer.proofs.finishing.class_of.Reads as class-of-reads
-use Rattle.explainer.proofs.interface.build_edges.Reads as build-edges-reads
-use Rattle.explainer.proofs.interface.build_figure.Reads as build-figure-reads
-use Rattle.explainer.proofs.interface.build_number.Reads as build-number-reads
-use Rattle.explainer.proofs.interface.verdict_figure.Reads as verdict-figure-reads
+use Rattle.replies.proofs.build_edges.Reads as build-edges-reads
+use Rattle.replies.proofs.build_figure.Reads as build-figure-reads
+use Rattle.replies.proofs.build_number.Reads as build-number-reads
+use Rattle.replies.proofs.verdict_figure.Reads as verdict-figure-reads
 use Rattle.labelling.proofs.verdict.Reads as verdict-reads
 use mathlib.Core.Path.{_≡_, sym, _∙_}
 use native.Mathlib.Omega.{arith}

@@ -3,18 +3,18 @@ use Rattle.explainer.proofs.readings.read_both.Statement.{statement}
 use Rattle.explainer.proofs.readings.read_both.Tie as tie
 use Rattle.explainer.proofs.readings.read_both.Reads as reads
 use Rattle.explainer.proofs.readings.read_both.Lts as lts
-use Rattle.actl.proofs.read_formula.Reads as read-formula-reads
-use Rattle.explainer.proofs.interface.formula_figure.Reads as formula-figure-reads
-use Rattle.explainer.proofs.interface.formula_number.Reads as formula-number-reads
-use Rattle.explainer.proofs.interface.table_figure.Reads as table-figure-reads
-use Rattle.explainer.proofs.interface.table_number.Reads as table-number-reads
-use Rattle.lts.proofs.reading.read_table.Reads as read-table-reads
+use Rattle.formula_text.proofs.read_formula.Reads as read-formula-reads
+use Rattle.replies.proofs.formula_figure.Reads as formula-figure-reads
+use Rattle.replies.proofs.formula_number.Reads as formula-number-reads
+use Rattle.replies.proofs.table_figure.Reads as table-figure-reads
+use Rattle.replies.proofs.table_number.Reads as table-number-reads
+use Rattle.table_text.proofs.read_table.Reads as read-table-reads
 use mathlib.Core.Path.{_≡_, sym, _∙_}
 use native.Mathlib.Omega.{arith}
 use Rattle.lts.specs.Reply.{refusal}
-use Rattle.lts.specs.Replies.{tableReply}
-use Rattle.actl.specs.Replies.{formulaReply}
-use Rattle.explainer.specs.Interface.{numberIn}
+use Rattle.table_text.specs.Replies.{tableReply}
+use Rattle.formula_text.specs.Replies.{formulaReply}
+use Rattle.replies.specs.Interface.{numberIn}
 use Rattle.explainer.proofs.BothTexts.{table-refused, table-read, formula-refused, formula-read, both-table-refused, both-formula-refused, both-read}
 
 read-table-requires : tie.Need-read-table-requires

@@ -5,9 +5,9 @@ use mathlib.Core.Bool.{Bool}
 use mathlib.Core.List.{List}
 use Rattle.lts.specs.Steps.{stepsFrom}
 use Rattle.lts.specs.Prepared.{tableIn}
-use Rattle.actl.specs.declared.node.Node.{Node}
-use Rattle.labelling.specs.Flags.{flagAt, atOnce, nodeHolds, Flags}
-use Rattle.labelling.proofs.Laws.Flags.{flags-same}
+use Rattle.formulas.specs.declared.node.Node.{Node}
+use Rattle.until_search.specs.Flags.{flagAt, atOnce, nodeHolds, Flags}
+use Rattle.until_search.proofs.Laws.Flags.{flags-same}
 use Rattle.labelling.proofs.Laws.Nodes.{until-flags}
 use Rattle.labelling.proofs.nodes.label_node.Statement.{statement}
 use Rattle.labelling.proofs.nodes.label_node.Tie as tie

@@ -2,8 +2,8 @@
 use mathlib.Core.Path.{_≡_, refl, sym, ap, _∙_, subst}
 use Prim.Native.Nat.{ℕ, _≤_, _<_, _+_, _-_, _*_}
 use native.Mathlib.Omega.{arith}
-use Rattle.labelling.specs.Flags.{flagAt}
-use Rattle.labelling.proofs.Laws.Flags.{FlagsBelow, flags-none, flags-on}
+use Rattle.until_search.specs.Flags.{flagAt}
+use Rattle.until_search.proofs.Laws.Flags.{FlagsBelow, flags-none, flags-on}
 use Rattle.labelling.proofs.Laws.Rows.{row-none, row-all}
 use Rattle.labelling.proofs.nodes.row.Statement.{statement}
 use Rattle.labelling.proofs.nodes.row.Tie as tie

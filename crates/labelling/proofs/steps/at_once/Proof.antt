@@ -2,13 +2,13 @@
 use borrow.Author.Needs.{needs}
 use mathlib.Core.Path.{_≡_, refl, sym, ap, _∙_, subst}
 use mathlib.Core.Bool.{Bool, not, _||_}
-use Rattle.lts.specs.StepArray.{stepsIn}
+use Rattle.tables.specs.StepArray.{stepsIn}
 use Rattle.lts.proofs.Lists.{or-true-left}
 use Rattle.actl.specs.Actions.{meets}
-use Rattle.actl.specs.Access.{condIn}
-use Rattle.actl.specs.declared.node.Node.{Node}
-use Rattle.labelling.specs.Flags.{flagAt, leadsTo, atOnce}
-use Rattle.labelling.proofs.Laws.Flags.{every-not-some}
+use Rattle.formulas.specs.Access.{condIn}
+use Rattle.formulas.specs.declared.node.Node.{Node}
+use Rattle.until_search.specs.Flags.{flagAt, leadsTo, atOnce}
+use Rattle.until_search.proofs.Laws.Flags.{every-not-some}
 use Rattle.labelling.proofs.steps.at_once.Statement.{statement}
 use Rattle.labelling.proofs.steps.at_once.Tie as tie
 

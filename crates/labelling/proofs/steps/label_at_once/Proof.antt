@@ -3,9 +3,9 @@ use mathlib.Core.Path.{_≡_, refl, sym, ap, _∙_, subst}
 use mathlib.Core.Bool.{Bool}
 use Prim.Native.Nat.{ℕ, _≤_, _<_, _+_, _-_}
 use native.Mathlib.Omega.{arith}
-use Rattle.lts.specs.StepArray.{stepsIn}
-use Rattle.labelling.specs.Flags.{flagAt, atOnce}
-use Rattle.labelling.proofs.Laws.Flags.{FlagsBelow, flags-none, flags-on, flags-all}
+use Rattle.tables.specs.StepArray.{stepsIn}
+use Rattle.until_search.specs.Flags.{flagAt, atOnce}
+use Rattle.until_search.proofs.Laws.Flags.{FlagsBelow, flags-none, flags-on, flags-all}
 use Rattle.labelling.proofs.steps.label_at_once.Statement.{statement}
 use Rattle.labelling.proofs.steps.label_at_once.Tie as tie
 

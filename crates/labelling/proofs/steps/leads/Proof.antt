@@ -1,8 +1,8 @@
 -- `leads` meets its contract.
 use borrow.Author.Needs.{needs}
-use Rattle.labelling.proofs.Laws.Flags.{same-there, same-nowhere}
+use Rattle.until_search.proofs.Laws.Flags.{same-there, same-nowhere}
 use Rattle.actl.specs.Actions.{meets}
-use Rattle.actl.specs.Access.{condIn}
+use Rattle.formulas.specs.Access.{condIn}
 use Rattle.labelling.proofs.steps.leads.Statement.{statement}
 use Rattle.labelling.proofs.steps.leads.Tie as tie
 

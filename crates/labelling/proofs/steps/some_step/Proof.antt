@@ -5,11 +5,11 @@ use Prim.Native.Nat.{ℕ, _≤_, _<_, _+_, _-_}
 use native.Mathlib.Omega.{arith}
 use Rattle.lts.specs.Lists.{anyOf}
 use Rattle.lts.specs.Steps.{Step}
-use Rattle.lts.specs.StepArray.{stepAt, stepsBetween, stepsIn, spanOf}
-use Rattle.lts.specs.declared.steps.Span.{Span}
-use Rattle.actl.specs.Access.{condIn}
-use Rattle.labelling.specs.Flags.{flagAt, leadsAsWanted, someStep}
-use Rattle.labelling.proofs.Laws.Flags.{some-found, some-later, some-none}
+use Rattle.tables.specs.StepArray.{stepAt, stepsBetween, stepsIn, spanOf}
+use Rattle.tables.specs.declared.steps.Span.{Span}
+use Rattle.formulas.specs.Access.{condIn}
+use Rattle.until_search.specs.Flags.{flagAt, leadsAsWanted, someStep}
+use Rattle.until_search.proofs.Laws.Flags.{some-found, some-later, some-none}
 use Rattle.labelling.proofs.steps.some_step.Statement.{statement}
 use Rattle.labelling.proofs.steps.some_step.Tie as tie
 

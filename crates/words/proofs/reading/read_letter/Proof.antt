@@ -7,10 +7,10 @@ use native.Mathlib.Omega.{arith}
 use lib.ListN.{getD}
 use borrow.Author.Needs.{needs}
 use Rattle.lts.specs.Steps.{Step}
-use Rattle.lts.specs.StepArray.{stepsIn}
-use Rattle.words.specs.Frontier.{hasState, emptied, through}
-use Rattle.words.specs.Reached.{placesRead, stateRead}
-use Rattle.words.proofs.Laws.Through.{left, left-over, left-skip, left-turn}
+use Rattle.tables.specs.StepArray.{stepsIn}
+use Rattle.frontier.specs.Frontier.{hasState, emptied, through}
+use Rattle.frontier.specs.Reached.{placesRead, stateRead}
+use Rattle.frontier.proofs.Laws.Through.{left, left-over, left-skip, left-turn}
 use Rattle.words.proofs.reading.read_letter.Statement.{statement}
 use Rattle.words.proofs.reading.read_letter.Tie as tie
 

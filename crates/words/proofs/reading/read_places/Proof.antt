@@ -4,8 +4,8 @@ use mathlib.Core.Bool.{cond}
 use lib.Dec.{eqb}
 use borrow.Author.Needs.{needs}
 use borrow.Author.Tests.{eq-eqb, ne-eqb}
-use Rattle.lts.specs.StepArray.{stepsIn}
-use Rattle.words.specs.Reached.{stepsTaken}
+use Rattle.tables.specs.StepArray.{stepsIn}
+use Rattle.frontier.specs.Reached.{stepsTaken}
 use Rattle.words.proofs.reading.read_places.Statement.{statement}
 use Rattle.words.proofs.reading.read_places.Tie as tie
 

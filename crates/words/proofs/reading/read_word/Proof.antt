@@ -4,9 +4,9 @@ use Prim.Native.Nat.{_+_, _-_, _≤_}
 use native.Mathlib.Omega.{arith}
 use lib.ListN.{length, drop}
 use borrow.Author.Needs.{needs}
-use Rattle.lts.specs.StepArray.{stepsIn}
-use Rattle.words.specs.Frontier.{nowhere, brought, allPlaces}
-use Rattle.words.specs.Reached.{wordRead, rootReached}
+use Rattle.tables.specs.StepArray.{stepsIn}
+use Rattle.frontier.specs.Frontier.{nowhere, brought, allPlaces}
+use Rattle.frontier.specs.Reached.{wordRead, rootReached}
 use Rattle.words.proofs.Laws.Left.{word-turn, word-turns, word-over}
 use Rattle.words.proofs.reading.read_word.Statement.{statement}
 use Rattle.words.proofs.reading.read_word.Tie as tie

@@ -2,9 +2,9 @@
 use mathlib.Core.Path.{_≡_, sym, ap, _∙_}
 use Prim.Native.Nat.{ℕ, _≤_, _<_, _+_, _-_}
 use native.Mathlib.Omega.{arith}
-use Rattle.lts.specs.StepArray.{stepsBetween, stepsIn, spanOf}
-use Rattle.lts.specs.declared.steps.Span.{Span}
-use Rattle.words.specs.Reached.{stepsTaken}
+use Rattle.tables.specs.StepArray.{stepsBetween, stepsIn, spanOf}
+use Rattle.tables.specs.declared.steps.Span.{Span}
+use Rattle.frontier.specs.Reached.{stepsTaken}
 use Rattle.words.proofs.Laws.Left.{steps-next, steps-over}
 use Rattle.words.proofs.reading.take_steps.Statement.{statement}
 use Rattle.words.proofs.reading.take_steps.Tie as tie

@@ -6,10 +6,10 @@ use Prim.Native.Nat.{ℕ, _+_, _*_, _-_, _<_}
 use native.Mathlib.Omega.{arith}
 use lib.Bits.{bitOr}
 use lib.ListN.{getD}
-use Rattle.listing.specs.Masks.{bitAt}
-use Rattle.words.specs.Reached.{maskAt, targetsAdded, targetsOf}
-use Rattle.words.proofs.Laws.Bits.{BitsFrom, bits-all, bits-some, bits-first, bits-rest}
-use Rattle.words.proofs.Laws.Through.{left, left-over, left-skip, left-turn}
+use Rattle.target_masks.specs.Masks.{bitAt}
+use Rattle.frontier.specs.Reached.{maskAt, targetsAdded, targetsOf}
+use Rattle.frontier.proofs.Laws.Bits.{BitsFrom, bits-all, bits-some, bits-first, bits-rest}
+use Rattle.frontier.proofs.Laws.Through.{left, left-over, left-skip, left-turn}
 use Rattle.words.proofs.reading.targets_of.Statement.{statement}
 use Rattle.words.proofs.reading.targets_of.Tie as tie
 

@@ -1,0 +1,73 @@
+-- Worked examples: words of the automaton, run.
+use mathlib.Core.Path.{_≡_, refl}
+use mathlib.Core.Bool.{Bool, true, false}
+use mathlib.Core.List.{List, [], _∷_}
+use Prim.Native.Nat.{ℕ}
+use Rattle.columns.specs.Ascii.{ascii}
+use Rattle.lts.specs.Steps.{Step, Table, silent, stepsFrom}
+use Rattle.lts.proofs.Examples.{M, step}
+use Rattle.actl.specs.Actions.{silent as silentStep, labels, inSet, meets, passes}
+use Rattle.actl.specs.Formulas.{Formula, tru, or, ex, eu, euThen, classOf}
+use Rattle.satisfaction.specs.Holds.{holds, within}
+use Rattle.automaton.specs.Listing.{finalOf, final, leadsOf, leads, targets, canFinish, numberOf, movesToAmong, movesOnAmong, movesFromAmong, visit, visits, expandAmong, searchAmong, positionsAmong, movesUptoAmong, Row, Edge, Listing, listing}
+use Rattle.automaton.specs.DeadEnds.{wholeListing, dropDeadEnds, rowFinishes}
+use Rattle.automaton.specs.Words.{acceptsFrom, accepts}
+
+-- One state with loops a, b, c (labels 1, 2, 3).
+abbrev loops : Table
+loops = record {
+  states = 1;
+  names = ascii "a" ∷ ascii "b" ∷ ascii "c" ∷ [];
+  transitions = step 0 1 0 ∷ step 0 2 0 ∷ step 0 3 0 ∷ [];
+  start = 0;
+}
+
+-- EX[b] T | EX[c] T | EX[a] EX[b] T: equal subformulas are different places.
+abbrev either : Formula
+either = or (or (ex (labels 4) tru) (ex (labels 8) tru)) (ex (labels 2) (ex (labels 4) tru))
+
+accepts-a-b : accepts loops either (1 ∷ 2 ∷ []) ≡ true
+unfolding acceptsFrom final finalOf targets leads leadsOf stepsFrom meets inSet silent
+accepts-a-b = refl
+
+never-a-c : accepts loops either (1 ∷ 3 ∷ []) ≡ false
+unfolding acceptsFrom final finalOf targets leads leadsOf stepsFrom meets inSet silent
+never-a-c = refl
+
+-- A class 1 formula that does not hold has one bare row.
+abbrev bare : Listing
+bare = record { rows = record { place = 0; state = 0; final = false } ∷ []; edges = [] }
+
+one-bare-row : listing M (euThen 6 0 tru) ≡ bare
+unfolding listing positionsAmong searchAmong expandAmong visits visit movesUptoAmong movesFromAmong movesOnAmong movesToAmong numberOf canFinish targets leads leadsOf final finalOf holds within stepsFrom meets passes inSet classOf silent
+one-bare-row = refl
+
+-- From state 0 label a (1) leads to states 1 and 2, and only state 1 has a step b (2): for EX[a] EX[b] T state 2 is a dead end. Row 2 is dropped,
+-- and row 3 becomes row 2.
+abbrev fork : Table
+fork = record {
+  states = 3;
+  names = ascii "a" ∷ ascii "b" ∷ [];
+  transitions = step 0 1 1 ∷ step 0 1 2 ∷ step 1 2 1 ∷ [];
+  start = 0;
+}
+
+abbrev aThenB : Formula
+aThenB = ex (labels 2) (ex (labels 4) tru)
+
+abbrev row : ℕ → ℕ → Bool → Row
+row k s b = record { place = k; state = s; final = b }
+
+abbrev edge : ℕ → ℕ → ℕ → Edge
+edge i l j = record { row = i; label = l; target = j }
+
+abbrev forkWhole : Listing
+forkWhole = record { rows = row 0 0 false ∷ row 1 1 false ∷ row 1 2 false ∷ row 2 1 true ∷ []; edges = edge 0 1 1 ∷ edge 0 1 2 ∷ edge 1 2 3 ∷ [] }
+
+fork-whole : wholeListing fork aThenB ≡ forkWhole
+unfolding positionsAmong searchAmong expandAmong visits visit movesUptoAmong movesFromAmong movesOnAmong movesToAmong numberOf targets leads leadsOf final finalOf stepsFrom meets inSet silent
+fork-whole = refl
+
+fork-dropped : dropDeadEnds (rowFinishes fork aThenB) forkWhole ≡ record { rows = row 0 0 false ∷ row 1 1 false ∷ row 2 1 true ∷ []; edges = edge 0 1 1 ∷ edge 1 2 2 ∷ [] }
+unfolding canFinish holds within stepsFrom meets inSet classOf silent
+fork-dropped = refl

@@ -1,0 +1,41 @@
+-- What building answers and leaves: by the refusal of its inputs, or by the listing and the lent places.
+use mathlib.Core.Path.{_≡_, sym, ap, _∙_}
+use mathlib.Core.List.{List}
+use mathlib.Core.Option.{some}
+use Prim.Native.Nat.{ℕ}
+use Rattle.lts.specs.Reply.{Reply, leftIn, answers}
+use Rattle.lts.specs.Steps.{Table, labels}
+use Rattle.lts.specs.Prepared.{tableIn}
+use Rattle.actl.specs.Formulas.{Formula}
+use Rattle.actl.specs.Prepared.{preparedFormula}
+use Rattle.formula_check.specs.Inputs.{unprepared}
+use Rattle.formula_check.specs.declared.inputs.Unprepared.{Unprepared}
+use Rattle.formula_check.proofs.Laws.Inputs.{checked, Both, goes-on, unprepared-again}
+use Rattle.automaton.specs.Listing.{Listing, listing}
+use Rattle.automaton.specs.Bytes.{rowsBytes, edgesBytes}
+use Rattle.building.specs.Replies.{buildReply}
+use Rattle.automaton.specs.Build.{counts, fitted, built, buildReplied, rowsLeft, edgesLeft}
+use Rattle.building.specs.LaidOut.{LaidOut}
+use Rattle.building.specs.declared.BuildReply.{BuildReply}
+use Rattle.building.specs.declared.BuildReply.the-variants.{Refused}
+
+module _ (table formula rows edges : List ℕ) where
+  -- The three promises of building.
+  abbrev pub Promised : BuildReply → List ℕ → List ℕ → Type 0
+  Promised r x y = (buildReply r ≡ buildReplied table formula rows edges) × ((x ≡ rowsLeft table formula rows edges) × (y ≡ edgesLeft table formula rows edges))
+
+  abbrev next : Table → Formula → Reply Listing
+  next t F = fitted (listing t F) rows edges
+
+  pub refused-inputs : (why : Unprepared) → unprepared why ≡ checked table formula → Promised (Refused why) rows edges
+  unfolding built
+  refused-inputs why e =
+      let d = unprepared-again table formula next why e in
+      (ap (answers counts) d, (ap (λ x. leftIn rowsBytes x rows) d, ap (λ x. leftIn edgesBytes x edges) d))
+
+  pub promised : (b : Both table formula) (F : Formula) → preparedFormula (labels (tableIn table)) formula ≡ some F
+      → {r : BuildReply} {x y : List ℕ} → LaidOut (listing (tableIn table) F) rows edges r x y → Promised r x y
+  unfolding built
+  promised b F d l =
+      let z = goes-on table formula next b F d in
+      (l .reply ∙ sym (ap (answers counts) z), (l .rows-left ∙ sym (ap (λ x. leftIn rowsBytes x rows) z), l .edges-left ∙ sym (ap (λ x. leftIn edgesBytes x edges) z)))

@@ -1,0 +1,10 @@
+pub mod Beginnings
+pub mod BenchSheet
+pub mod Examples
+pub mod Explained
+pub mod Languages
+pub mod Lines
+pub mod Listed
+pub mod Printing
+pub mod Runs
+pub mod Traced

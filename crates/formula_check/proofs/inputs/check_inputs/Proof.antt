@@ -1,0 +1,77 @@
+-- `check_inputs` meets its contract: 14 for each buffer, then 10 for the table and for the formula.
+use borrow.Author.Needs.{needs}
+use mathlib.Core.Path.{_≡_, sym, ap, _∙_}
+use mathlib.Core.Bool.{Bool}
+use mathlib.Core.List.{List}
+use Prim.Native.Nat.{ℕ}
+use borrow.Author.Tests.{not-true, not-false}
+use Rattle.lts.specs.Reply.{Reply, accepted}
+use Rattle.lts.specs.Steps.{Table, labels}
+use Rattle.lts.specs.Prepared.{tableIn, preparedTable}
+use Rattle.lts.specs.Answers.{isSome}
+use Rattle.lts.proofs.Laws.Prepared.{is-some-of}
+use Rattle.actl.specs.Formulas.{Formula}
+use Rattle.actl.specs.Prepared.{preparedFormula}
+use Rattle.actl.specs.Check.{isPrepared}
+use Rattle.formula_check.proofs.Laws.Inputs.{table-short, formula-short, table-foreign, formula-foreign, both-prepared}
+use Rattle.formula_check.proofs.inputs.check_inputs.Statement.{statement}
+use Rattle.formula_check.proofs.inputs.check_inputs.Tie as tie
+
+abbrev next : Table → Formula → Reply (Unit {0})
+next t F = accepted tt
+
+returns : tie.Need-returns
+returns c = let a = c .before .before .before .args in sym (table-short (a .table .now) (a .formula .now) next (c .if1 .taken))
+
+returns-2 : tie.Need-returns-2
+returns-2 c = let a = c .before .before .before .before .args in sym (formula-short (a .table .now) (a .formula .now) next (c .before .if1 .left) (c .if2 .taken))
+
+is-prepared-requires : tie.Need-is-prepared-requires
+is-prepared-requires c κs = search needs
+
+returns-3 : tie.Need-returns-3
+returns-3 c =
+    let a = c .before .before .before .before .before .before .args in
+    sym (table-foreign (a .table .now) (a .formula .now) next (c .before .before .before .if1 .left) (c .before .before .if2 .left) (sym (c .before .is-prepared .ensures) ∙ not-true _ (c .if3 .taken)))
+
+label-count-requires : tie.Need-label-count-requires
+label-count-requires c κs = search needs
+
+is-prepared-requires-2 : tie.Need-is-prepared-requires-2
+is-prepared-requires-2 c κs = search needs
+
+-- What the last test finds, over the labels of the table in the bytes.
+tested : (table formula : List ℕ) {n : ℕ} {r b : Bool} → n ≡ labels (tableIn table) → r ≡ isPrepared n formula → r ≡ b → isSome (preparedFormula (labels (tableIn table)) formula) ≡ b
+tested table formula e d t = sym (ap (λ n. isPrepared n formula) e) ∙ (sym d ∙ t)
+
+returns-4 : tie.Need-returns-4
+returns-4 c =
+    let last = c .before in
+    let third = last .before .before in
+    let a = third .before .before .before .before .before .before .args in
+    let known = sym (third .before .is-prepared .ensures) ∙ not-false _ (third .if3 .left) in
+    let found = tested (a .table .now) (a .formula .now) (last .before .label-count .ensures .count) (last .is-prepared2 .ensures) (not-true _ (c .if4 .taken)) in
+    sym (formula-foreign (a .table .now) (a .formula .now) next (third .before .before .before .if1 .left) (third .before .before .if2 .left) known found)
+
+returns-5 : tie.Need-returns-5
+returns-5 c =
+    let last = c .before in
+    let third = last .before .before in
+    let a = third .before .before .before .before .before .before .args in
+    let known = sym (third .before .is-prepared .ensures) ∙ not-false _ (third .if3 .left) in
+    let found = tested (a .table .now) (a .formula .now) (last .before .label-count .ensures .count) (last .is-prepared2 .ensures) (not-false _ (c .if4 .left)) in
+    let (F, e) = is-some-of (preparedFormula (labels (tableIn (a .table .now))) (a .formula .now)) found in
+    sym (both-prepared (a .table .now) (a .formula .now) next (third .before .before .before .if1 .left) (third .before .before .if2 .left) known F e)
+
+pub check-inputs-spec : {M : Type 1} → statement M
+check-inputs-spec =
+    tie.close
+    (tie.spec
+    returns
+    returns-2
+    is-prepared-requires
+    returns-3
+    label-count-requires
+    is-prepared-requires-2
+    returns-4
+    returns-5)

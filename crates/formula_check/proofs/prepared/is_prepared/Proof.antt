@@ -1,0 +1,75 @@
+-- `is_prepared` meets its contract: each test fails only where there is no prepared formula, and all passed there is one.
+use mathlib.Core.Path.{_≡_, sym, ap, _∙_, subst}
+use Prim.Native.Nat.{_+_, _*_, _<_}
+use native.Mathlib.Omega.{arith}
+use borrow.Author.Tests.{not-true, not-false}
+use Rattle.lts.specs.Answers.{Decides}
+use Rattle.actl.specs.Check.{slotsFit, zerosFrom, SpelledClassed}
+use Rattle.formulas.proofs.Laws.Decided.{short-bytes, many-nodes, slots-foreign, not-zeros, decided}
+use borrow.Author.Needs.{needs}
+use Rattle.formula_check.proofs.prepared.is_prepared.Statement.{statement}
+use Rattle.formula_check.proofs.prepared.is_prepared.Tie as tie
+
+returns : tie.Need-returns
+returns c = short-bytes (c .before .before .args .labels) (c .before .before .args .formula .now) (c .if1 .taken)
+
+node-count-requires : tie.Need-node-count-requires
+node-count-requires c κs = search needs
+
+returns-2 : tie.Need-returns-2
+returns-2 c = many-nodes (c .before .before .before .before .args .labels) (c .before .before .before .before .args .formula .now) (subst (λ k. 40 < k) (c .before .node-count .ensures) (c .if2 .taken))
+
+slots-fit-requires : tie.Need-slots-fit-requires
+slots-fit-requires c κs = search needs
+
+returns-3 : tie.Need-returns-3
+returns-3 c =
+    let n = c .before .before .before .before .before .before .args .labels in
+    let b = c .before .before .before .before .before .before .args .formula .now in
+    slots-foreign n b (sym (ap (slotsFit n b) (c .before .before .before .node-count .ensures)) ∙ (sym (c .before .slots-fit .ensures) ∙ not-true (c .before .slots-fit .result) (c .if3 .taken)))
+
+mul-zeros-from : tie.Need-mul-zeros-from
+mul-zeros-from c = search needs
+
+add-zeros-from : tie.Need-add-zeros-from
+add-zeros-from c = search needs
+
+zeros-from-requires : tie.Need-zeros-from-requires
+zeros-from-requires c κs = search needs
+
+returns-4 : tie.Need-returns-4
+returns-4 c =
+    let n = c .before .before .before .before .before .before .before .before .args .labels in
+    let b = c .before .before .before .before .before .before .before .before .args .formula .now in
+    not-zeros n b (sym (ap (λ k. zerosFrom b (1 + k * 17)) (c .before .before .before .before .before .node-count .ensures)) ∙ (sym (c .before .zeros-from .ensures) ∙ not-true (c .before .zeros-from .result) (c .if4 .taken)))
+
+spelled-requires : tie.Need-spelled-requires
+spelled-requires c κs = search needs
+
+returns-5 : tie.Need-returns-5
+returns-5 c =
+    let n = c .before .before .before .before .before .before .before .before .before .args .labels in
+    let b = c .before .before .before .before .before .before .before .before .before .args .formula .now in
+    let count = c .before .before .before .before .before .before .node-count .ensures in
+    let few = c .before .before .before .before .before .if2 .left in
+    decided n b (c .before .before .before .before .before .before .before .if1 .left) (λ i. c .before .before .before .before .before .before .before .before .shared-slice-known .given i .fits) (omega arith)
+    (sym (ap (slotsFit n b) count) ∙ (sym (c .before .before .before .before .slots-fit .ensures) ∙ not-false (c .before .before .before .before .slots-fit .result) (c .before .before .before .if3 .left)))
+    (sym (ap (λ k. zerosFrom b (1 + k * 17)) count) ∙ (sym (c .before .before .zeros-from .ensures) ∙ not-false (c .before .before .zeros-from .result) (c .before .if4 .left)))
+    (c .spelled .result)
+    (subst (λ k. Decides (SpelledClassed b k) (c .spelled .result)) count (c .spelled .ensures))
+
+pub is-prepared-spec : {M : Type 1} → statement M
+is-prepared-spec =
+    tie.close
+    (tie.spec
+    returns
+    node-count-requires
+    returns-2
+    slots-fit-requires
+    returns-3
+    mul-zeros-from
+    add-zeros-from
+    zeros-from-requires
+    returns-4
+    spelled-requires
+    returns-5)

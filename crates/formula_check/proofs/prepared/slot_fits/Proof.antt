@@ -1,0 +1,99 @@
+-- `slot_fits` meets its contract: one of the nine kinds, and each mask by itself.
+use mathlib.Core.Path.{_≡_, sym, ap, _∙_}
+use mathlib.Core.Bool.{_&&_, _||_}
+use lib.Dec.{eqb}
+use Rattle.actl.specs.Shaped.{firstUsed, secondUsed}
+use Rattle.actl.specs.Prepared.{maskWithin, slotAt}
+use Rattle.actl.proofs.Laws.Checked.{kind-low, kind-high, masks-fit}
+use borrow.Author.Needs.{needs}
+use Rattle.formula_check.proofs.prepared.slot_fits.Statement.{statement}
+use Rattle.formula_check.proofs.prepared.slot_fits.Tie as tie
+
+mul-kind : tie.Need-mul-kind
+mul-kind c = search needs
+
+add-kind : tie.Need-add-kind
+add-kind c = search needs
+
+shared-slice-read-kind : tie.Need-shared-slice-read-kind
+shared-slice-read-kind c = search needs
+
+returns : tie.Need-returns
+returns c = sym (kind-low (c .before .before .before .args .labels) (slotAt (c .before .before .before .args .formula .now) (c .before .before .before .args .k)) (c .if1 .taken))
+
+returns-2 : tie.Need-returns-2
+returns-2 c = sym (kind-high (c .before .before .before .before .args .labels) (slotAt (c .before .before .before .before .args .formula .now) (c .before .before .before .before .args .k)) (c .if2 .taken))
+
+masks-of-requires : tie.Need-masks-of-requires
+masks-of-requires c κs = search needs
+
+mul-mask : tie.Need-mul-mask
+mul-mask c = search needs
+
+add-mask : tie.Need-add-mask
+add-mask c = search needs
+
+mask-requires : tie.Need-mask-requires
+mask-requires c κs = search needs
+
+mask-fits-requires : tie.Need-mask-fits-requires
+mask-fits-requires c κs = search needs
+
+mul-mask-2 : tie.Need-mul-mask-2
+mul-mask-2 c = search needs
+
+add-mask-2 : tie.Need-add-mask-2
+add-mask-2 c = search needs
+
+mask-requires-2 : tie.Need-mask-requires-2
+mask-requires-2 c κs = search needs
+
+mask-fits-requires-2 : tie.Need-mask-fits-requires-2
+mask-fits-requires-2 c κs = search needs
+
+returns-3 : tie.Need-returns-3
+returns-3 c =
+    let start = c .before .before .before .before .before .before .before .before .before .before in
+    let n = start .args .labels in
+    let s = slotAt (start .args .formula .now) (start .args .k) in
+    let count = c .before .before .before .before .before .masks-of .ensures in
+    let m = c .before .before .before .before .mask .ensures in
+    let o = c .before .before .mask2 .ensures in
+    let first : c .before .before .before .mask-fits .result ≡ ((firstUsed (s .kind) || eqb (s .first) 0) && maskWithin n (s .first)) = c .before .before .before .mask-fits .ensures ∙ (λ i. (count .0 i || eqb (m i) 0) && maskWithin n (m i)) in
+    let second : c .before .mask-fits2 .result ≡ ((secondUsed (s .kind) || eqb (s .second) 0) && maskWithin n (s .second)) = c .before .mask-fits2 .ensures ∙ (λ i. (count .1 i || eqb (o i) 0) && maskWithin n (o i)) in
+    let both = (λ i. first i && second i) ∙ masks-fit n s (c .before .before .before .before .before .before .before .if1 .left) (c .before .before .before .before .before .before .if2 .left) in
+    sym (ap (λ t. t && c .before .mask-fits2 .result) (c .if3 .taken)) ∙ both
+
+returns-4 : tie.Need-returns-4
+returns-4 c =
+    let start = c .before .before .before .before .before .before .before .before .before .before in
+    let n = start .args .labels in
+    let s = slotAt (start .args .formula .now) (start .args .k) in
+    let count = c .before .before .before .before .before .masks-of .ensures in
+    let m = c .before .before .before .before .mask .ensures in
+    let o = c .before .before .mask2 .ensures in
+    let first : c .before .before .before .mask-fits .result ≡ ((firstUsed (s .kind) || eqb (s .first) 0) && maskWithin n (s .first)) = c .before .before .before .mask-fits .ensures ∙ (λ i. (count .0 i || eqb (m i) 0) && maskWithin n (m i)) in
+    let second : c .before .mask-fits2 .result ≡ ((secondUsed (s .kind) || eqb (s .second) 0) && maskWithin n (s .second)) = c .before .mask-fits2 .ensures ∙ (λ i. (count .1 i || eqb (o i) 0) && maskWithin n (o i)) in
+    let both = (λ i. first i && second i) ∙ masks-fit n s (c .before .before .before .before .before .before .before .if1 .left) (c .before .before .before .before .before .before .if2 .left) in
+    c .if3 .left ∙ (sym (ap (λ t. t && c .before .mask-fits2 .result) (c .if3 .left)) ∙ both)
+
+pub slot-fits-spec : {M : Type 1} → statement M
+slot-fits-spec =
+    tie.close
+    (tie.spec
+    mul-kind
+    add-kind
+    shared-slice-read-kind
+    returns
+    returns-2
+    masks-of-requires
+    mul-mask
+    add-mask
+    mask-requires
+    mask-fits-requires
+    mul-mask-2
+    add-mask-2
+    mask-requires-2
+    mask-fits-requires-2
+    returns-3
+    returns-4)

@@ -1,0 +1,39 @@
+-- `zeros_from` meets its contract: the test of bytes is the one over each of them.
+use borrow.Author.Needs.{needs}
+use Rattle.formula_check.proofs.prepared.zeros_from.Statement.{statement}
+use Rattle.formula_check.proofs.prepared.zeros_from.Tie as tie
+use mathlib.Core.Path.{_≡_, refl, sym, _∙_}
+use mathlib.Core.Bool.{Bool, true, false, false≢true}
+use mathlib.Core.List.{List}
+use Prim.Native.Nat.{ℕ, _-_, _≤_}
+use native.Mathlib.Omega.{arith}
+use lib.Dec.{eqb}
+use lib.ListN.{getD}
+use borrow.Author.Tests.{eq-eqb, eqb-true}
+use Rattle.lts.specs.Answers.{Decides}
+use Rattle.lts.specs.Check.{ZerosFrom}
+use Rattle.lts.specs.Lists.{every, upFrom}
+use Rattle.lts.proofs.Lists.{every-of, upFrom-to}
+use Rattle.actl.specs.Check.{zerosFrom}
+use Rattle.actl.proofs.Laws.Lists.{passed-all}
+
+zeros-requires : tie.Need-zeros-requires
+zeros-requires c κs = search needs
+
+module _ (b : List ℕ) (from : ℕ) (few : from ≤ 681) where
+  each : zerosFrom b from ≡ true → ZerosFrom b from 681
+  each e k l m = eqb-true (getD b k 0) 0 (every-of (λ i. eqb (getD b i 0) 0) (upFrom from (681 - from)) e k (upFrom-to from (681 - from) k l (omega arith)))
+
+  decided : (r : Bool) → Decides (ZerosFrom b from 681) r → r ≡ zerosFrom b from
+  decided true d = sym (passed-all (λ i. eqb (getD b i 0) 0) from (681 - from) 681 (omega arith) (λ i l m. eq-eqb (getD b i 0) 0 (d .yes refl i l m)))
+  decided false d = go (zerosFrom b from) refl
+    where
+      go : (t : Bool) → zerosFrom b from ≡ t → false ≡ t
+      go true e = absurd (d .no refl (each e))
+      go false e = refl
+
+returns : tie.Need-returns
+returns c = let d = c .before .before in decided (d .args .formula .now) (d .args .from) (d .pre .1) (c .zeros .result) (c .zeros .ensures)
+
+pub zeros-from-spec : {M : Type 1} → statement M
+zeros-from-spec = tie.close (tie.spec zeros-requires returns)

@@ -1,0 +1,105 @@
+// The check that prepared formula bytes are the one form of a formula, over a table's labels.
+use formulas::node::mask;
+use formulas::node::node_count;
+use formulas::walk::spelled;
+use table_check::zeros;
+ghost use mathlib.Core.Path.{_≡_};
+ghost use mathlib.Core.Bool.{_&&_, _||_};
+ghost use Prim.Native.Nat.{_+_, _*_, _<_, _≤_};
+ghost use lib.Dec.{eqb, leb};
+ghost use lib.ListN.{length};
+ghost use Rattle.actl.specs.Prepared.{maskWithin, slotAt};
+ghost use Rattle.actl.specs.Shaped.{firstUsed, secondUsed};
+ghost use Rattle.actl.specs.Check.{isPrepared, slotFits, slotsFit, zerosFrom};
+
+// 01: "sets within this table's labels": no bit 0, and none above the labels.
+fn within(labels: usize, set: u64) -> bool
+    ensures { λ r. ⌜ r ≡ maskWithin labels set ⌝ }
+{
+    if set % 2 != 0 {
+        return false;
+    }
+    if 63 <= labels {
+        return true;
+    }
+    set >> (labels + 1) == 0
+}
+
+// A mask that the kind has is a set; one that it does not have is zero.
+fn mask_fits(labels: usize, set: u64, used: bool) -> bool
+    ensures { λ r. ⌜ r ≡ ((used || eqb set 0) && maskWithin labels set) ⌝ }
+{
+    if used {
+        return within(labels, set);
+    }
+    set == 0
+}
+
+// How many of its masks a kind has (docs/FORMATS.md).
+const MASKS: [u8; 10] = [0, 0, 0, 0, 0, 1, 0, 1, 1, 2];
+
+fn masks_of(kind: u8) -> u8
+    requires { ⌜ kind < 10 ⌝ }
+    ensures { λ r. ⌜ leb 1 r ≡ firstUsed kind ⌝ }
+    ensures { λ r. ⌜ eqb r 2 ≡ secondUsed kind ⌝ }
+{
+    MASKS[kind as usize]
+}
+
+fn slot_fits(labels: usize, formula: &[u8], k: usize) -> bool
+    requires { ⌜ (681 ≤ length (now formula)) × (k < 40) ⌝ }
+    ensures { λ r. ⌜ r ≡ slotFits labels (slotAt (now (formula .entry)) k) ⌝ }
+{
+    let kind = formula[1 + k * 17];
+    if kind == 0 {
+        return false;
+    }
+    if 9 < kind {
+        return false;
+    }
+    let masks = masks_of(kind);
+    let first = mask_fits(labels, mask(formula, 2 + k * 17), 1 <= masks);
+    let second = mask_fits(labels, mask(formula, 10 + k * 17), masks == 2);
+    first && second
+}
+
+fn slots_fit(labels: usize, formula: &[u8], count: usize) -> bool
+    requires { ⌜ (681 ≤ length (now formula)) × (count ≤ 40) ⌝ }
+    ensures { λ r. ⌜ r ≡ slotsFit labels (now (formula .entry)) count ⌝ }
+{
+    let mut k = 0;
+    while k < count {
+        if !slot_fits(labels, formula, k) {
+            return false;
+        }
+        k += 1;
+    }
+    true
+}
+
+fn zeros_from(formula: &[u8], from: usize) -> bool
+    requires { ⌜ (681 ≤ length (now formula)) × (from ≤ 681) ⌝ }
+    ensures { λ r. ⌜ r ≡ zerosFrom (now (formula .entry)) from ⌝ }
+{
+    zeros(formula, from, 681)
+}
+
+// 01: "formula bytes that aren't the one form, given in docs/, of 1 to 40 nodes in order, each with a class, sets within this table's labels"
+pub fn is_prepared(labels: usize, formula: &[u8]) -> bool
+    ensures { λ r. ⌜ r ≡ isPrepared labels (now (formula .entry)) ⌝ }
+{
+    if formula.len() < 681 {
+        return false;
+    }
+    let count = node_count(formula);
+    if 40 < count {
+        return false;
+    }
+    if !slots_fit(labels, formula, count) {
+        return false;
+    }
+    if !zeros_from(formula, 1 + count * 17) {
+        return false;
+    }
+    spelled(formula, count)
+}

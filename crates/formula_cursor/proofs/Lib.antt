@@ -1,0 +1,4 @@
+pub mod ReadingMoves
+pub mod ReadingNames
+pub mod ReadingPlaces
+pub mod ReadingTexts

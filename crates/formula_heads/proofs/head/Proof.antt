@@ -1,0 +1,129 @@
+-- `head` reads a keyword and its bracket.
+use borrow.Author.Needs.{needs}
+use mathlib.Core.Path.{subst}
+use mathlib.Core.List.{[], _∷_}
+use native.Mathlib.Omega.{arith}
+use Rattle.formula_cursor.specs.CursorReplies.{KeywordSays}
+use Rattle.actl.specs.Readers.{namesIn}
+use Rattle.formula_heads.proofs.ReadingHeads.{head-EX, head-AX, head-EU, no-head}
+use Rattle.formula_heads.proofs.head.Statement.{statement}
+use Rattle.formula_heads.proofs.head.Tie as tie
+
+keyword-requires : tie.Need-keyword-requires
+keyword-requires c κs = search needs
+
+enum-known-d : tie.Need-enum-known-d
+enum-known-d c = search needs
+
+next-head-requires : tie.Need-next-head-requires
+next-head-requires c κs =
+    let a = c .before .before .before .before .before .before .before .args in
+    let s = a .text .now in
+    let at = a .c .at in
+    let pre = c .before .before .before .before .before .before .before .pre in
+    let k = subst (KeywordSays s at (69 ∷ 88 ∷ [])) (c .before .d .given .1) (c .before .before .before .keyword .ensures) in
+    (pre .0 .table, pre .0 .short, omega (arith, k .two .within, k .two .next), omega arith)
+
+returns : tie.Need-returns
+returns c =
+    let a = c .before .before .before .before .before .before .before .before .args in
+    let N = namesIn (a .table .now) in
+    let s = a .text .now in
+    let at = a .c .at in
+    let k = subst (KeywordSays s at (69 ∷ 88 ∷ [])) (c .before .before .d .given .1) (c .before .before .before .before .keyword .ensures) in
+    head-EX N s at (a .lost) k (c .next-head .result) (c .next-head .ensures)
+
+enum-told : tie.Need-enum-told
+enum-told c = search needs
+
+keyword-requires-2 : tie.Need-keyword-requires-2
+keyword-requires-2 c κs = search needs
+
+enum-known-d-2 : tie.Need-enum-known-d-2
+enum-known-d-2 c = search needs
+
+next-head-requires-2 : tie.Need-next-head-requires-2
+next-head-requires-2 c κs =
+    let a = c .before .before .before .before .before .before .before .before .before .before .before .args in
+    let s = a .text .now in
+    let at = a .c .at in
+    let pre = c .before .before .before .before .before .before .before .before .before .before .before .pre in
+    let k = subst (KeywordSays s at (65 ∷ 88 ∷ [])) (c .before .d2 .given .1) (c .before .before .before .keyword2 .ensures) in
+    (pre .0 .table, pre .0 .short, omega (arith, k .two .within, k .two .next), omega arith)
+
+returns-2 : tie.Need-returns-2
+returns-2 c =
+    let a = c .before .before .before .before .before .before .before .before .before .before .before .before .args in
+    let N = namesIn (a .table .now) in
+    let s = a .text .now in
+    let at = a .c .at in
+    let k = subst (KeywordSays s at (65 ∷ 88 ∷ [])) (c .before .before .d2 .given .1) (c .before .before .before .before .keyword2 .ensures) in
+    head-AX N s at (a .lost) k (c .next-head2 .result) (c .next-head2 .ensures)
+
+enum-told-2 : tie.Need-enum-told-2
+enum-told-2 c = search needs
+
+keyword-requires-3 : tie.Need-keyword-requires-3
+keyword-requires-3 c κs = search needs
+
+enum-known-d-3 : tie.Need-enum-known-d-3
+enum-known-d-3 c = search needs
+
+until-head-requires : tie.Need-until-head-requires
+until-head-requires c κs =
+    let a = c .before .before .before .before .before .before .before .before .before .before .before .before .before .before .before .args in
+    let s = a .text .now in
+    let at = a .c .at in
+    let pre = c .before .before .before .before .before .before .before .before .before .before .before .before .before .before .before .pre in
+    let k = subst (KeywordSays s at (69 ∷ 85 ∷ [])) (c .before .d3 .given .1) (c .before .before .before .keyword3 .ensures) in
+    (pre .0 .table, pre .0 .short, omega (arith, k .two .within, k .two .next))
+
+returns-3 : tie.Need-returns-3
+returns-3 c =
+    let a = c .before .before .before .before .before .before .before .before .before .before .before .before .before .before .before .before .args in
+    let N = namesIn (a .table .now) in
+    let s = a .text .now in
+    let at = a .c .at in
+    let k = subst (KeywordSays s at (69 ∷ 85 ∷ [])) (c .before .before .d3 .given .1) (c .before .before .before .before .keyword3 .ensures) in
+    head-EU N s at (a .lost) k (c .until-head .result) (c .until-head .ensures)
+
+enum-told-3 : tie.Need-enum-told-3
+enum-told-3 c = search needs
+
+no-keyword-requires : tie.Need-no-keyword-requires
+no-keyword-requires c κs = search needs
+
+returns-4 : tie.Need-returns-4
+returns-4 c =
+    let a = c .before .before .before .before .before .before .before .before .before .before .before .before .before .before .before .args in
+    let N = namesIn (a .table .now) in
+    let s = a .text .now in
+    let at = a .c .at in
+    let pre = c .before .before .before .before .before .before .before .before .before .before .before .before .before .before .before .pre in
+    no-head N s at (a .lost) (pre .0 .token) (pre .1)
+    (subst (KeywordSays s at (69 ∷ 88 ∷ [])) (c .before .before .before .before .before .before .before .before .before .enum-told .given .1) (c .before .before .before .before .before .before .before .before .before .before .before .keyword .ensures))
+    (subst (KeywordSays s at (65 ∷ 88 ∷ [])) (c .before .before .before .before .before .enum-told2 .given .1) (c .before .before .before .before .before .before .before .keyword2 .ensures))
+    (subst (KeywordSays s at (69 ∷ 85 ∷ [])) (c .before .enum-told3 .given .1) (c .before .before .before .keyword3 .ensures))
+    (c .no-keyword .ensures)
+
+pub head-spec : {M : Type 1} → statement M
+head-spec =
+    tie.close
+    (tie.spec
+    keyword-requires
+    enum-known-d
+    next-head-requires
+    returns
+    enum-told
+    keyword-requires-2
+    enum-known-d-2
+    next-head-requires-2
+    returns-2
+    enum-told-2
+    keyword-requires-3
+    enum-known-d-3
+    until-head-requires
+    returns-3
+    enum-told-3
+    no-keyword-requires
+    returns-4)

@@ -1,0 +1,179 @@
+-- `until_head` reads the bracket of EU, with one set or two.
+use borrow.Author.Needs.{needs}
+use mathlib.Core.Path.{subst}
+use Rattle.formula_cursor.specs.CursorReplies.{MarkSays, TokenSays}
+use Rattle.actl.specs.Readers.{namesIn}
+use Rattle.formula_sets.specs.SetReplies.{SetSays, EnclosedSays}
+use Rattle.formula_sets.proofs.ReadingSets.{token-behind}
+use Rattle.formula_heads.proofs.ReadingHeads.{until-unopened, until-fails, until-open, until-read, then-read, then-fails}
+use Rattle.formula_heads.proofs.until_head.Statement.{statement}
+use Rattle.formula_heads.proofs.until_head.Tie as tie
+
+skip-blanks-requires : tie.Need-skip-blanks-requires
+skip-blanks-requires c κs = search needs
+
+token-requires : tie.Need-token-requires
+token-requires c κs = search needs
+
+enum-known-d : tie.Need-enum-known-d
+enum-known-d c = search needs
+
+enum-told : tie.Need-enum-told
+enum-told c = search needs
+
+returns : tie.Need-returns
+returns c =
+    let a = c .before .before .before .before .before .before .args in
+    let N = namesIn (a .table .now) in
+    let s = a .text .now in
+    let at = a .c .at in
+    let o = c .before .before .before .skip-blanks .result .at in
+    until-unopened N s at (a .lost) o (c .before .before .before .skip-blanks .ensures) (subst (TokenSays s o 91) (c .enum-told .given .1) (c .before .before .token .ensures))
+
+set-requires : tie.Need-set-requires
+set-requires c κs =
+    let a = c .before .before .before .before .before .before .before .args in
+    let s = a .text .now in
+    let pre = c .before .before .before .before .before .before .before .pre in
+    let o = c .before .before .before .before .skip-blanks .result .at in
+    let k = subst (TokenSays s o 91) (c .before .d .given .1) (c .before .before .before .token .ensures) in
+    record { table = pre .0; short = pre .1; token = token-behind k }
+
+enum-known-x : tie.Need-enum-known-x
+enum-known-x c = search needs
+
+enum-known-x-2 : tie.Need-enum-known-x-2
+enum-known-x-2 c = search needs
+
+token-requires-2 : tie.Need-token-requires-2
+token-requires-2 c κs = search needs
+
+enum-known-g : tie.Need-enum-known-g
+enum-known-g c = search needs
+
+enum-told-2 : tie.Need-enum-told-2
+enum-told-2 c = search needs
+
+mark-requires : tie.Need-mark-requires
+mark-requires c κs = search needs
+
+enum-known-f : tie.Need-enum-known-f
+enum-known-f c = search needs
+
+enum-told-3 : tie.Need-enum-told-3
+enum-told-3 c = search needs
+
+returns-2 : tie.Need-returns-2
+returns-2 c =
+    let a = c .before .before .before .before .before .before .before .before .before .before .before .before .before .before .before .before .before .args in
+    let N = namesIn (a .table .now) in
+    let s = a .text .now in
+    let at = a .c .at in
+    let o = c .before .before .before .before .before .before .before .before .before .before .before .before .before .before .skip-blanks .result .at in
+    let b = c .before .before .before .before .before .before .before .before .before .before .before .before .before .before .skip-blanks .ensures in
+    let k = subst (TokenSays s o 91) (c .before .before .before .before .before .before .before .before .before .before .before .d .given .1) (c .before .before .before .before .before .before .before .before .before .before .before .before .before .token .ensures) in
+    let d = c .before .before .before .before .before .before .before .before .before .before .before .d .given .0 .0 .at in
+    let c₁ = subst (SetSays N s d (a .lost)) (c .before .before .before .before .before .before .before .x2 .given .1) (c .before .before .before .before .before .before .before .before .before .set .ensures) in
+    let e = c .before .before .before .before .before .before .before .x2 .given .0 .0 .at in
+    until-open N s at (a .lost) o b k c₁ (subst (TokenSays s e 59) (c .before .before .before .enum-told2 .given .1) (c .before .before .before .before .before .token2 .ensures))
+    (subst (MarkSays s e 93) (c .enum-told3 .given .1) (c .before .before .mark .ensures))
+
+returns-3 : tie.Need-returns-3
+returns-3 c =
+    let a = c .before .before .before .before .before .before .before .before .before .before .before .before .before .before .before .before .before .before .args in
+    let N = namesIn (a .table .now) in
+    let s = a .text .now in
+    let at = a .c .at in
+    let o = c .before .before .before .before .before .before .before .before .before .before .before .before .before .before .before .skip-blanks .result .at in
+    let b = c .before .before .before .before .before .before .before .before .before .before .before .before .before .before .before .skip-blanks .ensures in
+    let k = subst (TokenSays s o 91) (c .before .before .before .before .before .before .before .before .before .before .before .before .d .given .1) (c .before .before .before .before .before .before .before .before .before .before .before .before .before .before .token .ensures) in
+    let d = c .before .before .before .before .before .before .before .before .before .before .before .before .d .given .0 .0 .at in
+    let c₁ = subst (SetSays N s d (a .lost)) (c .before .before .before .before .before .before .before .before .x2 .given .1) (c .before .before .before .before .before .before .before .before .before .before .set .ensures) in
+    let e = c .before .before .before .before .before .before .before .before .x2 .given .0 .0 .at in
+    until-read N s at (a .lost) o b k c₁ (subst (MarkSays s e 93) (c .before .f .given .1) (c .before .before .before .mark .ensures))
+
+enclosed-requires : tie.Need-enclosed-requires
+enclosed-requires c κs =
+    let a = c .before .before .before .before .before .before .before .before .before .before .before .before .before .before .before .args in
+    let s = a .text .now in
+    let pre = c .before .before .before .before .before .before .before .before .before .before .before .before .before .before .before .pre in
+    let e = c .before .before .before .before .before .x2 .given .0 .0 .at in
+    let u = subst (TokenSays s e 59) (c .before .g .given .1) (c .before .before .before .token2 .ensures) in
+    record { table = pre .0; short = pre .1; token = token-behind u }
+
+enum-known-y : tie.Need-enum-known-y
+enum-known-y c = search needs
+
+enum-known-y-2 : tie.Need-enum-known-y-2
+enum-known-y-2 c = search needs
+
+returns-4 : tie.Need-returns-4
+returns-4 c =
+    let a = c .before .before .before .before .before .before .before .before .before .before .before .args in
+    let N = namesIn (a .table .now) in
+    let s = a .text .now in
+    let at = a .c .at in
+    let o = c .before .before .before .before .before .before .before .before .skip-blanks .result .at in
+    let b = c .before .before .before .before .before .before .before .before .skip-blanks .ensures in
+    let k = subst (TokenSays s o 91) (c .before .before .before .before .before .d .given .1) (c .before .before .before .before .before .before .before .token .ensures) in
+    let d = c .before .before .before .before .before .d .given .0 .0 .at in
+    until-fails N s at (a .lost) o b k (subst (SetSays N s d (a .lost)) (c .before .x .given .1) (c .before .before .before .set .ensures))
+
+returns-5 : tie.Need-returns-5
+returns-5 c =
+    let a = c .before .before .before .before .before .before .before .before .before .before .before .before .before .before .before .before .before .before .before .args in
+    let N = namesIn (a .table .now) in
+    let s = a .text .now in
+    let at = a .c .at in
+    let o = c .before .before .before .before .before .before .before .before .before .before .before .before .before .before .before .before .skip-blanks .result .at in
+    let b = c .before .before .before .before .before .before .before .before .before .before .before .before .before .before .before .before .skip-blanks .ensures in
+    let k = subst (TokenSays s o 91) (c .before .before .before .before .before .before .before .before .before .before .before .before .before .d .given .1) (c .before .before .before .before .before .before .before .before .before .before .before .before .before .before .before .token .ensures) in
+    let d = c .before .before .before .before .before .before .before .before .before .before .before .before .before .d .given .0 .0 .at in
+    let c₁ = subst (SetSays N s d (a .lost)) (c .before .before .before .before .before .before .before .before .before .x2 .given .1) (c .before .before .before .before .before .before .before .before .before .before .before .set .ensures) in
+    let e = c .before .before .before .before .before .before .before .before .before .x2 .given .0 .0 .at in
+    let u = subst (TokenSays s e 59) (c .before .before .before .before .before .g .given .1) (c .before .before .before .before .before .before .before .token2 .ensures) in
+    let g = c .before .before .before .before .before .g .given .0 .0 .at in
+    then-fails N s at (a .lost) o b k c₁ u (subst (EnclosedSays N s g 93 (c .before .before .before .before .before .before .before .before .before .x2 .given .0 .1 .1 .0)) (c .before .y .given .1) (c .before .before .before .enclosed .ensures))
+
+returns-6 : tie.Need-returns-6
+returns-6 c =
+    let a = c .before .before .before .before .before .before .before .before .before .before .before .before .before .before .before .before .before .before .before .args in
+    let N = namesIn (a .table .now) in
+    let s = a .text .now in
+    let at = a .c .at in
+    let o = c .before .before .before .before .before .before .before .before .before .before .before .before .before .before .before .before .skip-blanks .result .at in
+    let b = c .before .before .before .before .before .before .before .before .before .before .before .before .before .before .before .before .skip-blanks .ensures in
+    let k = subst (TokenSays s o 91) (c .before .before .before .before .before .before .before .before .before .before .before .before .before .d .given .1) (c .before .before .before .before .before .before .before .before .before .before .before .before .before .before .before .token .ensures) in
+    let d = c .before .before .before .before .before .before .before .before .before .before .before .before .before .d .given .0 .0 .at in
+    let c₁ = subst (SetSays N s d (a .lost)) (c .before .before .before .before .before .before .before .before .before .x2 .given .1) (c .before .before .before .before .before .before .before .before .before .before .before .set .ensures) in
+    let e = c .before .before .before .before .before .before .before .before .before .x2 .given .0 .0 .at in
+    let u = subst (TokenSays s e 59) (c .before .before .before .before .before .g .given .1) (c .before .before .before .before .before .before .before .token2 .ensures) in
+    let g = c .before .before .before .before .before .g .given .0 .0 .at in
+    then-read N s at (a .lost) o b k c₁ u (subst (EnclosedSays N s g 93 (c .before .before .before .before .before .before .before .before .before .x2 .given .0 .1 .1 .0)) (c .before .y2 .given .1) (c .before .before .before .enclosed .ensures))
+
+pub until-head-spec : {M : Type 1} → statement M
+until-head-spec =
+    tie.close
+    (tie.spec
+    skip-blanks-requires
+    token-requires
+    enum-known-d
+    enum-told
+    returns
+    set-requires
+    enum-known-x
+    enum-known-x-2
+    token-requires-2
+    enum-known-g
+    enum-told-2
+    mark-requires
+    enum-known-f
+    enum-told-3
+    returns-2
+    returns-3
+    enclosed-requires
+    enum-known-y
+    enum-known-y-2
+    returns-4
+    returns-5
+    returns-6)

@@ -1,0 +1,21 @@
+-- What the readers of heads answer.
+use mathlib.Core.List.{List}
+use Prim.Native.Nat.{ℕ}
+use Rattle.actl.specs.Grammar.{Quantifier}
+use Rattle.actl.specs.Reader.{InTerm, termAt, afterNext, afterUntil}
+use Rattle.actl.specs.Cursor.{Fails}
+use Rattle.formula_heads.specs.declared.Heading.{Heading}
+use Rattle.formula_heads.specs.declared.Heading.the-variants as heading
+use Rattle.actl.specs.Readers.{NextRead, UntilRead, HeadRead}
+
+abbrev pub NextSays : List (List ℕ) → List ℕ → ℕ → ℕ → ℕ → Heading → Type 0
+NextSays N s at base lost (heading.Read c k a b l) = NextRead N s at base lost (c .at) k a b l
+NextSays N s at base lost (heading.Refused c) = Fails s at (c .at) (λ (p : Quantifier × InTerm). afterNext (p .0) (p .1) 0)
+
+abbrev pub UntilSays : List (List ℕ) → List ℕ → ℕ → ℕ → Heading → Type 0
+UntilSays N s at lost (heading.Read c k a b l) = UntilRead N s at lost (c .at) k a b l
+UntilSays N s at lost (heading.Refused c) = Fails s at (c .at) (λ k. afterUntil k 0)
+
+abbrev pub HeadSays : List (List ℕ) → List ℕ → ℕ → ℕ → Heading → Type 0
+HeadSays N s at lost (heading.Read c k a b l) = HeadRead N s at lost (c .at) k a b l
+HeadSays N s at lost (heading.Refused c) = Fails s at (c .at) termAt

@@ -1,0 +1,2 @@
+pub mod ReadingChains
+pub mod ReadingSets

@@ -1,0 +1,118 @@
+// Reading a set of labels: readers that call each other, each from a cursor to the cursor behind what it read.
+ghost use mathlib.Core.Path.{_≡_};
+ghost use mathlib.Core.Option.{some};
+ghost use Prim.Native.Nat.{_+_, _*_, _-_, _<_};
+ghost use lib.ListN.{length};
+ghost use Rattle.lts.specs.HoldsTable.{HoldsTable};
+ghost use Rattle.actl.specs.Actions.{Action, maskOf};
+ghost use Rattle.actl.specs.Cursor.{Named};
+ghost use Rattle.actl.specs.Readers.{namesIn, ReaderStart, earlier};
+ghost use Rattle.formula_sets.specs.SetReplies.{OperandSays, EnclosedSays, SetSays};
+use formula_cursor::Cursor;
+use formula_cursor::Match;
+use tables::names::Lookup;
+
+// A set of labels as a mask; or the place where the text is refused. The last number is 0 as long as the table has
+// every name, and else one more than the offset of the first that it lacks.
+pub enum Labels {
+    Read(Cursor, u64, usize),
+    Refused(Cursor),
+}
+
+// 01: "`*` (all labels)". Label 0 is none of them.
+fn all_labels(table: &[u8]) -> u64
+    requires { ⌜ HoldsTable (now table) ⌝ }
+    ensures { λ r. ⌜ r ≡ maskOf (length (namesIn (now (table .entry)))) Action.any ⌝ }
+{
+    (2u64 << tables::prepared::label_count(table)) - 2
+}
+
+// The first offset so far is kept.
+fn earlier_of(lost: usize, at: usize) -> usize
+    requires { ⌜ at < 512 ⌝ }
+    ensures { λ r. ⌜ r ≡ earlier lost (some at) ⌝ }
+{
+    if lost == 0 { at + 1 } else { lost }
+}
+
+// A name's label, where the table has one.
+fn label(table: &[u8], text: &[u8], c: Cursor, d: Cursor, lost: usize) -> Labels
+    requires { ⌜ ReaderStart (now table) (now text) (c .at) × Named (now text) (c .at) (d .at) ⌝ }
+    ensures { λ r. ⌜ OperandSays (namesIn (now (table .entry))) (now (text .entry)) (c .at) lost r ⌝ }
+{
+    let at = c.at;
+    let to = d.at;
+    let x = tables::names::find_label(table, &text[at..to]);
+    match x {
+        Lookup::At(a) => Labels::Read(d, 1u64 << a, lost),
+        Lookup::Nowhere => Labels::Read(d, 0, earlier_of(lost, at)),
+    }
+}
+
+// 01: "an operand is a name, `*` (all labels), `~` and an operand, or a set in round brackets"
+fn operand(table: &[u8], text: &[u8], c: Cursor, lost: usize) -> Labels
+    requires { ⌜ ReaderStart (now table) (now text) (c .at) ⌝ }
+    ensures { λ r. ⌜ OperandSays (namesIn (now (table .entry))) (now (text .entry)) (c .at) lost r ⌝ }
+{
+    if let Match::Past(d) = c.mark(text, b'*') {
+        return Labels::Read(d, all_labels(table), lost);
+    }
+    if let Match::Past(d) = c.token(text, b'~') {
+        let x = operand(table, text, d, lost);
+        return match x {
+            Labels::Read(e, m, l) => Labels::Read(e, all_labels(table) - m, l),
+            Labels::Refused(e) => Labels::Refused(e),
+        };
+    }
+    if let Match::Past(d) = c.token(text, b'(') {
+        return enclosed(table, text, d, 41, lost);
+    }
+    if let Match::Past(d) = c.name(text) {
+        return label(table, text, c, d, lost);
+    }
+    Labels::Refused(c)
+}
+
+// A set, and the mark that ends its bracket.
+pub fn enclosed(table: &[u8], text: &[u8], c: Cursor, mark: u8, lost: usize) -> Labels
+    requires { ⌜ ReaderStart (now table) (now text) (c .at) ⌝ }
+    ensures { λ r. ⌜ EnclosedSays (namesIn (now (table .entry))) (now (text .entry)) (c .at) mark lost r ⌝ }
+{
+    let x = set(table, text, c, lost);
+    match x {
+        Labels::Refused(e) => Labels::Refused(e),
+        Labels::Read(e, m, l) => {
+            let Match::Past(f) = e.mark(text, mark) else {
+                return Labels::Refused(e);
+            };
+            Labels::Read(f, m, l)
+        }
+    }
+}
+
+// 01: "A set is one or more operands joined by `|`". It is read with the blanks behind it.
+pub fn set(table: &[u8], text: &[u8], c: Cursor, lost: usize) -> Labels
+    requires { ⌜ ReaderStart (now table) (now text) (c .at) ⌝ }
+    ensures { λ r. ⌜ SetSays (namesIn (now (table .entry))) (now (text .entry)) (c .at) lost r ⌝ }
+{
+    let mut d = c;
+    let mut mask = 0u64;
+    let mut lacks = lost;
+    loop {
+        let x = operand(table, text, d, lacks);
+        match x {
+            Labels::Refused(e) => {
+                return Labels::Refused(e);
+            }
+            Labels::Read(e, m, l) => {
+                let f = e.skip_blanks(text);
+                mask = mask | m;
+                lacks = l;
+                let Match::Past(g) = f.token(text, b'|') else {
+                    return Labels::Read(f, mask, lacks);
+                };
+                d = g;
+            }
+        }
+    }
+}

@@ -1,0 +1,170 @@
+// Reading a formula's text: the readers of terms, brackets and formulas call each other, each from a cursor to the cursor behind what it
+// read. What they make of it: the nodes in preorder, three cells each (kind and two masks), and the first name that the table lacks.
+ghost use mathlib.Core.Path.{_≡_};
+ghost use Prim.Native.Nat.{_+_, _*_, _-_, _≤_, _<_};
+ghost use lib.ListN.{length};
+ghost use Rattle.lts.specs.HoldsTable.{HoldsTable};
+ghost use Rattle.actl.specs.Readers.{namesIn, ReaderStart, putAt, joinedAt, NodeRoom};
+ghost use Rattle.formula_terms.specs.TermReplies.{TermSays, BracketSays, FormulaSays, ReadingSays};
+use formula_cursor::Cursor;
+use formula_cursor::Match;
+use formula_heads::Heading;
+use formula_heads::head;
+
+// A term, and how many nodes there are behind it.
+pub enum Nodes {
+    Read(Cursor, usize, usize),
+    Refused(Cursor),
+}
+
+// A formula's end, the end of the blanks behind it, and how many nodes there are.
+pub enum Chain {
+    Read(Cursor, Cursor, usize, usize),
+    Refused(Cursor),
+}
+
+// A whole text: how many nodes it has, and the first name that the table lacks; or the length of its longest viable beginning.
+pub enum Reading {
+    Whole(usize, usize),
+    Refused(usize),
+}
+
+// Node n: its kind and its masks.
+fn put(cells: &mut [u64; 1536], n: usize, kind: u64, first: u64, second: u64)
+    requires { ⌜ (length (now cells) ≡ 1536) × (n < 512) ⌝ }
+    ensures { λ r. ⌜ now (cells .exit) ≡ putAt n kind first second (now (cells .entry)) ⌝ }
+{
+    let at = n * 3;
+    cells[at] = kind;
+    cells[at + 1] = first;
+    cells[at + 2] = second;
+}
+
+// The nodes from `start` up to n move up by one, and `|` stands before them.
+fn join(cells: &mut [u64; 1536], start: usize, n: usize)
+    requires { ⌜ (length (now cells) ≡ 1536) × (start ≤ n) × (n < 512) ⌝ }
+    ensures { λ r. ⌜ now (cells .exit) ≡ joinedAt start n (now (cells .entry)) ⌝ }
+{
+    let low = start * 3;
+    let mut i = n * 3;
+    while low < i {
+        i -= 1;
+        cells[i + 3] = cells[i];
+    }
+    put(cells, start, 3, 0, 0);
+}
+
+// 01: "A term is `T`, `~` and a term, a keyword with its square bracket and a term, or a formula in round brackets."
+fn term(
+    table: &[u8],
+    text: &[u8],
+    cells: &mut [u64; 1536],
+    c: Cursor,
+    n: usize,
+    lost: usize,
+) -> Nodes
+    requires { ⌜ ReaderStart (now table) (now text) (c .at) × NodeRoom (now cells) (c .at) n ⌝ }
+    ensures { λ r. ⌜ TermSays (namesIn (now (table .entry))) (now (text .entry)) (c .at) n lost (now (cells .entry)) (now (cells .exit)) r ⌝ }
+{
+    if let Match::Past(d) = c.mark(text, b'T') {
+        put(cells, n, 1, 0, 0);
+        return Nodes::Read(d, n + 1, lost);
+    }
+    if let Match::Past(d) = c.token(text, b'~') {
+        put(cells, n, 2, 0, 0);
+        return term(table, text, cells, d, n + 1, lost);
+    }
+    if let Match::Past(d) = c.token(text, b'(') {
+        return bracket(table, text, cells, d, n, lost);
+    }
+    let x = head(table, text, c, lost);
+    match x {
+        Heading::Refused(e) => Nodes::Refused(e),
+        Heading::Read(e, kind, first, second, l) => {
+            let f = e.skip_blanks(text);
+            put(cells, n, kind, first, second);
+            term(table, text, cells, f, n + 1, l)
+        }
+    }
+}
+
+// 01: "A bracket holds a whole formula again." From behind `(` to behind `)`.
+fn bracket(
+    table: &[u8],
+    text: &[u8],
+    cells: &mut [u64; 1536],
+    c: Cursor,
+    n: usize,
+    lost: usize,
+) -> Nodes
+    requires { ⌜ ReaderStart (now table) (now text) (c .at) × NodeRoom (now cells) (c .at) n ⌝ }
+    ensures { λ r. ⌜ BracketSays (namesIn (now (table .entry))) (now (text .entry)) (c .at) n lost (now (cells .entry)) (now (cells .exit)) r ⌝ }
+{
+    let x = formula(table, text, cells, c, n, lost);
+    match x {
+        Chain::Refused(e) => Nodes::Refused(e),
+        Chain::Read(_, e, m, l) => {
+            let Match::Past(f) = e.mark(text, b')') else {
+                return Nodes::Refused(e);
+            };
+            Nodes::Read(f, m, l)
+        }
+    }
+}
+
+// 01: "A formula is one or more terms joined by `|`, grouped from the left." It is read with the blanks behind it.
+fn formula(
+    table: &[u8],
+    text: &[u8],
+    cells: &mut [u64; 1536],
+    c: Cursor,
+    n: usize,
+    lost: usize,
+) -> Chain
+    requires { ⌜ ReaderStart (now table) (now text) (c .at) × NodeRoom (now cells) (c .at) n ⌝ }
+    ensures { λ r. ⌜ FormulaSays (namesIn (now (table .entry))) (now (text .entry)) (c .at) n lost (now (cells .entry)) (now (cells .exit)) r ⌝ }
+{
+    let mut d = c;
+    let mut k = n;
+    let mut lacks = lost;
+    loop {
+        let x = term(table, text, cells, d, k, lacks);
+        match x {
+            Nodes::Refused(e) => {
+                return Chain::Refused(e);
+            }
+            Nodes::Read(e, m, l) => {
+                let f = e.skip_blanks(text);
+                let Match::Past(g) = f.token(text, b'|') else {
+                    return Chain::Read(e, f, m, l);
+                };
+                join(cells, n, m);
+                d = g;
+                k = m + 1;
+                lacks = l;
+            }
+        }
+    }
+}
+
+// A whole text of at most 512 bytes.
+pub fn read_text(table: &[u8], text: &[u8], cells: &mut [u64; 1536]) -> Reading
+    requires { ⌜ HoldsTable (now table) × (length (now text) ≤ 512) × (length (now cells) ≡ 1536) ⌝ }
+    ensures { λ r. ⌜ ReadingSays (namesIn (now (table .entry))) (now (text .entry)) (now (cells .exit)) r ⌝ }
+{
+    let c = Cursor { at: 0 };
+    if let Match::Past(_) = c.mark(text, b' ') {
+        return Reading::Refused(0);
+    }
+    let x = formula(table, text, cells, c, 0, 0);
+    match x {
+        Chain::Refused(e) => Reading::Refused(e.at),
+        Chain::Read(e, f, n, lost) => {
+            if e.at == text.len() {
+                Reading::Whole(n, lost)
+            } else {
+                Reading::Refused(f.at)
+            }
+        }
+    }
+}

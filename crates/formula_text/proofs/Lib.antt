@@ -1,0 +1,2 @@
+pub mod ReadingAnswers
+pub mod ReadingEntry

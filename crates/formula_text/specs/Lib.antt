@@ -1,0 +1,2 @@
+pub mod FormulaAnswers
+pub mod Replies

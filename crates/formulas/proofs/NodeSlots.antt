@@ -1,0 +1,68 @@
+-- The node that the code hands out for a subformula: a slot is one node's only.
+use mathlib.Core.Path.{_≡_, refl, sym, ap, _∙_}
+use mathlib.Core.Bool.{cond}
+use lib.Dec.{eqb}
+use Rattle.actl.specs.Actions.{Cond, silent, labels}
+use Rattle.actl.specs.Formulas.{Formula, tru, not, or, ex, ax, eu, euThen}
+use Rattle.actl.specs.Prepared.{Slot, slotOf}
+use Rattle.formulas.specs.Access.{condIn, slotOfNode}
+use Rattle.formulas.specs.declared.node.Condition.{Condition}
+use Rattle.formulas.specs.declared.node.Condition.the-variants.{Silent, Labels}
+use Rattle.formulas.specs.declared.node.Node.{Node}
+use Rattle.formulas.specs.declared.node.Node.the-variants.{True, Not, Or, Ex, Ax, Until, UntilThen}
+
+abbrev pub conditionOf : Cond → Condition
+conditionOf silent = Silent
+conditionOf (labels m) = Labels m
+
+abbrev pub nodeOf : Formula → Node
+nodeOf tru = True
+nodeOf (not f) = Not
+nodeOf (or f g) = Or
+nodeOf (ex c f) = Ex (conditionOf c)
+nodeOf (ax c f) = Ax (conditionOf c)
+nodeOf (eu a f) = Until a
+nodeOf (euThen a b f) = UntilThen a b
+
+pub condition-of : (c : Cond) → condIn (conditionOf c) ≡ c
+condition-of silent = refl
+condition-of (labels m) = refl
+
+-- The node in a slot, by its kind (docs/FORMATS.md).
+unfoldable pub nodeIn : Slot → Node
+nodeIn s =
+    cond (eqb (s .kind) 1) True (
+    cond (eqb (s .kind) 2) Not (
+    cond (eqb (s .kind) 3) Or (
+    cond (eqb (s .kind) 4) (Ex Silent) (
+    cond (eqb (s .kind) 5) (Ex (Labels (s .first))) (
+    cond (eqb (s .kind) 6) (Ax Silent) (
+    cond (eqb (s .kind) 7) (Ax (Labels (s .first))) (
+    cond (eqb (s .kind) 8) (Until (s .first)) (UntilThen (s .first) (s .second)))))))))
+
+pub node-in-slot : (n : Node) → nodeIn (slotOfNode n) ≡ n
+unfolding nodeIn
+node-in-slot True = refl
+node-in-slot Not = refl
+node-in-slot Or = refl
+node-in-slot (Ex Silent) = refl
+node-in-slot (Ex (Labels m)) = refl
+node-in-slot (Ax Silent) = refl
+node-in-slot (Ax (Labels m)) = refl
+node-in-slot (Until a) = refl
+node-in-slot (UntilThen a b) = refl
+
+formula-in-slot : (f : Formula) → nodeIn (slotOf f) ≡ nodeOf f
+unfolding nodeIn
+formula-in-slot tru = refl
+formula-in-slot (not f) = refl
+formula-in-slot (or f g) = refl
+formula-in-slot (ex silent f) = refl
+formula-in-slot (ex (labels m) f) = refl
+formula-in-slot (ax silent f) = refl
+formula-in-slot (ax (labels m) f) = refl
+formula-in-slot (eu a f) = refl
+formula-in-slot (euThen a b f) = refl
+
+pub node-of-slot : (n : Node) (f : Formula) → slotOfNode n ≡ slotOf f → n ≡ nodeOf f
+node-of-slot n f e = sym (node-in-slot n) ∙ (ap nodeIn e ∙ formula-in-slot f)

@@ -1,0 +1,31 @@
+-- `in_set` meets its contract: the shifted mask is odd exactly if the label's bit is set.
+use mathlib.Core.Path.{_≡_, refl, sym, ap, _∙_}
+use mathlib.Core.Bool.{true, false, not, _&&_}
+use lib.Dec.{eqb}
+use borrow.Author.Needs.{needs}
+use Prim.Native.Nat.{_/_, _%_, _^_}
+use Rattle.lts.specs.Steps.{silent}
+use Rattle.actl.specs.Actions.{inSet}
+use Rattle.formulas.proofs.conditions.in_set.Statement.{statement}
+use Rattle.formulas.proofs.conditions.in_set.Tie as tie
+
+is-silent-requires : tie.Need-is-silent-requires
+is-silent-requires c κs = search needs
+
+shr-result : tie.Need-shr-result
+shr-result c = search needs
+
+returns : tie.Need-returns
+unfolding inSet
+returns c =
+    let e : silent (c .before .before .args .label) ≡ true = sym (c .before .is-silent .ensures) ∙ c .if1 .taken in
+    rw e
+
+returns-2 : tie.Need-returns-2
+unfolding inSet
+returns-2 c =
+    let e : silent (c .before .before .args .label) ≡ false = sym (c .before .is-silent .ensures) ∙ c .if1 .left in
+    rw e
+
+pub in-set-spec : {M : Type 1} → statement M
+in-set-spec = tie.close (tie.spec is-silent-requires shr-result returns returns-2)

@@ -1,0 +1,28 @@
+-- `mask` meets its contract: eight bytes are two fours.
+use native.Mathlib.Omega.{arith}
+use Rattle.actl.proofs.Laws.Numbers.{number-of-eight}
+use borrow.Author.Needs.{needs}
+use Rattle.formulas.proofs.node.mask.Statement.{statement}
+use Rattle.formulas.proofs.node.mask.Tie as tie
+
+half-requires : tie.Need-half-requires
+half-requires c κs = search needs
+
+add-half : tie.Need-add-half
+add-half c = search needs
+
+half-requires-2 : tie.Need-half-requires-2
+half-requires-2 c κs = search needs
+
+mul-result : tie.Need-mul-result
+mul-result c = search needs
+
+add-result : tie.Need-add-result
+add-result c = search needs
+
+returns : tie.Need-returns
+returns c = let e = number-of-eight (c .before .before .before .args .formula .now) (c .before .before .before .args .at) in omega arith
+
+pub mask-spec : {M : Type 1} → statement M
+mask-spec =
+    tie.close (tie.spec half-requires add-half half-requires-2 mul-result add-result returns)

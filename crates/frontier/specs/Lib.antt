@@ -1,0 +1,2 @@
+pub mod Frontier
+pub mod Reached

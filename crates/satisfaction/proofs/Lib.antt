@@ -1,0 +1,6 @@
+pub mod Count
+pub mod Examples
+pub mod Leads
+pub mod Runs
+pub mod Satisfaction
+pub mod Verdicts

@@ -1,0 +1,4 @@
+pub mod Count
+pub mod Holds
+pub mod Runs
+pub mod Satisfaction

@@ -1,0 +1,160 @@
+// Whether bytes are a prepared table: the counts, each name's slot, each transition's slot, and zeros in the slots that are not used.
+use tables::names::Lookup;
+use tables::names::find;
+use tables::names::name_end;
+use tables::prepared::below;
+use tables::prepared::byte;
+use tables::prepared::label_count;
+use tables::prepared::start_state;
+use tables::prepared::state_count;
+use tables::prepared::transition_at;
+use tables::prepared::transition_count;
+ghost use mathlib.Core.Path.{_≡_};
+ghost use Prim.Native.Nat.{_+_, _*_, _≤_, _<_};
+ghost use lib.ListN.{length};
+ghost use Rattle.lts.specs.Steps.{labels};
+ghost use Rattle.lts.specs.Names.{longestName};
+ghost use Rattle.lts.specs.Prepared.{tableLength, tableIn, byteAt, preparedTable};
+ghost use Rattle.lts.specs.Answers.{Decides, isSome};
+ghost use Rattle.lts.specs.Check.{ZerosFrom, CountsHeld, NameHeld, NewName, NamesHeld, TransitionHeld, TransitionsHeld};
+
+pub fn is_prepared(table: &[u8]) -> bool
+    ensures { λ r. ⌜ r ≡ isSome (preparedTable (now (table .entry))) ⌝ }
+{
+    if table.len() < 3718 {
+        return false;
+    }
+    if !counts_held(table) {
+        return false;
+    }
+    if !names_held(table) {
+        return false;
+    }
+    if !zeros(table, 6 + label_count(table) * 16, 646) {
+        return false;
+    }
+    if !transitions_held(table) {
+        return false;
+    }
+    zeros(table, 646 + transition_count(table) * 3, 3718)
+}
+
+// Whether the bytes from `from` to before `to` are zero: they are taken together and tested once.
+pub fn zeros(bytes: &[u8], from: usize, to: usize) -> bool
+    requires { ⌜ to ≤ length (now bytes) ⌝ }
+    ensures { λ r. ⌜ Decides (ZerosFrom (now (bytes .entry)) from to) r ⌝ }
+{
+    let mut all = 0u8;
+    let mut i = from;
+    while i < to {
+        all = all | bytes[i];
+        i += 1;
+    }
+    all == 0
+}
+
+fn counts_held(table: &[u8]) -> bool
+    requires { ⌜ tableLength ≤ length (now table) ⌝ }
+    ensures { λ r. ⌜ Decides (CountsHeld (tableIn (now (table .entry)))) r ⌝ }
+{
+    let states = state_count(table);
+    if states < 1 {
+        return false;
+    }
+    if 256 < states {
+        return false;
+    }
+    if 40 < label_count(table) {
+        return false;
+    }
+    if 1024 < transition_count(table) {
+        return false;
+    }
+    if states <= start_state(table) {
+        return false;
+    }
+    true
+}
+
+fn names_held(table: &[u8]) -> bool
+    requires { ⌜ (tableLength ≤ length (now table)) × (labels (tableIn (now table)) ≤ 40) ⌝ }
+    ensures { λ r. ⌜ Decides (NamesHeld (now (table .entry))) r ⌝ }
+{
+    let n = label_count(table);
+    let mut k: usize = 0;
+    while k < n {
+        if !name_held(table, k) {
+            return false;
+        }
+        if !new_name(table, k) {
+            return false;
+        }
+        k += 1;
+    }
+    true
+}
+
+fn name_held(table: &[u8], k: usize) -> bool
+    requires { ⌜ (tableLength ≤ length (now table)) × (k < 40) ⌝ }
+    ensures { λ r. ⌜ Decides (NameHeld (now (table .entry)) k) r ⌝ }
+{
+    let at = 7 + k * 16;
+    let end = name_end(table, at);
+    if end == at {
+        return false;
+    }
+    if end != at + byte(table, 6 + k * 16) {
+        return false;
+    }
+    zeros(table, end, 22 + k * 16)
+}
+
+fn new_name(table: &[u8], k: usize) -> bool
+    requires { ⌜ (tableLength ≤ length (now table)) × ((k < 40) × (byteAt (now table) (6 + k * 16) ≤ longestName)) ⌝ }
+    ensures { λ r. ⌜ Decides (NewName (now (table .entry)) k) r ⌝ }
+{
+    let at = 7 + k * 16;
+    let end = at + byte(table, 6 + k * 16);
+    let before = find(&table[6..646], k, &table[at..end]);
+    match before {
+        Lookup::At(_) => false,
+        Lookup::Nowhere => true,
+    }
+}
+
+fn transitions_held(table: &[u8]) -> bool
+    requires { ⌜ (tableLength ≤ length (now table)) × (length (tableIn (now table) .transitions) ≤ 1024) ⌝ }
+    ensures { λ r. ⌜ Decides (TransitionsHeld (now (table .entry))) r ⌝ }
+{
+    let n = transition_count(table);
+    let states = state_count(table);
+    let most = label_count(table);
+    let mut k: usize = 0;
+    while k < n {
+        if !transition_held(table, states, most, k) {
+            return false;
+        }
+        k += 1;
+    }
+    true
+}
+
+fn transition_held(table: &[u8], states: usize, most: usize, k: usize) -> bool
+    requires { ⌜ (tableLength ≤ length (now table)) × (k < 1024) ⌝ }
+    ensures { λ r. ⌜ Decides (TransitionHeld (now (table .entry)) states most k) r ⌝ }
+{
+    let here = transition_at(table, k);
+    if states <= here.from {
+        return false;
+    }
+    if most < here.label {
+        return false;
+    }
+    if states <= here.to {
+        return false;
+    }
+    if k == 0 {
+        return true;
+    }
+    below(transition_at(table, k - 1), here)
+}

@@ -1,0 +1,44 @@
+-- `write_name` leaves a name with its length `pasted`.
+use borrow.Author.Needs.{needs}
+use mathlib.Core.Path.{_∙_}
+use Prim.Native.Nat.{_*_}
+use lib.ListN.{length-set}
+use native.Mathlib.Omega.{arith}
+use Rattle.lts.proofs.Laws.Pasted.{pasted-first}
+use Rattle.table_lines.proofs.slots.write_name.Statement.{statement}
+use Rattle.table_lines.proofs.slots.write_name.Tie as tie
+
+mul-i : tie.Need-mul-i
+mul-i c = search needs
+
+cast-names : tie.Need-cast-names
+cast-names c = search needs
+
+slice-write-names : tie.Need-slice-write-names
+slice-write-names c = search needs
+
+add-write-at : tie.Need-add-write-at
+add-write-at c = search needs
+
+write-at-requires : tie.Need-write-at-requires
+write-at-requires c κs = simp length-set (omega arith)
+
+same-length : tie.Need-same-length
+same-length c = c .before .before .write-at .kept .0 ∙ simp length-set
+
+returns : tie.Need-returns
+returns c =
+    let a = c .before .before .before .before .before .before in
+    c .before .before .write-at .ensures ∙ pasted-first (a .args .names .now) (a .args .count * 16) _ (a .args .name .now) (omega arith)
+
+pub write-name-spec : {M : Type 1} → statement M
+write-name-spec =
+    tie.close
+    (tie.spec
+    mul-i
+    cast-names
+    slice-write-names
+    add-write-at
+    write-at-requires
+    same-length
+    returns)

@@ -1,0 +1,66 @@
+-- `write_transition` leaves the slot of its transition `pasted`.
+use borrow.Author.Needs.{needs}
+use mathlib.Core.Path.{_≡_, _∙_}
+use Prim.Native.Nat.{suc, _+_, _*_}
+use mathlib.Core.List.{[], _∷_, append-assoc}
+use lib.ListN.{take, drop, length-set}
+use lib.Seq.{sets-eq}
+use native.Mathlib.Omega.{arith}
+use Rattle.table_lines.proofs.slots.write_transition.Statement.{statement}
+use Rattle.table_lines.proofs.slots.write_transition.Tie as tie
+
+mul-i : tie.Need-mul-i
+mul-i c = search needs
+
+cast-slots : tie.Need-cast-slots
+cast-slots c = search needs
+
+slice-write-slots : tie.Need-slice-write-slots
+slice-write-slots c = search needs
+
+cast-slots-2 : tie.Need-cast-slots-2
+cast-slots-2 c = search needs
+
+add-slots : tie.Need-add-slots
+add-slots c = search needs
+
+slice-write-slots-2 : tie.Need-slice-write-slots-2
+slice-write-slots-2 c = simp length-set (omega arith)
+
+cast-slots-3 : tie.Need-cast-slots-3
+cast-slots-3 c = search needs
+
+add-slots-2 : tie.Need-add-slots-2
+add-slots-2 c = search needs
+
+slice-write-slots-3 : tie.Need-slice-write-slots-3
+slice-write-slots-3 c = simp length-set (omega arith)
+
+same-length : tie.Need-same-length
+same-length c = search needs
+
+returns : tie.Need-returns
+returns c =
+    let a = c .before .before .before .args in
+    let i = a .count * 3 in
+    let l = a .slots .now in
+    let second : i + 1 ≡ suc i = omega arith in
+    let third : i + 2 ≡ suc (suc i) = omega arith in
+    let slot = a .t .from ∷ a .t .label ∷ a .t .to ∷ [] in
+    rw (second, third) (sets-eq slot l i (c .before .before .before .pre .0) ∙ append-assoc (take i l) slot (drop (i + 3) l))
+
+pub write-transition-spec : {M : Type 1} → statement M
+write-transition-spec =
+    tie.close
+    (tie.spec
+    mul-i
+    cast-slots
+    slice-write-slots
+    cast-slots-2
+    add-slots
+    slice-write-slots-2
+    cast-slots-3
+    add-slots-2
+    slice-write-slots-3
+    same-length
+    returns)

@@ -1,0 +1,30 @@
+-- What the readers of lines answer of a text.
+use mathlib.Core.Path.{_≡_}
+use mathlib.Core.List.{List}
+use Prim.Native.Nat.{ℕ, _+_}
+use Rattle.tables.specs.Access.{stepIn}
+use Rattle.lts.specs.Reading.{Header, headerOf, headerLaidOut, labelLaidOut, stepOf, stepLaidOut}
+use Rattle.table_lines.specs.declared.HeaderFields.{HeaderFields}
+use Rattle.table_lines.specs.declared.HeaderLine.{HeaderLine}
+use Rattle.table_lines.specs.declared.HeaderLine.the-variants.{Header as LaidHeader, NoHeader}
+use Rattle.table_lines.specs.declared.LabelLine.{LabelLine}
+use Rattle.table_lines.specs.declared.LabelLine.the-variants.{Label, NoLabel}
+use Rattle.table_lines.specs.declared.TransitionLine.{TransitionLine}
+use Rattle.table_lines.specs.declared.TransitionLine.the-variants.{Row, NoRow}
+use Rattle.lts.specs.Lines.{LineAt, NoLineAt, Labelled}
+
+-- The values in the words of reading.
+abbrev pub header : HeaderFields → Header
+header c = record { states = c .states; labels = c .labels; transitions = c .transitions; start = c .start }
+
+abbrev pub HeaderSays : List ℕ → HeaderLine → Type 0
+HeaderSays s (LaidHeader c) = (l : List ℕ) × LineAt (λ l. headerLaidOut (headerOf l) l) s 0 25 l × (headerOf l ≡ header c)
+HeaderSays s NoHeader = NoLineAt (λ l. headerLaidOut (headerOf l) l) s 0
+
+abbrev pub LabelSays : List ℕ → ℕ → LabelLine → Type 0
+LabelSays s at (Label number end) = Labelled s at number end
+LabelSays s at NoLabel = NoLineAt labelLaidOut s at
+
+abbrev pub TransitionSays : List ℕ → ℕ → TransitionLine → Type 0
+TransitionSays s at (Row t) = (l : List ℕ) × LineAt stepLaidOut s at (at + 19) l × (stepOf l ≡ stepIn t)
+TransitionSays s at NoRow = NoLineAt stepLaidOut s at

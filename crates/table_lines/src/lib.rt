@@ -1,0 +1,150 @@
+// The lines of a table's text: what each says, where the next one starts, and whether its numbers are in range.
+ghost use mathlib.Core.Path.{_≡_};
+ghost use Prim.Native.Nat.{_+_, _<_, _≤_};
+ghost use lib.Dec.{eqb};
+ghost use lib.ListN.{length, getD};
+ghost use Rattle.lts.specs.Reading.{headerInRange, stepInRange};
+ghost use Rattle.table_lines.specs.LineReplies.{header, HeaderSays, LabelSays, TransitionSays};
+ghost use Rattle.tables.specs.Access.{stepIn};
+use columns::Column;
+use tables::names::name_end;
+use tables::prepared::Transition;
+
+pub mod slots;
+
+// What line 1 says.
+pub struct HeaderFields {
+    pub states: usize,
+    pub labels: usize,
+    pub transitions: usize,
+    pub start: usize,
+}
+
+pub enum HeaderLine {
+    Header(HeaderFields),
+    NoHeader,
+}
+
+// A label's number, and where its name ends.
+pub enum LabelLine {
+    Label(usize, usize),
+    NoLabel,
+}
+
+pub enum TransitionLine {
+    Row(Transition),
+    NoRow,
+}
+
+// Whether a byte stands at a place.
+pub fn stands(text: &[u8], at: usize, byte: u8) -> bool
+    ensures { λ r. ⌜ r ≡ eqb (getD (now (text .entry)) at 256) byte ⌝ }
+{
+    if text.len() <= at {
+        return false;
+    }
+    text[at] == byte
+}
+
+pub fn header_line(text: &[u8]) -> HeaderLine
+    ensures { λ r. ⌜ HeaderSays (now (text .entry)) r ⌝ }
+{
+    let Column::Number(states) = columns::read_column(text, 0) else {
+        return HeaderLine::NoHeader;
+    };
+    let Column::Number(labels) = columns::read_column(text, 6) else {
+        return HeaderLine::NoHeader;
+    };
+    let Column::Number(transitions) = columns::read_column(text, 12) else {
+        return HeaderLine::NoHeader;
+    };
+    let Column::Number(start) = columns::read_column(text, 18) else {
+        return HeaderLine::NoHeader;
+    };
+    if stands(text, 24, 10) {
+        HeaderLine::Header(HeaderFields {
+            states: states,
+            labels: labels,
+            transitions: transitions,
+            start: start,
+        })
+    } else {
+        HeaderLine::NoHeader
+    }
+}
+
+pub fn label_line(text: &[u8], at: usize) -> LabelLine
+    requires { ⌜ at ≤ length (now text) ⌝ }
+    ensures { λ r. ⌜ LabelSays (now (text .entry)) at r ⌝ }
+{
+    let Column::Number(number) = columns::read_column(text, at) else {
+        return LabelLine::NoLabel;
+    };
+    if !stands(text, at + 6, 32) {
+        return LabelLine::NoLabel;
+    }
+    let from = at + 7;
+    let end = name_end(text, from);
+    if end == from {
+        return LabelLine::NoLabel;
+    }
+    if stands(text, end, 10) {
+        LabelLine::Label(number, end)
+    } else {
+        LabelLine::NoLabel
+    }
+}
+
+pub fn transition_line(text: &[u8], at: usize) -> TransitionLine
+    requires { ⌜ at ≤ length (now text) ⌝ }
+    ensures { λ r. ⌜ TransitionSays (now (text .entry)) at r ⌝ }
+{
+    let Column::Number(from) = columns::read_column(text, at) else {
+        return TransitionLine::NoRow;
+    };
+    let Column::Number(label) = columns::read_column(text, at + 6) else {
+        return TransitionLine::NoRow;
+    };
+    let Column::Number(to) = columns::read_column(text, at + 12) else {
+        return TransitionLine::NoRow;
+    };
+    if stands(text, at + 18, 10) {
+        TransitionLine::Row(Transition {
+            from: from,
+            label: label,
+            to: to,
+        })
+    } else {
+        TransitionLine::NoRow
+    }
+}
+
+pub fn header_in_range(c: HeaderFields) -> bool
+    ensures { λ r. ⌜ r ≡ headerInRange (header c) ⌝ }
+{
+    if c.states < 1 {
+        return false;
+    }
+    if 256 < c.states {
+        return false;
+    }
+    if 40 < c.labels {
+        return false;
+    }
+    if 1024 < c.transitions {
+        return false;
+    }
+    c.start < c.states
+}
+
+pub fn transition_in_range(c: HeaderFields, t: Transition) -> bool
+    ensures { λ r. ⌜ r ≡ stepInRange (header c) (stepIn t) ⌝ }
+{
+    if c.states <= t.from {
+        return false;
+    }
+    if c.labels < t.label {
+        return false;
+    }
+    t.to < c.states
+}

@@ -1,0 +1,119 @@
+-- Laws of reading one more line: what the line says of the reading from there.
+use mathlib.Core.Path.{_≡_, refl, ap, _∙_}
+use mathlib.Core.Bool.{Bool, true, false, not, _&&_}
+use mathlib.Core.List.{List, [], _∷_, _++_}
+use Prim.Native.Nat.{ℕ, suc, _+_, _<_, _≤_}
+use native.Mathlib.Omega.{arith}
+use borrow.Author.Tests.{eq-eqb, ne-eqb, ltb-true, leb-true}
+use lib.Dec.{eqb, ltb, leb}
+use lib.ListN.{length, drop}
+use Rattle.columns.specs.Columns.{valueAt}
+use Rattle.lts.specs.Reply.{Reply, refusal, unless}
+use Rattle.lts.specs.Steps.{Step, Table}
+use Rattle.lts.specs.Reading.{Header, Line, missing, line, firstLine, onLine, labelLaidOut, used, stepOf, stepLaidOut, stepInRange, above, readTransitions, readLabels}
+use Rattle.lts.specs.Lines.{LineAt, NoLineAt}
+use Rattle.table_text.specs.Progress.{Refuses}
+use Rattle.lts.proofs.Lists.{and-true-of}
+use Rattle.table_text.specs.declared.TableReply.the-variants.{NotLaidOut, OutOfRange, NameRepeated, NotRising}
+
+-- A line that is not laid out, and one that is.
+pub no-line : (laid : List ℕ → Bool) (n : ℕ) (x : Line) (next : List ℕ → List ℕ → Reply Table) → ((l rest : List ℕ) → x ≡ line l rest → laid l ≡ false)
+    → onLine n x (λ l rest. unless (laid l) 1 n (next l rest)) ≡ refusal 1 n
+no-line laid n missing next h = refl
+no-line laid n (line l rest) next h = ap (λ t. unless t 1 n (next l rest)) (h l rest refl)
+
+pub a-line : (laid : List ℕ → Bool) (n : ℕ) (x : Line) (next : List ℕ → List ℕ → Reply Table) (l rest : List ℕ) → x ≡ line l rest → laid l ≡ true
+    → onLine n x (λ l rest. unless (laid l) 1 n (next l rest)) ≡ next l rest
+a-line laid n x next l rest e d = ap (λ y. onLine n y (λ l rest. unless (laid l) 1 n (next l rest))) e ∙ ap (λ t. unless t 1 n (next l rest)) d
+
+-- A test that is passed, and one that is not.
+pub passed : (t : Bool) (number figure : ℕ) (next : Reply Table) → t ≡ true → unless t number figure next ≡ next
+passed t number figure next e = ap (λ b. unless b number figure next) e
+
+pub failed : (t : Bool) (number figure : ℕ) (next : Reply Table) → t ≡ false → unless t number figure next ≡ refusal number figure
+failed t number figure next e = ap (λ b. unless b number figure next) e
+
+-- Labels.
+module _ (h : Header) (s : List ℕ) (at left : ℕ) (names : List (List ℕ)) where
+  pub label-refused : (n : ℕ) → n ≡ length names + 2 → NoLineAt labelLaidOut s at → Refuses (readLabels h (suc left) names (drop at s)) (NotLaidOut n)
+  unfolding readLabels
+  label-refused n f g = record {
+    number = 1;
+    figure = 2 + length names;
+    reply = no-line labelLaidOut (2 + length names) (firstLine (drop at s)) _ g;
+    says = ap (refusal 1) (omega arith);
+  }
+
+  module _ (to : ℕ) (l : List ℕ) (g : LineAt labelLaidOut s at to l) where
+    label-opened : readLabels h (suc left) names (drop at s)
+        ≡ unless (eqb (valueAt 0 l) (suc (length names))) 2 (2 + length names) (unless (not (used names (drop 7 l))) 3 (2 + length names) (readLabels h left (names ++ (drop 7 l ∷ [])) (drop to s)))
+    unfolding readLabels
+    label-opened = a-line labelLaidOut (2 + length names) (firstLine (drop at s)) _ l (drop to s) (g .is-line) (g .laid-out)
+
+    pub label-out-of-order : (n : ℕ) → n ≡ length names + 2 → (valueAt 0 l ≡ length names + 1 → ⊥) → Refuses (readLabels h (suc left) names (drop at s)) (OutOfRange n)
+    label-out-of-order n f d = record {
+      number = 2;
+      figure = 2 + length names;
+      reply = label-opened ∙ rw (ne-eqb (valueAt 0 l) (suc (length names)) (λ z. d (omega arith)));
+      says = ap (refusal 2) (omega arith);
+    }
+
+    pub label-repeated : (n : ℕ) → n ≡ length names + 2 → valueAt 0 l ≡ length names + 1 → used names (drop 7 l) ≡ true → Refuses (readLabels h (suc left) names (drop at s)) (NameRepeated n)
+    label-repeated n f d u = record {
+      number = 3;
+      figure = 2 + length names;
+      reply = label-opened ∙ rw (eq-eqb (valueAt 0 l) (suc (length names)) (omega arith), u);
+      says = ap (refusal 3) (omega arith);
+    }
+
+    pub label-accepted : valueAt 0 l ≡ length names + 1 → used names (drop 7 l) ≡ false → readLabels h (suc left) names (drop at s) ≡ readLabels h left (names ++ (drop 7 l ∷ [])) (drop to s)
+    label-accepted d u = label-opened ∙ rw (eq-eqb (valueAt 0 l) (suc (length names)) (omega arith), u)
+
+-- Transitions.
+module _ (h : Header) (s : List ℕ) (at left : ℕ) (names : List (List ℕ)) (steps : List Step) where
+  pub transition-refused : (n : ℕ) → n ≡ length names + length steps + 2 → NoLineAt stepLaidOut s at → Refuses (readTransitions h names (suc left) steps (drop at s)) (NotLaidOut n)
+  unfolding readTransitions
+  transition-refused n f g = record {
+    number = 1;
+    figure = 2 + length names + length steps;
+    reply = no-line stepLaidOut (2 + length names + length steps) (firstLine (drop at s)) _ g;
+    says = ap (refusal 1) (omega arith);
+  }
+
+  module _ (to : ℕ) (l : List ℕ) (g : LineAt stepLaidOut s at to l) (st : Step) (v : stepOf l ≡ st) where
+    transition-opened : readTransitions h names (suc left) steps (drop at s)
+        ≡ unless (stepInRange h st) 2 (2 + length names + length steps) (unless (above steps st) 4 (2 + length names + length steps) (readTransitions h names left (steps ++ (st ∷ [])) (drop to s)))
+    unfolding readTransitions
+    transition-opened =
+        a-line stepLaidOut (2 + length names + length steps) (firstLine (drop at s)) _ l (drop to s) (g .is-line) (g .laid-out)
+        ∙ ap (λ x. unless (stepInRange h x) 2 (2 + length names + length steps) (unless (above steps x) 4 (2 + length names + length steps) (readTransitions h names left (steps ++ (x ∷ [])) (drop to s)))) v
+
+    pub transition-out-of-range : (n : ℕ) → n ≡ length names + length steps + 2 → stepInRange h st ≡ false → Refuses (readTransitions h names (suc left) steps (drop at s)) (OutOfRange n)
+    transition-out-of-range n f d = record {
+      number = 2;
+      figure = 2 + length names + length steps;
+      reply = transition-opened ∙ failed (stepInRange h st) 2 (2 + length names + length steps) (unless (above steps st) 4 (2 + length names + length steps) (readTransitions h names left (steps ++ (st ∷ [])) (drop to s))) d;
+      says = ap (refusal 2) (omega arith);
+    }
+
+    in-range-opened : stepInRange h st ≡ true → readTransitions h names (suc left) steps (drop at s)
+        ≡ unless (above steps st) 4 (2 + length names + length steps) (readTransitions h names left (steps ++ (st ∷ [])) (drop to s))
+    in-range-opened d =
+        transition-opened ∙ passed (stepInRange h st) 2 (2 + length names + length steps) (unless (above steps st) 4 (2 + length names + length steps) (readTransitions h names left (steps ++ (st ∷ [])) (drop to s))) d
+
+    pub transition-not-rising : (n : ℕ) → n ≡ length names + length steps + 2 → stepInRange h st ≡ true → above steps st ≡ false → Refuses (readTransitions h names (suc left) steps (drop at s)) (NotRising n)
+    transition-not-rising n f d u = record {
+      number = 4;
+      figure = 2 + length names + length steps;
+      reply = in-range-opened d ∙ failed (above steps st) 4 (2 + length names + length steps) (readTransitions h names left (steps ++ (st ∷ [])) (drop to s)) u;
+      says = ap (refusal 4) (omega arith);
+    }
+
+    pub transition-accepted : stepInRange h st ≡ true → above steps st ≡ true → readTransitions h names (suc left) steps (drop at s) ≡ readTransitions h names left (steps ++ (st ∷ [])) (drop to s)
+    transition-accepted d u = in-range-opened d ∙ passed (above steps st) 4 (2 + length names + length steps) (readTransitions h names left (steps ++ (st ∷ [])) (drop to s)) u
+
+pub in-range : (h : Header) (st : Step) → stepInRange h st ≡ true → (st .from < h .states) × (st .label ≤ h .labels) × (st .to < h .states)
+in-range h st e =
+    let a = and-true-of (ltb (st .from) (h .states) && leb (st .label) (h .labels)) (ltb (st .to) (h .states)) e in
+    let b = and-true-of (ltb (st .from) (h .states)) (leb (st .label) (h .labels)) (a .0) in
+    (ltb-true (st .from) (h .states) (b .0), leb-true (st .label) (h .labels) (b .1), ltb-true (st .to) (h .states) (a .1))

@@ -1,0 +1,88 @@
+-- Laws of a whole reading: its header, and what the entry answers and leaves.
+use mathlib.Core.Path.{_≡_, refl, sym, ap, _∙_}
+use mathlib.Core.Bool.{Bool, true, false, _&&_}
+use mathlib.Core.List.{List, [], _++_}
+use Prim.Native.Nat.{ℕ, _<_, _≤_}
+use native.Mathlib.Omega.{arith}
+use borrow.Author.Tests.{ltb-true, leb-true, le-leb, lt-leb}
+use lib.Dec.{leb, ltb}
+use lib.ListN.{length, drop}
+use Rattle.lts.specs.Reply.{accepted, refusal, unless, overwritten, leftIn, answers}
+use Rattle.lts.specs.Steps.{Step, Table}
+use Rattle.lts.specs.Reading.{Header, firstLine, headerOf, headerLaidOut, headerInRange, readLabels, readTable}
+use Rattle.lts.specs.Prepared.{tableLength, tableBytes}
+use Rattle.table_text.specs.Replies.{tableReply}
+use Rattle.lts.specs.TableReading.{tableReading, tableReplied, tableLeft}
+use Rattle.lts.specs.Slots.{nameBytes, stepBytes, headBytes}
+use Rattle.lts.specs.Lines.{LineAt, NoLineAt}
+use Rattle.table_text.specs.Progress.{Refuses}
+use Rattle.table_text.specs.declared.TableReply.{TableReply}
+use Rattle.table_text.specs.declared.TableReply.the-variants.{NotLaidOut, OutOfRange}
+use Rattle.lts.proofs.Lists.{and-true-of}
+use Rattle.table_text.proofs.Laws.Progress.{no-line, a-line, passed, failed}
+
+-- Line 1.
+abbrev laidHeader : List ℕ → Bool
+laidHeader l = headerLaidOut (headerOf l) l
+
+module _ (s : List ℕ) where
+  pub header-refused : NoLineAt (λ l. headerLaidOut (headerOf l) l) s 0 → Refuses (readTable s) (NotLaidOut 1)
+  unfolding readTable
+  header-refused g = record { number = 1; figure = 1; reply = no-line laidHeader 1 (firstLine s) _ g; says = refl }
+
+  module _ (l : List ℕ) (g : LineAt (λ l. headerLaidOut (headerOf l) l) s 0 25 l) (h : Header) (v : headerOf l ≡ h) where
+    header-opened : readTable s ≡ unless (headerInRange h) 2 1 (readLabels h (h .labels) [] (drop 25 s))
+    unfolding readTable
+    header-opened =
+        a-line laidHeader 1 (firstLine s) _ l (drop 25 s) (g .is-line) (g .laid-out)
+        ∙ ap (λ (x : Header). unless (headerInRange x) 2 1 (readLabels x (x .labels) [] (drop 25 s))) v
+
+    pub header-out-of-range : headerInRange h ≡ false → Refuses (readTable s) (OutOfRange 1)
+    header-out-of-range d = record { number = 2; figure = 1; reply = header-opened ∙ failed (headerInRange h) 2 1 (readLabels h (h .labels) [] (drop 25 s)) d; says = refl }
+
+    pub header-accepted : headerInRange h ≡ true → readTable s ≡ readLabels h (h .labels) [] (drop 25 s)
+    header-accepted d = header-opened ∙ passed (headerInRange h) 2 1 (readLabels h (h .labels) [] (drop 25 s)) d
+
+pub record HeaderBounds (h : Header) : Type 0 where
+  pub states : h .states ≤ 256
+  pub labels : h .labels ≤ 40
+  pub transitions : h .transitions ≤ 1024
+  pub start : h .start < 256
+
+pub header-bounds : (h : Header) → headerInRange h ≡ true → HeaderBounds h
+header-bounds h e =
+    let a = and-true-of (leb 1 (h .states) && leb (h .states) 256 && leb (h .labels) 40 && leb (h .transitions) 1024) (ltb (h .start) (h .states)) e in
+    let b = and-true-of (leb 1 (h .states) && leb (h .states) 256 && leb (h .labels) 40) (leb (h .transitions) 1024) (a .0) in
+    let c = and-true-of (leb 1 (h .states) && leb (h .states) 256) (leb (h .labels) 40) (b .0) in
+    let d = and-true-of (leb 1 (h .states)) (leb (h .states) 256) (c .0) in
+    let states = leb-true (h .states) 256 (d .1) in
+    record { states = states; labels = leb-true (h .labels) 40 (c .1); transitions = leb-true (h .transitions) 1024 (b .1); start = omega (arith, ltb-true (h .start) (h .states) (a .1)) }
+
+-- The parts of the prepared bytes.
+pub table-bytes : (h : Header) (names : List (List ℕ)) (steps : List Step) → length names ≡ h .labels → length steps ≡ h .transitions
+    → headBytes h ++ (nameBytes names ++ stepBytes steps) ≡ tableBytes (record { states = h .states; names = names; transitions = steps; start = h .start })
+unfolding tableBytes
+table-bytes h names steps e f = rw (e, f)
+
+-- The answer and the bytes.
+module _ (s b : List ℕ) where
+  pub short-replies : length b < 3718 → (refusal 14 3718 ≡ tableReplied s b) × (b ≡ tableLeft s b)
+  unfolding tableReading
+  short-replies h =
+      let short : tableReading s b ≡ refusal 14 3718 = failed (leb tableLength (length b)) 14 tableLength (readTable s) (lt-leb tableLength (length b) h) in
+      (ap (answers (λ t. tt)) (sym short), ap (λ r. leftIn tableBytes r b) (sym short))
+
+  module _ (h : 3718 ≤ length b) where
+    reading-is : tableReading s b ≡ readTable s
+    unfolding tableReading
+    reading-is = passed (leb tableLength (length b)) 14 tableLength (readTable s) (le-leb tableLength (length b) h)
+
+    pub refused-replies : {t : TableReply} → Refuses (readTable s) t → (tableReply t ≡ tableReplied s b) × (b ≡ tableLeft s b)
+    refused-replies r =
+        let refused = reading-is ∙ r .reply in
+        (r .says ∙ ap (answers (λ t. tt)) (sym refused), ap (λ x. leftIn tableBytes x b) (sym refused))
+
+    pub accepted-replies : (t : Table) → readTable s ≡ accepted t → (d : List ℕ) → d ≡ overwritten (tableBytes t) b → (accepted tt ≡ tableReplied s b) × (d ≡ tableLeft s b)
+    accepted-replies t e d f =
+        let read = reading-is ∙ e in
+        (ap (answers (λ t. tt)) (sym read), f ∙ ap (λ x. leftIn tableBytes x b) (sym read))

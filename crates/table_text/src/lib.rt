@@ -1,0 +1,179 @@
+// Reading a table's text, line by line. Names and transitions are gathered in local bytes, laid out as in the prepared table, so that
+// the lent bytes are written only when the whole text is accepted.
+ghost use mathlib.Core.Path.{_≡_};
+ghost use Prim.Native.Nat.{_+_, _<_, _≤_};
+ghost use lib.ListN.{length, replicate};
+ghost use Rattle.table_text.specs.Replies.{tableReply};
+ghost use Rattle.lts.specs.TableReading.{tableReplied, tableLeft};
+ghost use Rattle.lts.specs.Slots.{headBytes};
+ghost use Rattle.table_lines.specs.LineReplies.{header};
+ghost use Rattle.table_text.specs.Progress.{LabelProgress, LabelsRead, TransitionProgress, TransitionsRead};
+ghost use Rattle.lts.specs.Reply.{overwritten};
+ghost use mathlib.Core.List.{_++_};
+use table_lines::HeaderFields;
+use table_lines::HeaderLine;
+use table_lines::LabelLine;
+use table_lines::TransitionLine;
+use table_lines::header_in_range;
+use table_lines::header_line;
+use table_lines::label_line;
+use table_lines::slots::rises;
+use table_lines::slots::write_at;
+use table_lines::slots::write_name;
+use table_lines::slots::write_transition;
+use table_lines::transition_in_range;
+use table_lines::transition_line;
+use tables::names::Lookup;
+use tables::names::find;
+
+// What `read_table` answers. specs/Replies.antt lists the number and the figure of each case.
+pub enum TableReply {
+    Accepted,
+    NotLaidOut(usize),
+    OutOfRange(usize),
+    NameRepeated(usize),
+    NotRising(usize),
+    BufferShort(usize),
+}
+
+// Where the next line starts; or what the entry answers.
+pub enum Progress {
+    Next(usize),
+    Refused(TableReply),
+}
+
+// The line of the label after `count` names.
+fn read_label(text: &[u8], at: usize, names: &mut [u8], count: usize) -> Progress
+    requires { ⌜ (at ≤ length (now text)) × ((length (now names) ≡ 640) × (count < 40)) ⌝ }
+    ensures { λ r. ⌜ LabelProgress (now (text .entry)) at count (now (names .entry)) (now (names .exit)) r ⌝ }
+{
+    let line = count + 2;
+    let LabelLine::Label(number, end) = label_line(text, at) else {
+        return Progress::Refused(TableReply::NotLaidOut(line));
+    };
+    if number != count + 1 {
+        return Progress::Refused(TableReply::OutOfRange(line));
+    }
+    let from = at + 7;
+    let before = find(names, count, &text[from..end]);
+    if let Lookup::At(_) = before {
+        return Progress::Refused(TableReply::NameRepeated(line));
+    }
+    write_name(names, count, &text[from..end]);
+    Progress::Next(end + 1)
+}
+
+// The lines of all labels, from `from`.
+fn read_labels(text: &[u8], from: usize, counts: HeaderFields, names: &mut [u8]) -> Progress
+    requires { ⌜ (from ≤ length (now text)) × ((now names ≡ replicate 640 0) × (counts .labels ≤ 40)) ⌝ }
+    ensures { λ r. ⌜ LabelsRead (header counts) (now (text .entry)) from (now (names .exit)) r ⌝ }
+{
+    let mut at = from;
+    let mut count: usize = 0;
+    while count < counts.labels {
+        let progress = read_label(text, at, names, count);
+        let Progress::Next(to) = progress else {
+            return progress;
+        };
+        at = to;
+        count += 1;
+    }
+    Progress::Next(at)
+}
+
+// The line of the transition after `count` others.
+fn read_transition(
+    text: &[u8],
+    at: usize,
+    counts: HeaderFields,
+    slots: &mut [u8],
+    count: usize,
+) -> Progress
+    requires { ⌜ (at ≤ length (now text)) × ((length (now slots) ≡ 3072) × (count < 1024)) ⌝ }
+    requires { ⌜ (counts .states ≤ 256) × (counts .labels ≤ 40) ⌝ }
+    ensures { λ r. ⌜ TransitionProgress (header counts) (now (text .entry)) at count (now (slots .entry)) (now (slots .exit)) r ⌝ }
+{
+    let line = counts.labels + count + 2;
+    let TransitionLine::Row(t) = transition_line(text, at) else {
+        return Progress::Refused(TableReply::NotLaidOut(line));
+    };
+    if !transition_in_range(counts, t) {
+        return Progress::Refused(TableReply::OutOfRange(line));
+    }
+    if !rises(slots, count, t) {
+        return Progress::Refused(TableReply::NotRising(line));
+    }
+    write_transition(slots, count, t);
+    Progress::Next(at + 19)
+}
+
+// The lines of all transitions, from `from`, and the end of the text.
+fn read_transitions(text: &[u8], from: usize, counts: HeaderFields, slots: &mut [u8]) -> Progress
+    requires { ⌜ (from ≤ length (now text)) × (now slots ≡ replicate 3072 0) ⌝ }
+    requires { ⌜ (counts .states ≤ 256) × ((counts .labels ≤ 40) × (counts .transitions ≤ 1024)) ⌝ }
+    ensures { λ r. ⌜ TransitionsRead (header counts) (now (text .entry)) from (now (slots .exit)) r ⌝ }
+{
+    let mut at = from;
+    let mut count: usize = 0;
+    while count < counts.transitions {
+        let progress = read_transition(text, at, counts, slots, count);
+        let Progress::Next(to) = progress else {
+            return progress;
+        };
+        at = to;
+        count += 1;
+    }
+    if at < text.len() {
+        return Progress::Refused(TableReply::NotLaidOut(counts.labels + count + 2));
+    }
+    Progress::Next(at)
+}
+
+fn write_table(table: &mut [u8], counts: HeaderFields, names: &[u8], slots: &[u8])
+    requires { ⌜ (3718 ≤ length (now table)) × ((length (now names) ≡ 640) × (length (now slots) ≡ 3072)) ⌝ }
+    requires { ⌜ (counts .states ≤ 256) × ((counts .labels ≤ 40) × ((counts .transitions ≤ 1024) × (counts .start < 256))) ⌝ }
+    ensures { λ _. ⌜ now (table .exit) ≡ overwritten (headBytes (header counts) ++ (now (names .entry) ++ now (slots .entry))) (now (table .entry)) ⌝ }
+{
+    let mut head = [0u8; 6];
+    head[0] = (counts.states % 256) as u8;
+    head[1] = (counts.states / 256 % 256) as u8;
+    head[2] = counts.labels as u8;
+    head[3] = (counts.transitions % 256) as u8;
+    head[4] = (counts.transitions / 256 % 256) as u8;
+    head[5] = counts.start as u8;
+    write_at(table, 0, &head);
+    write_at(table, 6, names);
+    write_at(table, 646, slots);
+}
+
+// Reads a table's text into the prepared bytes.
+pub fn read_table(text: &[u8], table: &mut [u8]) -> TableReply
+    ensures { λ r. ⌜ tableReply r ≡ tableReplied (now (text .entry)) (now (table .entry)) ⌝ }
+    ensures { λ _. ⌜ now (table .exit) ≡ tableLeft (now (text .entry)) (now (table .entry)) ⌝ }
+{
+    if table.len() < 3718 {
+        return TableReply::BufferShort(3718);
+    }
+    let HeaderLine::Header(counts) = header_line(text) else {
+        return TableReply::NotLaidOut(1);
+    };
+    if !header_in_range(counts) {
+        return TableReply::OutOfRange(1);
+    }
+    let mut names = [0u8; 640];
+    let labels_read = read_labels(text, 25, counts, &mut names);
+    match labels_read {
+        Progress::Refused(reply) => reply,
+        Progress::Next(at) => {
+            let mut slots = [0u8; 3072];
+            let transitions_read = read_transitions(text, at, counts, &mut slots);
+            match transitions_read {
+                Progress::Refused(reply) => reply,
+                Progress::Next(_) => {
+                    write_table(table, counts, &names, &slots);
+                    TableReply::Accepted
+                }
+            }
+        }
+    }
+}

@@ -1,0 +1,75 @@
+-- `put_state` meets its contract: the transitions that leave a state stand together.
+use mathlib.Core.Path.{_≡_, refl, sym, ap, _∙_}
+use mathlib.Core.List.{[], _∷_, map}
+use Prim.Native.Nat.{suc, _+_, _≤_, _<_}
+use native.Mathlib.Numerals.{add-one}
+use native.Mathlib.Omega.{arith}
+use lib.ListN.{length}
+use lib.Seq.{slice}
+use borrow.Author.Needs.{needs}
+use Rattle.lts.specs.Steps.{idleAt}
+use Rattle.lts.specs.Prepared.{tableIn}
+use Rattle.tables.specs.StepArray.{stepCode, exitsBelow}
+use Rattle.tables.proofs.Laws.Exits.{exits-at-most}
+use Rattle.tables.proofs.Laws.StepArray.{put-start, put-more, put-done, put-as, steps-leave, steps-idle}
+use Rattle.tables.proofs.steps.put_state.Statement.{statement}
+use Rattle.tables.proofs.steps.put_state.Tie as tie
+
+-- There is a place for the idle step.
+room : (c : tie.Start) → (c .args .at < 1280) × (c .args .at < length (c .args .steps .now))
+room c =
+    let few = exits-at-most (tableIn (c .args .table .now) .transitions) (c .args .s) in
+    let fits : c .args .at < 1280 = omega (arith, few, c .pre .0 .in-range .few-transitions, c .pre .1 .0 .0, c .pre .1 .1 .1 .0, c .pre .1 .1 .1 .1) in
+    (fits, omega (arith, c .pre .1 .1 .0))
+
+next : (c : tie.Start) → c .args .b ≡ exitsBelow (tableIn (c .args .table .now) .transitions) (suc (c .args .s))
+next c = c .pre .1 .0 .1 ∙ ap (exitsBelow (tableIn (c .args .table .now) .transitions)) (add-one (c .args .s))
+
+put-transitions-requires : tie.Need-put-transitions-requires
+put-transitions-requires c κs =
+    let start = c .before .before .before in
+    let few = exits-at-most (tableIn (start .args .table .now) .transitions) (start .args .s + 1) in
+    let taken = c .before .if1 .taken in
+    (start .pre .0, ((omega arith, omega (arith, few, start .pre .1 .0 .1)), (start .pre .1 .1 .0, omega (arith, few, start .pre .0 .in-range .few-transitions, start .pre .1 .0 .1, start .pre .1 .1 .1))))
+
+returns : tie.Need-returns
+returns c =
+    let start = c .before .before .before .before in
+    let t = tableIn (start .args .table .now) in
+    let taken = c .before .before .if1 .taken in
+    let same : slice (start .args .a) (start .args .b) (t .transitions) ≡ slice (exitsBelow (t .transitions) (start .args .s)) (exitsBelow (t .transitions) (suc (start .args .s))) (t .transitions) =
+    (λ i. slice (start .pre .1 .0 .0 i) (next start i) (t .transitions)) in
+    put-as (ap (map stepCode) (same ∙ sym (steps-leave t (start .pre .0 .in-range) (start .args .s) (omega (arith, start .pre .1 .0 .0, next start))))) (c .put-transitions .ensures)
+
+code-requires : tie.Need-code-requires
+code-requires c κs = search needs
+
+mul-steps : tie.Need-mul-steps
+mul-steps c = omega (arith, room (c .before .before .before) .0)
+
+element-write-steps : tie.Need-element-write-steps
+element-write-steps c = omega (arith, room (c .before .before .before) .0)
+
+add-result : tie.Need-add-result
+add-result c = omega (arith, room (c .before .before .before) .0)
+
+returns-2 : tie.Need-returns-2
+returns-2 c =
+    let start = c .before .before .before in
+    let t = tableIn (start .args .table .now) in
+    let left = c .before .if1 .left in
+    let idle = steps-idle t (start .pre .0 .in-range) (start .args .s) (omega (arith, start .pre .1 .0 .0, next start)) in
+    let one = ap (λ v. v ∷ []) (c .code .ensures) in
+    put-as (one ∙ sym (ap (map stepCode) idle)) (put-done (put-more (room start .1) (put-start _ _ _)))
+
+pub put-state-spec : {M : Type 1} → statement M
+put-state-spec =
+    tie.close
+    (tie.spec
+    put-transitions-requires
+    returns
+    code-requires
+    mul-steps
+    element-write-steps
+    add-result
+    returns-2)

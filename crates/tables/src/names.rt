@@ -1,0 +1,103 @@
+// Names of labels: where a name ends in a text, whether two are equal, and where one stands in slots of names. A slot has 16 bytes:
+// the name's length, its bytes, zeros. Nothing else knows the bytes of a name or how names are compared.
+use crate::prepared::label_count;
+ghost use mathlib.Core.Path.{_≡_};
+ghost use Prim.Native.Nat.{_+_, _*_, _≤_};
+ghost use lib.ListN.{length};
+ghost use Rattle.columns.specs.Bytes.{sameBytes};
+ghost use Rattle.lts.specs.Steps.{labels};
+ghost use Rattle.lts.specs.Names.{longestName, isLower, isNameByte, nameEnd, lookup};
+ghost use Rattle.lts.specs.Prepared.{tableLength, tableIn};
+ghost use Rattle.lts.specs.Slots.{storedName, storedNames};
+ghost use Rattle.tables.specs.Access.{foundIn};
+
+pub enum Lookup {
+    At(usize),
+    Nowhere,
+}
+
+fn is_lower(b: usize) -> bool
+    ensures { λ r. ⌜ r ≡ isLower b ⌝ }
+{
+    97 <= b && b <= 122
+}
+
+fn is_name_byte(b: usize) -> bool
+    ensures { λ r. ⌜ r ≡ isNameByte b ⌝ }
+{
+    if is_lower(b) {
+        return true;
+    }
+    if b == 95 {
+        return true;
+    }
+    48 <= b && b <= 57
+}
+
+// The place behind the longest name that stands at `from`; `from` if none does. 01: "A name has 1 to 12 bytes"
+pub fn name_end(text: &[u8], from: usize) -> usize
+    requires { ⌜ from ≤ length (now text) ⌝ }
+    ensures { λ r. ⌜ r ≡ nameEnd (now (text .entry)) from ⌝ }
+{
+    if text.len() <= from {
+        return from;
+    }
+    if !is_lower(text[from] as usize) {
+        return from;
+    }
+    let mut n: usize = 1;
+    while n < 12 {
+        let to = from + n;
+        if text.len() <= to {
+            return to;
+        }
+        if !is_name_byte(text[to] as usize) {
+            return to;
+        }
+        n += 1;
+    }
+    from + n
+}
+
+// Whether the name in slot k is `name`: most differ in their lengths.
+fn same_name(slots: &[u8], k: usize, name: &[u8]) -> bool
+    requires { ⌜ (k * 16 + 16 ≤ length (now slots)) × (length (now name) ≤ longestName) ⌝ }
+    ensures { λ r. ⌜ r ≡ sameBytes (storedName (now (slots .entry)) k) (now (name .entry)) ⌝ }
+{
+    if slots[k * 16] as usize != name.len() {
+        return false;
+    }
+    let at = k * 16 + 1;
+    let mut i: usize = 0;
+    while i < name.len() {
+        if slots[at + i] != name[i] {
+            return false;
+        }
+        i += 1;
+    }
+    true
+}
+
+// The number of the label, of those in the first `count` slots, that has a name.
+pub fn find(slots: &[u8], count: usize, name: &[u8]) -> Lookup
+    requires { ⌜ (count * 16 ≤ length (now slots)) × (length (now name) ≤ longestName) ⌝ }
+    ensures { λ r. ⌜ foundIn r ≡ lookup (storedNames (now (slots .entry)) count) (now (name .entry)) ⌝ }
+{
+    let mut k: usize = 0;
+    while k < count {
+        if same_name(slots, k, name) {
+            return Lookup::At(k + 1);
+        }
+        k += 1;
+    }
+    Lookup::Nowhere
+}
+
+// The number of the label of a prepared table that has a name.
+pub fn find_label(table: &[u8], name: &[u8]) -> Lookup
+    requires { ⌜ (tableLength ≤ length (now table)) × ((labels (tableIn (now table)) ≤ 40) × (length (now name) ≤ longestName)) ⌝ }
+    ensures { λ r. ⌜ foundIn r ≡ lookup (tableIn (now (table .entry)) .names) (now (name .entry)) ⌝ }
+{
+    let count = label_count(table);
+    find(&table[6..646], count, name)
+}

@@ -1,0 +1,155 @@
+-- The masks and final places of a prepared formula, place by place from the last one: a store keeps the others and adds one.
+use mathlib.Core.Path.{_≡_, refl, sym, ap, _∙_, subst}
+use mathlib.Core.Bool.{Bool, true, false}
+use mathlib.Core.List.{List, [], _∷_}
+use mathlib.Core.Option.{some}
+use Prim.Native.Nat.{ℕ, zero, suc, _+_, _-_, _*_, _^_, _<_, _≤_}
+use native.Mathlib.Numerals.{add-one}
+use native.Mathlib.Decide.{decLt, ℕ-discrete}
+use native.Mathlib.Omega.{arith}
+use lib.Dec.{eqb}
+use lib.ListN.{length, getD, set, length-set, replicate}
+use lib.Seq.{getD-set-same, getD-set-other}
+use Rattle.actl.specs.Actions.{silent, labels}
+use Rattle.actl.specs.Formulas.{Formula, tru, not, or, ex, ax, eu, euThen, size, isT, At}
+use Rattle.actl.specs.Prepared.{slotOf, slotAt, preparedFormula}
+use Rattle.formulas.specs.Access.{slotOfNode}
+use Rattle.actl.specs.Shaped.{shaped}
+use Rattle.formulas.specs.WalkReplies.{ShapeOf}
+use Rattle.formulas.specs.declared.walk.Shape.{Shape}
+use Rattle.formulas.specs.declared.node.Node.{Node}
+use Rattle.actl.proofs.Subformulas.{at-node, at-lt}
+use Rattle.actl.proofs.Nodes.{size-pos}
+use Rattle.actl.proofs.Laws.Slots.{node-shaped}
+use Rattle.actl.proofs.Laws.Prepared.{prepared-few, prepared-count, prepared-slot}
+use Rattle.automaton.specs.Listing.{nodeAt, final}
+use Rattle.target_masks.specs.Masks.{columnOf, targetMask, maskOfNode, finalOfNode, Spells, MasksFit, MasksOf, MasksOn, FinalsOf}
+use Rattle.target_masks.proofs.Laws.MasksFound.{mask-past, target-fits, node-mask-is, final-past, node-final-is}
+
+-- A prepared formula, with the shape that was found of it.
+pub spells : (n : ℕ) (b : List ℕ) {F : Formula} (e : preparedFormula n b ≡ some F) (s : Shape) → ShapeOf s F → Spells b (s .ends) F
+spells n b e s h = record { count = prepared-count n b e; few = prepared-few n b e; slot = prepared-slot n b e; end = h .ends }
+
+T-by-kind : (f : Formula) → eqb (slotOf f .kind) 1 ≡ isT f
+T-by-kind tru = refl
+T-by-kind (not f) = refl
+T-by-kind (or f g) = refl
+T-by-kind (ex silent f) = refl
+T-by-kind (ex (labels m) f) = refl
+T-by-kind (ax silent f) = refl
+T-by-kind (ax (labels m) f) = refl
+T-by-kind (eu a f) = refl
+T-by-kind (euThen a b f) = refl
+
+-- A number stored in a list of numbers below a bound.
+set-below : (l : List ℕ) (n v m : ℕ) → v < m → ((i : ℕ) → getD l i 0 < m) → (i : ℕ) → getD (set l n v) i 0 < m
+set-below [] n v m h f i = f i
+set-below (x ∷ l) zero v m h f zero = h
+set-below (x ∷ l) zero v m h f (suc i) = f (suc i)
+set-below (x ∷ l) (suc n) v m h f zero = f 0
+set-below (x ∷ l) (suc n) v m h f (suc i) = set-below l n v m h (λ j. f (suc j)) i
+
+module _ {b ends : List ℕ} {F : Formula} (p : Spells b ends F) (k : ℕ) (h : k < getD b 0 0) where
+  below : k < size F
+  below = omega (arith, p .count)
+
+  pub place-few : k < 40
+  place-few = omega (arith, p .count, p .few)
+
+  pub place-shaped : shaped (slotAt b k) ≡ true
+  place-shaped = ap shaped (p .slot k below) ∙ node-shaped (nodeAt F k)
+
+  -- The arms as the code finds them.
+  module _ (right : ℕ) (r : k + 1 < 40 → getD ends (k + 1) 0 ≤ 40 → right ≡ getD ends (k + 1) 0) where
+    right-is : k + 1 < size F → k + 1 + size (nodeAt F (k + 1)) < size F → right ≡ k + 1 + size (nodeAt F (k + 1))
+    right-is x y = let e = p .end (k + 1) x in r (omega (arith, p .few)) (omega (arith, p .few)) ∙ e
+
+    module _ (masks : List ℕ) (l : ℕ) (m : MasksOn F k l masks) (c : l < 41) (node : Node) (s : slotOfNode node ≡ slotAt b k) (end : ℕ) (e : end ≡ getD b 0 0)
+        (last : Bool) (t : k + 1 < 40 → last ≡ eqb (slotAt b (k + 1) .kind) 1) where
+      abbrev arm : ℕ
+      arm = getD masks ((k + 1) * 41 + l) 0
+
+      abbrev other : ℕ
+      other = getD masks (right * 41 + l) 0
+
+      abbrev mask : ℕ
+      mask = maskOfNode node end k l last arm other
+
+      T-is : k + 1 < size F → last ≡ isT (nodeAt F (k + 1))
+      T-is x = t (omega (arith, p .few)) ∙ (ap (λ z. eqb (z .kind) 1) (p .slot (k + 1) x) ∙ T-by-kind (nodeAt F (k + 1)))
+
+      mask-is : mask ≡ targetMask F k l
+      mask-is =
+          ap (λ n. maskOfNode node n k l last arm other) (e ∙ p .count)
+          ∙ node-mask-is l arm other last
+          (λ x. m .behind .mask (k + 1) l (omega arith) (omega arith) (omega arith))
+          (λ x y. ap (λ q. getD masks (q * 41 + l) 0) (right-is x y) ∙ m .behind .mask (k + 1 + size (nodeAt F (k + 1))) l (omega arith) (omega arith) (omega arith))
+          T-is node (nodeAt F k) (at-node F k below) (s ∙ p .slot k below)
+
+      masks-turn : (v : ℕ) → v ≡ mask → MasksOn F k (l + 1) (set masks (k * 41 + l) v)
+      masks-turn v q = record {
+        long = length-set masks (k * 41 + l) v ∙ m .long;
+        behind = record { mask = λ j i x y z. getD-set-other masks (k * 41 + l) (j * 41 + i) v 0 (λ u. omega arith) ∙ m .behind .mask j i x y z };
+        here = λ i x. pick i x (ℕ-discrete i l);
+        fit = set-below masks (k * 41 + l) v (2 ^ 41) (subst (λ n. n < 2 ^ 41) (sym (q ∙ mask-is)) (target-fits F k l (p .few))) (m .fit);
+      }
+        where
+          pick : (i : ℕ) → i < l + 1 → Dec (i ≡ l) → getD (set masks (k * 41 + l) v) (k * 41 + i) 0 ≡ targetMask F k i
+          pick i x (yes d) =
+              ap (λ n. getD (set masks (k * 41 + l) v) (k * 41 + n) 0) d
+              ∙ (getD-set-same masks (k * 41 + l) v 0 (omega (arith, m .long, place-few)) ∙ (q ∙ (mask-is ∙ ap (targetMask F k) (sym d))))
+          pick i x (no d) = getD-set-other masks (k * 41 + l) (k * 41 + i) v 0 (λ u. d (omega arith)) ∙ m .here i (omega arith)
+
+      -- The same in the column that the code found.
+      pub masks-turn-at : (at : ℕ) → at ≡ columnOf l → (v : ℕ) → v ≡ maskOfNode node end k l last (getD masks ((k + 1) * 41 + at) 0) (getD masks (right * 41 + at) 0)
+          → MasksOn F k (l + 1) (set masks (k * 41 + at) v)
+      masks-turn-at at c v =
+          subst (λ x. v ≡ maskOfNode node end k l last (getD masks ((k + 1) * 41 + x) 0) (getD masks (right * 41 + x) 0) → MasksOn F k (l + 1) (set masks (k * 41 + x) v)) (sym c) (masks-turn v)
+
+    -- The flag of place k, from those behind.
+    module _ (finals : List Bool) (m : FinalsOf F (k + 1) finals) (node : Node) (s : slotOfNode node ≡ slotAt b k) where
+      abbrev flag : Bool
+      flag = finalOfNode node (getD finals (k + 1) false) (getD finals right false)
+
+      flag-is : flag ≡ final F k
+      flag-is = node-final-is (getD finals (k + 1) false) (getD finals right false)
+          (λ x. m .flag (k + 1) (omega arith) (omega arith))
+          (λ x y. ap (λ q. getD finals q false) (right-is x y) ∙ m .flag (k + 1 + size (nodeAt F (k + 1))) (omega arith) (omega arith))
+          node (nodeAt F k) (at-node F k below) (s ∙ p .slot k below)
+
+      pub finals-turn : (v : Bool) → v ≡ flag → FinalsOf F k (set finals k v)
+      finals-turn v q = record { long = length-set finals k v ∙ m .long; flag = λ j x y. pick j x y (ℕ-discrete j k) }
+        where
+          pick : (j : ℕ) → k ≤ j → j ≤ size F → Dec (j ≡ k) → getD (set finals k v) j false ≡ final F j
+          pick j x y (yes d) = ap (λ n. getD (set finals k v) n false) d ∙ (getD-set-same finals k v false (omega (arith, m .long, place-few)) ∙ (q ∙ (flag-is ∙ ap (final F) (sym d))))
+          pick j x y (no d) = getD-set-other finals k j v false (λ u. d (omega arith)) ∙ m .flag j (omega arith) y
+
+-- A whole place, and the next one; the start, where every mask is zero.
+pub masks-next : {F : Formula} {k : ℕ} {masks : List ℕ} → MasksOn F k 41 masks → MasksOf F k masks
+masks-next {F} {k} {masks} m = record { mask = λ j l x y z. pick j l x y z (ℕ-discrete j k) }
+  where
+    pick : (j l : ℕ) → k ≤ j → j ≤ size F → l ≤ 40 → Dec (j ≡ k) → getD masks (j * 41 + l) 0 ≡ targetMask F j l
+    pick j l x y z (yes d) = ap (λ n. getD masks (n * 41 + l) 0) d ∙ (m .here l (omega arith) ∙ ap (λ n. targetMask F n l) (sym d))
+    pick j l x y z (no d) = m .behind .mask j l (omega arith) y z
+
+pub masks-before : {F : Formula} (k : ℕ) {masks : List ℕ} → length masks ≡ 1681 → MasksFit masks → MasksOf F (k + 1) masks → MasksOn F k 0 masks
+masks-before k e f m = record { long = e; behind = m; here = λ i x. absurd (omega arith); fit = f }
+
+pub masks-end : (F : Formula) (masks : List ℕ) → ((i : ℕ) → getD masks i 0 ≡ 0) → MasksOf F (size F) masks
+masks-end F masks h = record { mask = λ j l x y z. h (j * 41 + l) ∙ sym (mask-past F j l x) }
+
+pub finals-end : (F : Formula) (finals : List Bool) → length finals ≡ 41 → ((i : ℕ) → i < 41 → getD finals i false ≡ true) → size F ≤ 40 → FinalsOf F (size F) finals
+finals-end F finals e h few = record { long = e; flag = λ j x y. h j (omega arith) ∙ sym (final-past F j x) }
+
+-- Fresh arrays.
+pub zeros-at : (n i : ℕ) → _≡_ {A = ℕ} (getD (replicate n 0) i 0) 0
+zeros-at zero i = refl
+zeros-at (suc n) zero = refl
+zeros-at (suc n) (suc i) = zeros-at n i
+
+-- Place k - 1, where those from k on are done.
+pub masks-from : {F : Formula} {k : ℕ} {masks : List ℕ} → 0 < k → length masks ≡ 1681 → MasksFit masks → MasksOf F k masks → MasksOn F (k - 1) 0 masks
+masks-from {F} {k} {masks} h e f m = let z : k ≡ k - 1 + 1 = omega arith in masks-before (k - 1) e f (subst (λ j. MasksOf F j masks) z m)
+
+pub finals-from : {F : Formula} {k : ℕ} {finals : List Bool} → 0 < k → FinalsOf F k finals → FinalsOf F (k - 1 + 1) finals
+finals-from {F} {k} {finals} h m = let z : k ≡ k - 1 + 1 = omega arith in subst (λ j. FinalsOf F j finals) z m

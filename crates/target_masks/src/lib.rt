@@ -1,0 +1,155 @@
+// The places that a step leads to, as masks, and the final places of a prepared formula: from the last node to the first, so that arms
+// come before their node.
+use formulas::conditions::in_set;
+use formulas::conditions::meets;
+use formulas::conditions::passes;
+use formulas::node::Node;
+use formulas::node::node_at;
+use formulas::node::node_count;
+use formulas::walk::right_arm;
+
+pub mod places;
+
+ghost use mathlib.Core.Path.{_≡_};
+ghost use Prim.Native.Nat.{_+_, _<_, _≤_};
+ghost use lib.Dec.{eqb};
+ghost use lib.ListN.{length, getD};
+ghost use Rattle.actl.specs.Formulas.{Formula};
+ghost use Rattle.actl.specs.Prepared.{slotAt};
+ghost use Rattle.target_masks.specs.Masks.{bitIf, columnOf, maskOfNode, finalOfNode, Spells, MasksFit, MasksOf, MasksOn, FinalsOf};
+
+// Bit k, if it is wanted.
+fn bit_if(wanted: bool, k: usize) -> u64
+    requires { ⌜ k ≤ 40 ⌝ }
+    ensures { λ r. ⌜ r ≡ bitIf wanted k ⌝ }
+{
+    if wanted { 1 << k } else { 0 }
+}
+
+// A node's mask, from the masks of its arms; `last` says whether its arm is T.
+fn node_mask(
+    node: Node,
+    end: usize,
+    k: usize,
+    label: usize,
+    last: bool,
+    arm: u64,
+    other: u64,
+) -> u64
+    requires { ⌜ (k < 40) × ((end ≤ 40) × (label ≤ 40)) ⌝ }
+    ensures { λ r. ⌜ r ≡ maskOfNode node end k label last arm other ⌝ }
+{
+    match node {
+        Node::True => 0,
+        Node::Not => arm,
+        Node::Or => arm | other,
+        Node::Ex(c) => bit_if(meets(c, label), k + 1),
+        Node::Ax(c) => {
+            if meets(c, label) {
+                bit_if(!last, k + 1)
+            } else {
+                bit_if(true, end)
+            }
+        }
+        Node::Until(a) => bit_if(passes(a, label), k) | arm,
+        Node::UntilThen(a, b) => { bit_if(passes(a, label), k) | bit_if(in_set(b, label), k + 1) }
+    }
+}
+
+// Whether a node is final, from its arms.
+fn node_final(node: Node, arm: bool, other: bool) -> bool
+    ensures { λ r. ⌜ r ≡ finalOfNode node arm other ⌝ }
+{
+    match node {
+        Node::True => true,
+        Node::Not => arm,
+        Node::Or => arm || other,
+        Node::Ex(_) => false,
+        Node::Ax(_) => false,
+        Node::Until(_) => arm,
+        Node::UntilThen(_, _) => false,
+    }
+}
+
+// The right arm of node k, if it has one and the number is a place.
+fn other_arm(ends: &[u8; 40], k: usize) -> usize
+    requires { ⌜ k < 40 ⌝ }
+    ensures { λ r. ⌜ r ≤ 40 ⌝ }
+    ensures { λ r. ⌜ (k + 1 < 40 → getD (now (ends .entry)) (k + 1) 0 ≤ 40 → r ≡ getD (now (ends .entry)) (k + 1) 0) ⌝ }
+{
+    let r = right_arm(ends, k);
+    if r <= 40 { r } else { 40 }
+}
+
+// Whether node k is T.
+fn is_true(formula: &[u8], k: usize) -> bool
+    requires { ⌜ 681 ≤ length (now formula) ⌝ }
+    ensures { λ r. ⌜ (k < 40 → r ≡ eqb (slotAt (now (formula .entry)) k .kind) 1) ⌝ }
+{
+    if k < 40 {
+        formula[1 + k * 17] == 1
+    } else {
+        false
+    }
+}
+
+// The column of a label among the masks of a place.
+pub fn column(label: usize) -> usize
+    requires { ⌜ label ≤ 40 ⌝ }
+    ensures { λ r. ⌜ (r ≡ columnOf label) × (r < 41) ⌝ }
+{
+    label
+}
+
+// The masks of place k, from those of the places behind it.
+fn mask_place(formula: &[u8], ends: &[u8; 40], masks: &mut [u64; 1681], k: usize)
+    requires { ⌜ (681 ≤ length (now formula)) × (k < getD (now formula) 0 0) ⌝ }
+    requires { ⌜ ((F : Formula) × Spells (now formula) (now ends) F) ⌝ }
+    requires { ⌜ ((F : Formula) → Spells (now formula) (now ends) F → MasksOn F k 0 (now masks)) ⌝ }
+    ensures { λ _. ⌜ ((F : Formula) → Spells (now (formula .entry)) (now (ends .entry)) F → MasksOn F k 41 (now (masks .exit))) ⌝ }
+{
+    let end = node_count(formula);
+    let node = node_at(formula, k);
+    let last = is_true(formula, k + 1);
+    let right = other_arm(ends, k);
+    let mut l: usize = 0;
+    while l < 41 {
+        let at = column(l);
+        let arm = masks[(k + 1) * 41 + at];
+        let other = masks[right * 41 + at];
+        masks[k * 41 + at] = node_mask(node, end, k, l, last, arm, other);
+        l += 1;
+    }
+}
+
+// The masks of every place: place k and label l at k * 41 + column(l). END has none.
+pub fn target_masks(formula: &[u8], ends: &[u8; 40]) -> [u64; 1681]
+    requires { ⌜ 681 ≤ length (now formula) ⌝ }
+    requires { ⌜ ((F : Formula) × Spells (now formula) (now ends) F) ⌝ }
+    ensures { λ r. ⌜ ((F : Formula) → Spells (now (formula .entry)) (now (ends .entry)) F → MasksOf F 0 r × MasksFit r) ⌝ }
+{
+    let mut masks = [0u64; 1681];
+    let mut k = node_count(formula);
+    while 0 < k {
+        k -= 1;
+        mask_place(formula, ends, &mut masks, k);
+    }
+    masks
+}
+
+// Whether each place is final. END is.
+pub fn final_places(formula: &[u8], ends: &[u8; 40]) -> [bool; 41]
+    requires { ⌜ 681 ≤ length (now formula) ⌝ }
+    requires { ⌜ ((F : Formula) × Spells (now formula) (now ends) F) ⌝ }
+    ensures { λ r. ⌜ ((F : Formula) → Spells (now (formula .entry)) (now (ends .entry)) F → FinalsOf F 0 r) ⌝ }
+{
+    let mut finals = [true; 41];
+    let mut k = node_count(formula);
+    while 0 < k {
+        k -= 1;
+        let arm = finals[k + 1];
+        let other = finals[other_arm(ends, k)];
+        finals[k] = node_final(node_at(formula, k), arm, other);
+    }
+    finals
+}
