@@ -5,13 +5,14 @@ use mathlib.Core.Option.{some}
 use Prim.Native.Nat.{ℕ}
 use Prim.Native.String.{String}
 use lib.ListN.{length}
+use Rattle.actl.specs.Sizes.{formulaLength}
 use Rattle.columns.specs.Ascii.{ascii}
 use Rattle.lts.specs.Names.{findFrom}
 use Rattle.lts.specs.Reply.{Reply, accepted, refusal}
 use Rattle.actl.specs.Actions.{maskOf, labels}
 use Rattle.actl.specs.Formulas.{Formula, tru, not, or, ax, euThen, classOf, highestWithoutClass}
 use Rattle.actl.specs.Reading.{readFormula}
-use Rattle.actl.specs.Prepared.{formulaLength, formulaBytes, push, preparedFormula}
+use Rattle.actl.specs.Prepared.{formulaBytes, push, preparedFormula}
 
 abbrev overM : String → Reply Formula
 overM s = readFormula (ascii "req" ∷ ascii "ack" ∷ []) (ascii s)

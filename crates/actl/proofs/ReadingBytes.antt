@@ -7,6 +7,7 @@ use native.Mathlib.Numerals.{add-one}
 use native.Mathlib.Omega.{arith}
 use lib.ListN.{length, getD, take, drop, set, replicate, length-append, length-set, length-replicate, length-map, take-append-drop, replicate-append-replicate}
 use lib.Seq.{length-take-le, take-at, drop-append-add, drop-drop, take-suc-set}
+use Rattle.actl.specs.Sizes.{formulaLength}
 use Rattle.columns.specs.Write.{pasted}
 use Rattle.columns.proofs.Laws.Pasting.{pasted-length, set-pasted}
 use Rattle.columns.specs.Bytes.{lowFirst}
@@ -102,12 +103,12 @@ nodes-more c e x y k h p q =
     let l = length-cell-bytes c k in
     pasted-then 1 (1 + k * 17) (cellBytes c k) (bytesAt c k) e x y p (omega arith) (omega arith) q ∙ ap (λ b. pasted e 1 b) (cell-bytes-more c k)
 
-pub bytes-pasted : (c : List ℕ) (n : ℕ) (e x y z : List ℕ) → n ≤ 40 → 681 ≤ length e → x ≡ set e 0 n → y ≡ pasted x 1 (cellBytes c n) → z ≡ pasted y (1 + n * 17) (replicate (681 - (1 + n * 17)) 0) → z ≡ pasted e 0 (preparedBytes c n)
+pub bytes-pasted : (c : List ℕ) (n : ℕ) (e x y z : List ℕ) → n ≤ 40 → formulaLength ≤ length e → x ≡ set e 0 n → y ≡ pasted x 1 (cellBytes c n) → z ≡ pasted y (1 + n * 17) (replicate (formulaLength - (1 + n * 17)) 0) → z ≡ pasted e 0 (preparedBytes c n)
 bytes-pasted c n e x y z h w p q r =
     let l = length-cell-bytes c n in
     let a : x ≡ pasted e 0 (n ∷ []) = p ∙ set-pasted e 0 n (omega arith) in
     let b : y ≡ pasted e 0 (n ∷ cellBytes c n) = pasted-then 0 1 (n ∷ []) (cellBytes c n) e x y a refl (omega arith) q in
-    let m : 681 - (1 + n * 17) ≡ 680 - n * 17 = omega arith in
+    let m : formulaLength - (1 + n * 17) ≡ 680 - n * 17 = omega arith in
     pasted-then 0 (1 + n * 17) (n ∷ cellBytes c n) (replicate (680 - n * 17) 0) e y z b (omega arith) (omega arith) (r ∙ ap (λ k. pasted y (1 + n * 17) (replicate k 0)) m)
 
 -- Kinds.

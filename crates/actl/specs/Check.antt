@@ -5,10 +5,11 @@ use mathlib.Core.List.{List}
 use Prim.Native.Nat.{ℕ, _-_}
 use lib.Dec.{eqb}
 use lib.ListN.{getD}
+use Rattle.actl.specs.Sizes.{formulaLength}
 use Rattle.lts.specs.Lists.{upFrom, every}
 use Rattle.lts.specs.Answers.{isSome}
 use Rattle.actl.specs.Formulas.{Formula, classOf}
-use Rattle.actl.specs.Prepared.{formulaLength, Slot, slotAt, slotWithin, preparedFormula}
+use Rattle.actl.specs.Prepared.{Slot, slotAt, slotWithin, preparedFormula}
 use Rattle.actl.specs.Shaped.{shaped}
 use Rattle.actl.specs.Walk.{kindsOf, kindsIn}
 

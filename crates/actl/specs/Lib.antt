@@ -14,3 +14,4 @@ pub mod Reading
 pub mod Shaped
 pub mod Walk
 pub mod Writing
+pub mod Sizes

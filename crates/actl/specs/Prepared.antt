@@ -6,13 +6,11 @@ use mathlib.Core.Option.{Option, none, some}
 use Prim.Native.Nat.{ℕ, zero, suc, _+_, _*_, _^_, _%_, _≤_, _<_}
 use lib.Dec.{leb, ltb, eqb}
 use lib.ListN.{length, getD, take, drop}
+use Rattle.actl.specs.Sizes.{formulaLength}
 use Rattle.columns.specs.Bytes.{sameBytes, padded, lowFirst}
 use Rattle.lts.specs.Lists.{upFrom, bind, every}
 use Rattle.actl.specs.Actions.{Mask, Cond, silent, labels}
 use Rattle.actl.specs.Formulas.{Formula, tru, not, or, ex, ax, eu, euThen, size, nodes, classOf}
-
-abbrev pub formulaLength : ℕ
-formulaLength = 681
 
 -- What a node's slot holds: its kind and two masks.
 pub record Slot : Type 0 where

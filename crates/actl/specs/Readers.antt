@@ -6,6 +6,7 @@ use mathlib.Core.List.{List, [], _∷_, _++_}
 use mathlib.Core.Option.{Option, none, some}
 use Prim.Native.Nat.{ℕ, zero, suc, _+_, _*_, _-_, _≤_, _<_}
 use lib.ListN.{length, take, drop}
+use Rattle.actl.specs.Sizes.{cellsLength}
 use Rattle.lts.specs.Lists.{bind}
 use Rattle.lts.specs.Names.{lookup}
 use Rattle.lts.specs.Prepared.{tableIn}
@@ -137,7 +138,7 @@ pub record CellsWritten (n m : ℕ) (e x l : List ℕ) : Type 0 where
 -- Room for the nodes of what is left of the text: there are no more nodes than bytes.
 pub record NodeRoom (e : List ℕ) (at n : ℕ) : Type 0 where
   pub below : n ≤ at
-  pub long : length e ≡ 1536
+  pub long : length e ≡ cellsLength
 
 pub record TermRead (N : List (List ℕ)) (s : List ℕ) (at n lost : ℕ) (e : List ℕ) (to m left : ℕ) (x : List ℕ) : Type 0 where
   pub value : Term
@@ -180,7 +181,7 @@ pub record WholeRead (N : List (List ℕ)) (s x : List ℕ) (n left : ℕ) : Typ
   pub value : Disjunction
   pub reads : read s ≡ whole value
   pub count : n ≡ size (formulaOf N value)
-  pub long : length x ≡ 1536
+  pub long : length x ≡ cellsLength
   pub cells : take (n * 3) x ≡ nodeCells (formulaOf N value)
   pub lacks : left ≡ earlier 0 (firstUnknown N value (namesF value []))
 

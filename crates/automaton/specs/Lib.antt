@@ -9,3 +9,4 @@ pub mod Places
 pub mod Positions
 pub mod Witnesses
 pub mod Words
+pub mod Sizes

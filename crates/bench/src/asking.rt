@@ -1,8 +1,13 @@
 // A line of the sheet asked of the library, and words asked of what the line left.
 use crate::writing::print;
 use crate::writing::print_reply;
+use actl::sizes::FORMULA_LENGTH;
 use explainer::explain;
+use explanations::sizes::EDGES_LENGTH;
+use explanations::sizes::ROWS_LENGTH;
+use explanations::sizes::TEXT_LENGTH;
 use libc::STDOUT_FILENO;
+use lts::sizes::TABLE_LENGTH;
 use words::WordReply;
 use words::accepts;
 ghost use Prim.Native.Nat.{_≤_, _<_};
@@ -61,11 +66,11 @@ fn ask(table: &[u8], formula: &[u8], words: &[u8]) {
 }
 
 pub fn line(name: &[u8], tabletext: &[u8], formulatext: &[u8], words: &[u8]) {
-    let mut table = [0u8; 3718];
-    let mut formula = [0u8; 681];
-    let mut rows = [0u8; 3072];
-    let mut edges = [0u8; 20480];
-    let mut out = [0u8; 103586];
+    let mut table = [0u8; TABLE_LENGTH];
+    let mut formula = [0u8; FORMULA_LENGTH];
+    let mut rows = [0u8; ROWS_LENGTH];
+    let mut edges = [0u8; EDGES_LENGTH];
+    let mut out = [0u8; TEXT_LENGTH];
     print(name);
     print(b" \"");
     print(formulatext);

@@ -1,5 +1,8 @@
 // Text to standard output; what `explain` answered, as text.
 use explainer::ExplainReply;
+use explanations::sizes::EDGES_LENGTH;
+use explanations::sizes::ROWS_LENGTH;
+use explanations::sizes::TEXT_LENGTH;
 use libc::STDOUT_FILENO;
 use listing_text::print::write_listing;
 use listing_text::print::write_refusal;
@@ -20,9 +23,9 @@ fn write_explained(
     class: u64,
     rowcount: u64,
     edgecount: u64,
-    rows: &[u8; 3072],
-    edges: &[u8; 20480],
-    out: &mut [u8; 103586],
+    rows: &[u8; ROWS_LENGTH],
+    edges: &[u8; EDGES_LENGTH],
+    out: &mut [u8; TEXT_LENGTH],
 ) -> usize {
     if rowcount > 1024 {
         return 0;
@@ -44,9 +47,9 @@ fn write_explained(
 // Writes the listing or the refusal's line at the start of `out`, and answers its length.
 fn write_reply(
     reply: ExplainReply,
-    rows: &[u8; 3072],
-    edges: &[u8; 20480],
-    out: &mut [u8; 103586],
+    rows: &[u8; ROWS_LENGTH],
+    edges: &[u8; EDGES_LENGTH],
+    out: &mut [u8; TEXT_LENGTH],
 ) -> usize {
     match reply {
         ExplainReply::Refused(number, figure) => write_refusal(number, figure, out),
@@ -58,9 +61,9 @@ fn write_reply(
 
 pub fn print_reply(
     reply: ExplainReply,
-    rows: &[u8; 3072],
-    edges: &[u8; 20480],
-    out: &mut [u8; 103586],
+    rows: &[u8; ROWS_LENGTH],
+    edges: &[u8; EDGES_LENGTH],
+    out: &mut [u8; TEXT_LENGTH],
 ) {
     let end = write_reply(reply, rows, edges, out);
     print_start(out, end);

@@ -1,4 +1,7 @@
 // The program `explain`: reads table.txt and formula.txt in the folder that it runs in, and writes the listing or the refusal's line.
+use explanations::sizes::KEPT;
+use explanations::sizes::TEXT_LENGTH;
+use lts::sizes::ENOUGH_TABLE_TEXT;
 ghost use Rattle.io.specs.Counts.{Counts};
 use libc::STDOUT_FILENO;
 use listing_text::files::Scanned;
@@ -12,7 +15,7 @@ struct Portion {
     more: bool,
 }
 
-fn scan_some(fd: i32, head: &mut [u8; 513], scanned: Scanned) -> Portion {
+fn scan_some(fd: i32, head: &mut [u8; KEPT], scanned: Scanned) -> Portion {
     let mut chunk = io::large_buffer();
     let n = io::read_full(fd, &mut chunk);
     Portion {
@@ -22,7 +25,7 @@ fn scan_some(fd: i32, head: &mut [u8; 513], scanned: Scanned) -> Portion {
 }
 
 // A proved loop has to end, and nothing says that a file does: the loop counts its rounds down, from a number that no file uses up.
-fn scan_all(fd: i32, head: &mut [u8; 513]) -> Scanned {
+fn scan_all(fd: i32, head: &mut [u8; KEPT]) -> Scanned {
     let mut left = u64::MAX;
     let mut scanned = scan_start();
     while left > 0 {
@@ -37,7 +40,7 @@ fn scan_all(fd: i32, head: &mut [u8; 513]) -> Scanned {
 }
 
 // A file that cannot be opened counts as empty.
-fn scan_formula(head: &mut [u8; 513]) -> Scanned {
+fn scan_formula(head: &mut [u8; KEPT]) -> Scanned {
     let fd = os::open_read(b"formula.txt");
     if fd < 0 {
         return scan_start();
@@ -60,11 +63,11 @@ fn read_table(table: &mut [u8]) -> usize
 }
 
 fn main() {
-    let mut table = [0u8; 20282];
+    let mut table = [0u8; ENOUGH_TABLE_TEXT];
     let n = read_table(&mut table);
-    let mut head = [0u8; 513];
+    let mut head = [0u8; KEPT];
     let scanned = scan_formula(&mut head);
-    let mut out = [0u8; 103586];
+    let mut out = [0u8; TEXT_LENGTH];
     let end = explain_files(&table[..n], &head, scanned, &mut out);
     io::write_all(STDOUT_FILENO, &out[..end]);
 }

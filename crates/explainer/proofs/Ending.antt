@@ -6,10 +6,12 @@ use Prim.Native.Nat.{ℕ, _≤_}
 use native.Mathlib.Omega.{arith}
 use lib.ListN.{length, getD, take, drop}
 use lib.Seq.{take-length}
+use Rattle.actl.specs.Sizes.{formulaLength}
+use Rattle.lts.specs.Sizes.{tableLength}
 use Rattle.lts.specs.Reply.{Reply, accepted, refusal, overwritten, leftIn, answers}
-use Rattle.lts.specs.Prepared.{tableLength, tableBytes}
+use Rattle.lts.specs.Prepared.{tableBytes}
 use Rattle.actl.specs.Formulas.{Formula, tru, not, or, ex, ax, eu, euThen, nodes, classOf}
-use Rattle.actl.specs.Prepared.{formulaLength, formulaBytes}
+use Rattle.actl.specs.Prepared.{formulaBytes}
 use Rattle.formula_check.specs.Inputs.{unpreparedNumber}
 use Rattle.formula_check.specs.declared.inputs.Unprepared.{Unprepared}
 use Rattle.formula_check.specs.declared.inputs.Unprepared.the-variants.{TableForeign, FormulaForeign, BufferShort}

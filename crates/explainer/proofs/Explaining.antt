@@ -8,17 +8,19 @@ use lib.Dec.{leb}
 use lib.ListN.{length, take}
 use lib.Seq.{take-all}
 use borrow.Author.Tests.{le-leb}
+use Rattle.actl.specs.Sizes.{formulaLength}
+use Rattle.lts.specs.Sizes.{tableLength}
 use Rattle.lts.specs.Reply.{Reply, accepted, refusal, answers}
 use Rattle.lts.specs.Steps.{Table, labels}
 use Rattle.lts.specs.Range.{InRange}
 use Rattle.lts.specs.Reading.{readTable}
-use Rattle.lts.specs.Prepared.{tableLength, tableBytes, preparedTable}
+use Rattle.lts.specs.Prepared.{tableBytes, preparedTable}
 use Rattle.lts.proofs.Laws.TableBytes.{table-bytes-length}
 use Rattle.lts.proofs.Laws.Texts.{text-of-read}
 use Rattle.lts.proofs.Laws.Prepared as tables
 use Rattle.actl.specs.Formulas.{Formula}
 use Rattle.actl.specs.Reading.{readFormula}
-use Rattle.actl.specs.Prepared.{formulaLength, formulaBytes, IsForm, preparedFormula}
+use Rattle.actl.specs.Prepared.{formulaBytes, IsForm, preparedFormula}
 use Rattle.actl.specs.FormulaReading.{onPrepared, withTable, withFormula, longEnough}
 use Rattle.actl.proofs.Laws.Forms.{length-form}
 use Rattle.actl.proofs.Laws.Prepared as formulas

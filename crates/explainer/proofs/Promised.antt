@@ -8,10 +8,12 @@ use native.Mathlib.Omega.{arith}
 use lib.Dec.{leb}
 use lib.ListN.{length}
 use borrow.Author.Tests.{le-leb, lt-leb}
+use Rattle.actl.specs.Sizes.{formulaLength}
+use Rattle.lts.specs.Sizes.{tableLength}
 use Rattle.lts.specs.Reply.{Reply, accepted, refusal, unless, answers}
 use Rattle.lts.specs.Steps.{labels}
-use Rattle.lts.specs.Prepared.{tableLength, tableBytes, preparedTable}
-use Rattle.actl.specs.Prepared.{formulaLength, formulaBytes, preparedFormula}
+use Rattle.lts.specs.Prepared.{tableBytes, preparedTable}
+use Rattle.actl.specs.Prepared.{formulaBytes, preparedFormula}
 use Rattle.actl.specs.FormulaReading.{longEnough}
 use Rattle.automaton.specs.Build.{Counts}
 use Rattle.explanations.specs.Explained.{FromTexts}

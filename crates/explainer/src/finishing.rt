@@ -2,6 +2,8 @@
 ghost use mathlib.Core.Path.{_≡_};
 ghost use Prim.Native.Nat.{_≤_};
 ghost use lib.ListN.{length};
+ghost use Rattle.actl.specs.Sizes.{formulaLength};
+ghost use Rattle.lts.specs.Sizes.{tableLength};
 ghost use Rattle.explainer.specs.Readings.{Outcome};
 ghost use Rattle.explanations.specs.BothTexts.{Read, HoldsBoth, listingOf, ClassIn};
 use crate::ExplainReply;
@@ -22,7 +24,7 @@ fn wide(class: u8) -> u64
 
 // The class of a prepared formula.
 fn class_of(formula: &[u8]) -> u64
-    requires { ⌜ 681 ≤ length (now formula) ⌝ }
+    requires { ⌜ formulaLength ≤ length (now formula) ⌝ }
     ensures { λ r. ⌜ ClassIn (now (formula .entry)) r ⌝ }
 {
     let shape = shape_of(formula);
@@ -39,8 +41,8 @@ pub fn finish(
     rows: &mut [u8],
     edges: &mut [u8],
 ) -> ExplainReply
-    requires { ⌜ (length (now t) ≡ 3718) × (length (now f) ≡ 681) ⌝ }
-    requires { ⌜ (3718 ≤ length (now table)) × (681 ≤ length (now formula)) ⌝ }
+    requires { ⌜ (length (now t) ≡ tableLength) × (length (now f) ≡ formulaLength) ⌝ }
+    requires { ⌜ (tableLength ≤ length (now table)) × (formulaLength ≤ length (now formula)) ⌝ }
     ensures { λ r. ⌜ ((x : Read) → HoldsBoth (now (t .entry)) (now (f .entry)) x → Outcome (listingOf x (now (rows .entry)) (now (edges .entry))) r (now (table .entry)) (now (table .exit)) (now (formula .entry)) (now (formula .exit)) (now (rows .entry)) (now (rows .exit)) (now (edges .entry)) (now (edges .exit))) ⌝ }
 {
     let built = build(t, f, rows, edges);

@@ -1,6 +1,8 @@
 // Reading both texts, the formula's over the table that was read.
 ghost use mathlib.Core.Path.{_≡_};
 ghost use lib.ListN.{length};
+ghost use Rattle.actl.specs.Sizes.{formulaLength};
+ghost use Rattle.lts.specs.Sizes.{tableLength};
 ghost use Rattle.explainer.specs.Readings.{ReadBoth};
 ghost use Rattle.explanations.specs.BothTexts.{readings};
 use formula_text::read_formula;
@@ -21,7 +23,7 @@ pub fn read_both(
     table: &mut [u8],
     formula: &mut [u8],
 ) -> BothRead
-    requires { ⌜ (length (now table) ≡ 3718) × (length (now formula) ≡ 681) ⌝ }
+    requires { ⌜ (length (now table) ≡ tableLength) × (length (now formula) ≡ formulaLength) ⌝ }
     ensures { λ r. ⌜ ReadBoth (readings (now (tabletext .entry)) (now (formulatext .entry))) r (now (table .exit)) (now (formula .exit)) ⌝ }
 {
     let first = read_table(tabletext, table);

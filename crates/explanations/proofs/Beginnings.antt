@@ -9,6 +9,8 @@ use lib.Dec.{eqb, leb}
 use lib.ListN.{length, take, drop, length-take}
 use lib.Seq.{take-all}
 use borrow.Author.Tests.{leb-true, leb-false, lt-leb, ne-eqb}
+use Rattle.explanations.specs.Sizes.{keptLength}
+use Rattle.lts.specs.Sizes.{enoughTableText}
 use Rattle.columns.specs.Columns.{valueAt}
 use Rattle.lts.specs.Reply.{Reply, accepted, refusal, unless, answers}
 use Rattle.lts.specs.Steps.{Step, Table}
@@ -101,13 +103,13 @@ module _ (rows edges : List ℕ) where
   abbrev onTable : Reply Table → List ℕ → Reply Explanation
   onTable r text = andThen r (λ t. onFormula t (readFormula (t .names) text))
 
-  formula-begun : (t : Table) (text : List ℕ) → withLength (length text) (onFormula t (readFormula (t .names) (take 513 text))) ≡ onFormula t (readFormula (t .names) text)
+  formula-begun : (t : Table) (text : List ℕ) → withLength (length text) (onFormula t (readFormula (t .names) (take keptLength text))) ≡ onFormula t (readFormula (t .names) text)
   unfolding readFormula
   formula-begun t text = by (leb (length text) 512) refl
     where
-      by : (b : Bool) → leb (length text) 512 ≡ b → withLength (length text) (onFormula t (readFormula (t .names) (take 513 text))) ≡ onFormula t (readFormula (t .names) text)
+      by : (b : Bool) → leb (length text) 512 ≡ b → withLength (length text) (onFormula t (readFormula (t .names) (take keptLength text))) ≡ onFormula t (readFormula (t .names) text)
       by true e =
-          let same : take 513 text ≡ text = take-all 513 text (omega (arith, leb-true (length text) 512 e)) in
+          let same : take keptLength text ≡ text = take-all keptLength text (omega (arith, leb-true (length text) 512 e)) in
           let is : readFormula (t .names) text ≡ onResult (t .names) text (read text) = ap (λ b. unless b 5 (length text) (onResult (t .names) text (read text))) e in
           ap (λ l. withLength (length text) (onFormula t (readFormula (t .names) l))) same
           ∙ other-kept (length text) (onFormula t (readFormula (t .names) text))
@@ -115,15 +117,15 @@ module _ (rows edges : List ℕ) where
           (λ F. other-answers _ (fitted (listing t F) rows edges) (fitted-other (listing t F) rows edges)))
       by false e =
           let long = leb-false (length text) 512 e in
-          let begun : readFormula (t .names) (take 513 text) ≡ refusal 5 (length (take 513 text)) =
-          ap (λ b. unless b 5 (length (take 513 text)) (onResult (t .names) (take 513 text) (read (take 513 text)))) (lt-leb (length (take 513 text)) 512 (omega (arith, length-take 513 text))) in
+          let begun : readFormula (t .names) (take keptLength text) ≡ refusal 5 (length (take keptLength text)) =
+          ap (λ b. unless b 5 (length (take keptLength text)) (onResult (t .names) (take keptLength text) (read (take keptLength text)))) (lt-leb (length (take keptLength text)) 512 (omega (arith, length-take keptLength text))) in
           let is : readFormula (t .names) text ≡ refusal 5 (length text) = ap (λ b. unless b 5 (length text) (onResult (t .names) text (read text))) e in
           ap (λ r. withLength (length text) (onFormula t r)) begun ∙ sym (ap (onFormula t) is)
 
-  table-begun : (r : Reply Table) → Other r → (text : List ℕ) → withLength (length text) (onTable r (take 513 text)) ≡ onTable r text
+  table-begun : (r : Reply Table) → Other r → (text : List ℕ) → withLength (length text) (onTable r (take keptLength text)) ≡ onTable r text
   table-begun (accepted t) o text = formula-begun t text
   table-begun (refusal k g) o text = other-kept (length text) (refusal k g) o
 
-  pub explanation-begun : (m : ℕ) (table text : List ℕ) → 20282 ≤ m → withLength (length text) (explanation (take m table) (take 513 text) rows edges) ≡ explanation table text rows edges
+  pub explanation-begun : (m : ℕ) (table text : List ℕ) → enoughTableText ≤ m → withLength (length text) (explanation (take m table) (take keptLength text) rows edges) ≡ explanation table text rows edges
   explanation-begun m table text h =
-      ap (λ r. withLength (length text) (onTable r (take 513 text))) (reading-bounded m table h) ∙ table-begun (readTable table) (table-other table) text
+      ap (λ r. withLength (length text) (onTable r (take keptLength text))) (reading-bounded m table h) ∙ table-begun (readTable table) (table-other table) text

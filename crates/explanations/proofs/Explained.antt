@@ -7,18 +7,19 @@ use native.Mathlib.Omega.{arith}
 use lib.Dec.{leb}
 use lib.ListN.{length, take, drop}
 use lib.Seq.{take-at}
+use Rattle.lts.specs.Sizes.{tableLength}
 use Rattle.lts.specs.Reply.{Reply, accepted, refusal, unless, overwritten, leftIn, answers}
 use Rattle.lts.specs.Steps.{Table, labels}
 use Rattle.lts.specs.Range.{InRange}
 use Rattle.lts.specs.Reading.{readTable}
-use Rattle.lts.specs.Prepared.{tableLength, tableBytes, preparedTable}
+use Rattle.lts.specs.Prepared.{tableBytes, preparedTable}
 use Rattle.lts.specs.TableReading.{tableReading, tableReplied, tableLeft}
 use Rattle.lts.proofs.Laws.Texts.{text-of-read}
 use Rattle.lts.proofs.Laws.TableBytes.{table-bytes-length}
 use Rattle.lts.proofs.Laws.Prepared as prepared-table
 use Rattle.actl.specs.Formulas.{Formula, size}
 use Rattle.actl.specs.Reading.{readFormula}
-use Rattle.actl.specs.Prepared.{formulaLength, formulaBytes, preparedFormula, IsForm}
+use Rattle.actl.specs.Prepared.{formulaBytes, preparedFormula, IsForm}
 use Rattle.actl.specs.FormulaReading.{withTable, formulaReading, formulaReplied, formulaLeft}
 use Rattle.actl.proofs.Classes.{HasClass}
 use Rattle.actl.proofs.Laws.Accepted.{reading-leaves-form}

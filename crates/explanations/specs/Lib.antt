@@ -6,3 +6,4 @@ pub mod Positions
 pub mod Printed
 pub mod Shown
 pub mod Traces
+pub mod Sizes

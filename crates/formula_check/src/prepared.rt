@@ -1,4 +1,7 @@
 // The check that prepared formula bytes are the one form of a formula, over a table's labels.
+use actl::sizes::FORMULA_LENGTH;
+use actl::sizes::NODE_SLOT;
+use actl::sizes::NODES;
 use formulas::node::mask;
 use formulas::node::node_count;
 use formulas::walk::spelled;
@@ -8,6 +11,7 @@ ghost use mathlib.Core.Bool.{_&&_, _||_};
 ghost use Prim.Native.Nat.{_+_, _*_, _<_, _≤_};
 ghost use lib.Dec.{eqb, leb};
 ghost use lib.ListN.{length};
+ghost use Rattle.actl.specs.Sizes.{formulaLength};
 ghost use Rattle.actl.specs.Prepared.{maskWithin, slotAt};
 ghost use Rattle.actl.specs.Shaped.{firstUsed, secondUsed};
 ghost use Rattle.actl.specs.Check.{isPrepared, slotFits, slotsFit, zerosFrom};
@@ -47,10 +51,10 @@ fn masks_of(kind: u8) -> u8
 }
 
 fn slot_fits(labels: usize, formula: &[u8], k: usize) -> bool
-    requires { ⌜ (681 ≤ length (now formula)) × (k < 40) ⌝ }
+    requires { ⌜ (formulaLength ≤ length (now formula)) × (k < 40) ⌝ }
     ensures { λ r. ⌜ r ≡ slotFits labels (slotAt (now (formula .entry)) k) ⌝ }
 {
-    let kind = formula[1 + k * 17];
+    let kind = formula[1 + k * NODE_SLOT];
     if kind == 0 {
         return false;
     }
@@ -58,13 +62,13 @@ fn slot_fits(labels: usize, formula: &[u8], k: usize) -> bool
         return false;
     }
     let masks = masks_of(kind);
-    let first = mask_fits(labels, mask(formula, 2 + k * 17), 1 <= masks);
-    let second = mask_fits(labels, mask(formula, 10 + k * 17), masks == 2);
+    let first = mask_fits(labels, mask(formula, 2 + k * NODE_SLOT), 1 <= masks);
+    let second = mask_fits(labels, mask(formula, 10 + k * NODE_SLOT), masks == 2);
     first && second
 }
 
 fn slots_fit(labels: usize, formula: &[u8], count: usize) -> bool
-    requires { ⌜ (681 ≤ length (now formula)) × (count ≤ 40) ⌝ }
+    requires { ⌜ (formulaLength ≤ length (now formula)) × (count ≤ 40) ⌝ }
     ensures { λ r. ⌜ r ≡ slotsFit labels (now (formula .entry)) count ⌝ }
 {
     let mut k = 0;
@@ -78,27 +82,27 @@ fn slots_fit(labels: usize, formula: &[u8], count: usize) -> bool
 }
 
 fn zeros_from(formula: &[u8], from: usize) -> bool
-    requires { ⌜ (681 ≤ length (now formula)) × (from ≤ 681) ⌝ }
+    requires { ⌜ (formulaLength ≤ length (now formula)) × (from ≤ formulaLength) ⌝ }
     ensures { λ r. ⌜ r ≡ zerosFrom (now (formula .entry)) from ⌝ }
 {
-    zeros(formula, from, 681)
+    zeros(formula, from, FORMULA_LENGTH)
 }
 
 // 01: "formula bytes that aren't the one form, given in docs/, of 1 to 40 nodes in order, each with a class, sets within this table's labels"
 pub fn is_prepared(labels: usize, formula: &[u8]) -> bool
     ensures { λ r. ⌜ r ≡ isPrepared labels (now (formula .entry)) ⌝ }
 {
-    if formula.len() < 681 {
+    if formula.len() < FORMULA_LENGTH {
         return false;
     }
     let count = node_count(formula);
-    if 40 < count {
+    if NODES < count {
         return false;
     }
     if !slots_fit(labels, formula, count) {
         return false;
     }
-    if !zeros_from(formula, 1 + count * 17) {
+    if !zeros_from(formula, 1 + count * NODE_SLOT) {
         return false;
     }
     spelled(formula, count)

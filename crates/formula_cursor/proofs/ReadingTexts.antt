@@ -7,6 +7,7 @@ use native.Mathlib.Decide.{decLe}
 use native.Mathlib.Omega.{arith}
 use lib.ListN.{length, drop, length-drop, drop-of-length-le}
 use lib.Seq.{drop-cons}
+use Rattle.actl.specs.Sizes.{cellsLength}
 use Rattle.actl.specs.Grammar.{gap, showF}
 use Rattle.actl.specs.Reader.{fTop, tFirst, termAt, afterDisjunction, stop, readByte, finishDisjunction, proceed, run, start, read, refused}
 use Rattle.actl.specs.Mentions.{namesF}
@@ -46,7 +47,7 @@ module _ {N : List (List ℕ)} {s e : List ℕ} {end to m l : ℕ} {x : List ℕ
           let d = drop-cons s to 256 (omega arith) in
           ap (λ r. run r (afterDisjunction (h .value) fTop (to - end))) d ∙ (ap (λ v. proceed v (run (drop (suc to) s)) (refused (peek s to ∷ drop (suc to) s))) stuck ∙ ap refused (sym d))
 
-  pub text-whole : length e ≡ 1536 → end ≡ length s → WholeRead N s x m l
+  pub text-whole : length e ≡ cellsLength → end ≡ length s → WholeRead N s x m l
   text-whole long z =
       let w : to ≡ length s = omega (arith, h .blanks, h .moves .within) in
       let b : to - end ≡ 0 = omega arith in

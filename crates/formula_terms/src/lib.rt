@@ -1,8 +1,11 @@
 // Reading a formula's text: the readers of terms, brackets and formulas call each other, each from a cursor to the cursor behind what it
 // read. What they make of it: the nodes in preorder, three cells each (kind and two masks), and the first name that the table lacks.
+use actl::sizes::CELL;
+use actl::sizes::CELLS;
 ghost use mathlib.Core.Path.{_≡_};
 ghost use Prim.Native.Nat.{_+_, _*_, _-_, _≤_, _<_};
 ghost use lib.ListN.{length};
+ghost use Rattle.actl.specs.Sizes.{cellsLength};
 ghost use Rattle.lts.specs.HoldsTable.{HoldsTable};
 ghost use Rattle.actl.specs.Readers.{namesIn, ReaderStart, putAt, joinedAt, NodeRoom};
 ghost use Rattle.formula_terms.specs.TermReplies.{TermSays, BracketSays, FormulaSays, ReadingSays};
@@ -30,23 +33,23 @@ pub enum Reading {
 }
 
 // Node n: its kind and its masks.
-fn put(cells: &mut [u64; 1536], n: usize, kind: u64, first: u64, second: u64)
-    requires { ⌜ (length (now cells) ≡ 1536) × (n < 512) ⌝ }
+fn put(cells: &mut [u64; CELLS], n: usize, kind: u64, first: u64, second: u64)
+    requires { ⌜ (length (now cells) ≡ cellsLength) × (n < 512) ⌝ }
     ensures { λ r. ⌜ now (cells .exit) ≡ putAt n kind first second (now (cells .entry)) ⌝ }
 {
-    let at = n * 3;
+    let at = n * CELL;
     cells[at] = kind;
     cells[at + 1] = first;
     cells[at + 2] = second;
 }
 
 // The nodes from `start` up to n move up by one, and `|` stands before them.
-fn join(cells: &mut [u64; 1536], start: usize, n: usize)
-    requires { ⌜ (length (now cells) ≡ 1536) × (start ≤ n) × (n < 512) ⌝ }
+fn join(cells: &mut [u64; CELLS], start: usize, n: usize)
+    requires { ⌜ (length (now cells) ≡ cellsLength) × (start ≤ n) × (n < 512) ⌝ }
     ensures { λ r. ⌜ now (cells .exit) ≡ joinedAt start n (now (cells .entry)) ⌝ }
 {
-    let low = start * 3;
-    let mut i = n * 3;
+    let low = start * CELL;
+    let mut i = n * CELL;
     while low < i {
         i -= 1;
         cells[i + 3] = cells[i];
@@ -58,7 +61,7 @@ fn join(cells: &mut [u64; 1536], start: usize, n: usize)
 fn term(
     table: &[u8],
     text: &[u8],
-    cells: &mut [u64; 1536],
+    cells: &mut [u64; CELLS],
     c: Cursor,
     n: usize,
     lost: usize,
@@ -92,7 +95,7 @@ fn term(
 fn bracket(
     table: &[u8],
     text: &[u8],
-    cells: &mut [u64; 1536],
+    cells: &mut [u64; CELLS],
     c: Cursor,
     n: usize,
     lost: usize,
@@ -116,7 +119,7 @@ fn bracket(
 fn formula(
     table: &[u8],
     text: &[u8],
-    cells: &mut [u64; 1536],
+    cells: &mut [u64; CELLS],
     c: Cursor,
     n: usize,
     lost: usize,
@@ -148,8 +151,8 @@ fn formula(
 }
 
 // A whole text of at most 512 bytes.
-pub fn read_text(table: &[u8], text: &[u8], cells: &mut [u64; 1536]) -> Reading
-    requires { ⌜ HoldsTable (now table) × (length (now text) ≤ 512) × (length (now cells) ≡ 1536) ⌝ }
+pub fn read_text(table: &[u8], text: &[u8], cells: &mut [u64; CELLS]) -> Reading
+    requires { ⌜ HoldsTable (now table) × (length (now text) ≤ 512) × (length (now cells) ≡ cellsLength) ⌝ }
     ensures { λ r. ⌜ ReadingSays (namesIn (now (table .entry))) (now (text .entry)) (now (cells .exit)) r ⌝ }
 {
     let c = Cursor { at: 0 };

@@ -8,9 +8,11 @@ use native.Mathlib.Omega.{arith}
 use borrow.Author.Tests.{le-leb, lt-leb}
 use lib.Dec.{leb}
 use lib.ListN.{length}
+use Rattle.actl.specs.Sizes.{formulaLength}
+use Rattle.lts.specs.Sizes.{tableLength}
 use Rattle.lts.specs.Reply.{Reply, refusal, unless, leftIn, answers}
 use Rattle.lts.specs.Steps.{Table}
-use Rattle.lts.specs.Prepared.{tableLength, tableIn, preparedTable}
+use Rattle.lts.specs.Prepared.{tableIn, preparedTable}
 use Rattle.lts.specs.HoldsTable.{HoldsTable}
 use Rattle.lts.specs.Answers.{isSome}
 use Rattle.lts.proofs.Laws.Prepared.{prepared-in, prepared-holds}
@@ -19,7 +21,7 @@ use Rattle.actl.specs.Reader.{read}
 use Rattle.actl.specs.Meaning.{formulaOf}
 use Rattle.actl.specs.Mentions.{namesF}
 use Rattle.actl.specs.Reading.{firstUnknown, onResult, readFormula}
-use Rattle.actl.specs.Prepared.{formulaLength, formulaBytes}
+use Rattle.actl.specs.Prepared.{formulaBytes}
 use Rattle.formula_text.specs.Replies.{formulaReply}
 use Rattle.actl.specs.FormulaReading.{formulaReading, withTable}
 use Rattle.actl.specs.Readers.{namesIn, WholeRead, RefusedAt}
@@ -44,17 +46,17 @@ absent none h = refl
 absent (some t) h = let z : _≡_ {A = ℕ} 0 1 = cc in absurd (omega arith)
 
 module _ (b s e : List ℕ) where
-  pub short-table : length b < 3718 → FormulaAnswered (formulaReading b s e) e (BufferShort 3718) e
+  pub short-table : length b < tableLength → FormulaAnswered (formulaReading b s e) e (BufferShort tableLength) e
   unfolding formulaReading
-  short-table h = refuses _ e (BufferShort 3718) 14 3718 (stops (leb tableLength (length b)) 14 tableLength _ (lt-leb tableLength (length b) h)) refl
+  short-table h = refuses _ e (BufferShort tableLength) 14 tableLength (stops (leb tableLength (length b)) 14 tableLength _ (lt-leb tableLength (length b) h)) refl
 
-  module _ (long : 3718 ≤ length b) where
-    pub short-formula : length e < 681 → FormulaAnswered (formulaReading b s e) e (BufferShort 681) e
+  module _ (long : tableLength ≤ length b) where
+    pub short-formula : length e < formulaLength → FormulaAnswered (formulaReading b s e) e (BufferShort formulaLength) e
     unfolding formulaReading
-    short-formula h = refuses _ e (BufferShort 681) 14 681
+    short-formula h = refuses _ e (BufferShort formulaLength) 14 formulaLength
         (passes (leb tableLength (length b)) 14 tableLength _ (le-leb tableLength (length b) long) ∙ stops (leb formulaLength (length e)) 14 formulaLength _ (lt-leb formulaLength (length e) h)) refl
 
-    module _ (room : 681 ≤ length e) where
+    module _ (room : formulaLength ≤ length e) where
       opened : formulaReading b s e ≡ withTable (preparedTable b) (λ t. readFormula (t .names) s)
       unfolding formulaReading
       opened = passes (leb tableLength (length b)) 14 tableLength _ (le-leb tableLength (length b) long) ∙ passes (leb formulaLength (length e)) 14 formulaLength _ (le-leb formulaLength (length e) room)

@@ -1,4 +1,8 @@
 // Reading a formula's text over a prepared table.
+use actl::sizes::CELLS;
+use actl::sizes::FORMULA_LENGTH;
+use actl::sizes::LONGEST_TEXT;
+use lts::sizes::TABLE_LENGTH;
 ghost use mathlib.Core.Path.{_≡_};
 ghost use Rattle.formula_text.specs.Replies.{formulaReply};
 ghost use Rattle.actl.specs.FormulaReading.{formulaReplied, formulaLeft};
@@ -25,19 +29,19 @@ pub fn read_formula(table: &[u8], text: &[u8], formula: &mut [u8]) -> FormulaRep
     ensures { λ r. ⌜ formulaReply r ≡ formulaReplied (now (table .entry)) (now (text .entry)) (now (formula .entry)) ⌝ }
     ensures { λ r. ⌜ now (formula .exit) ≡ formulaLeft (now (table .entry)) (now (text .entry)) (now (formula .entry)) ⌝ }
 {
-    if table.len() < 3718 {
-        return FormulaReply::BufferShort(3718);
+    if table.len() < TABLE_LENGTH {
+        return FormulaReply::BufferShort(TABLE_LENGTH);
     }
-    if formula.len() < 681 {
-        return FormulaReply::BufferShort(681);
+    if formula.len() < FORMULA_LENGTH {
+        return FormulaReply::BufferShort(FORMULA_LENGTH);
     }
     if !table_check::is_prepared(table) {
         return FormulaReply::TableForeign;
     }
-    if 512 < text.len() {
+    if LONGEST_TEXT < text.len() {
         return FormulaReply::TooLong(text.len());
     }
-    let mut cells = [0u64; 1536];
+    let mut cells = [0u64; CELLS];
     let x = read_text(table, text, &mut cells);
     match x {
         Reading::Refused(longest) => FormulaReply::NotGrammatical(longest),

@@ -1,7 +1,13 @@
 // The answer behind the grammar, and the prepared bytes: what reading left in cells goes into the lent buffer.
+use actl::sizes::CELL;
+use actl::sizes::CELLS;
+use actl::sizes::FORMULA_LENGTH;
+use actl::sizes::NODE_SLOT;
+use actl::sizes::NODES;
 ghost use mathlib.Core.Path.{_≡_};
 ghost use Prim.Native.Nat.{_+_, _*_, _-_, _≤_, _<_};
 ghost use lib.ListN.{length, take, replicate};
+ghost use Rattle.actl.specs.Sizes.{formulaLength, cellsLength};
 ghost use Rattle.columns.specs.Bytes.{lowFirst};
 ghost use Rattle.columns.specs.Write.{pasted};
 ghost use Rattle.actl.specs.Writing.{nodeBytes, cellBytes, cellKinds, preparedBytes};
@@ -33,61 +39,67 @@ fn put_node(formula: &mut [u8], at: usize, kind: u64, first: u64, second: u64)
     put_mask(formula, at + 9, second);
 }
 
-fn put_nodes(cells: &[u64; 1536], n: usize, formula: &mut [u8])
-    requires { ⌜ (length (now cells) ≡ 1536) × (n ≤ 40) × (681 ≤ length (now formula)) ⌝ }
+fn put_nodes(cells: &[u64; CELLS], n: usize, formula: &mut [u8])
+    requires { ⌜ (length (now cells) ≡ cellsLength) × (n ≤ 40) × (formulaLength ≤ length (now formula)) ⌝ }
     ensures { λ r. ⌜ now (formula .exit) ≡ pasted (now (formula .entry)) 1 (cellBytes (now (cells .entry)) n) ⌝ }
 {
     let mut k = 0;
     while k < n {
-        let at = k * 3;
-        put_node(formula, 1 + k * 17, cells[at], cells[at + 1], cells[at + 2]);
+        let at = k * CELL;
+        put_node(
+            formula,
+            1 + k * NODE_SLOT,
+            cells[at],
+            cells[at + 1],
+            cells[at + 2],
+        );
         k += 1;
     }
 }
 
 // Zeros up to the prepared bytes' end.
 fn put_zeros(formula: &mut [u8], from: usize)
-    requires { ⌜ (from ≤ 681) × (681 ≤ length (now formula)) ⌝ }
-    ensures { λ r. ⌜ now (formula .exit) ≡ pasted (now (formula .entry)) from (replicate (681 - from) 0) ⌝ }
+    requires { ⌜ (from ≤ formulaLength) × (formulaLength ≤ length (now formula)) ⌝ }
+    ensures { λ r. ⌜ now (formula .exit) ≡ pasted (now (formula .entry)) from (replicate (formulaLength - from) 0) ⌝ }
 {
     let mut i = from;
-    while i < 681 {
+    while i < FORMULA_LENGTH {
         formula[i] = 0;
         i += 1;
     }
 }
 
-fn write_bytes(cells: &[u64; 1536], n: usize, formula: &mut [u8])
-    requires { ⌜ (length (now cells) ≡ 1536) × (n ≤ 40) × (681 ≤ length (now formula)) ⌝ }
+fn write_bytes(cells: &[u64; CELLS], n: usize, formula: &mut [u8])
+    requires { ⌜ (length (now cells) ≡ cellsLength) × (n ≤ 40) × (formulaLength ≤ length (now formula)) ⌝ }
     ensures { λ r. ⌜ now (formula .exit) ≡ pasted (now (formula .entry)) 0 (preparedBytes (now (cells .entry)) n) ⌝ }
 {
     formula[0] = n as u8;
     put_nodes(cells, n, formula);
-    put_zeros(formula, 1 + n * 17);
+    put_zeros(formula, 1 + n * NODE_SLOT);
 }
 
-fn kinds_of(cells: &[u64; 1536], n: usize) -> [u8; 40]
-    requires { ⌜ (length (now cells) ≡ 1536) × (n ≤ 40) ⌝ }
+fn kinds_of(cells: &[u64; CELLS], n: usize) -> [u8; NODES]
+    requires { ⌜ (length (now cells) ≡ cellsLength) × (n ≤ 40) ⌝ }
     ensures { λ r. ⌜ take n r ≡ cellKinds (now (cells .entry)) n ⌝ }
 {
-    let mut kinds = [0u8; 40];
+    let mut kinds = [0u8; NODES];
     let mut k = 0;
     while k < n {
-        kinds[k] = (cells[k * 3] % 256) as u8;
+        kinds[k] = (cells[k * CELL] % 256) as u8;
         k += 1;
     }
     kinds
 }
 
 // 01: "Formulas go 5, 6, 7, 8, 9." The last three, of a text that is grammatical; and else the bytes are written.
-pub fn answer(cells: &[u64; 1536], n: usize, lost: usize, formula: &mut [u8]) -> FormulaReply
-    requires { ⌜ (length (now cells) ≡ 1536) × (681 ≤ length (now formula)) ⌝ }
+pub fn answer(cells: &[u64; CELLS], n: usize, lost: usize, formula: &mut [u8]) -> FormulaReply
+    requires { ⌜ (length (now cells) ≡ cellsLength) × (formulaLength ≤ length (now formula)) ⌝ }
     ensures { λ r. ⌜ FormulaAnsweredWith (now (cells .entry)) n lost (now (formula .entry)) r (now (formula .exit)) ⌝ }
 {
     if lost != 0 {
         return FormulaReply::NameUnknown(lost - 1);
     }
-    if 40 < n {
+    if NODES < n {
         return FormulaReply::TooManyNodes(n);
     }
     let kinds = kinds_of(cells, n);

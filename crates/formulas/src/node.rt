@@ -1,8 +1,10 @@
 // A prepared formula's nodes: how many there are, and each node's kind with its step condition.
+use actl::sizes::NODE_SLOT;
 ghost use mathlib.Core.Path.{_≡_};
 ghost use mathlib.Core.Bool.{true};
 ghost use Prim.Native.Nat.{_+_, _*_, _<_, _≤_};
 ghost use lib.ListN.{length, getD, drop};
+ghost use Rattle.actl.specs.Sizes.{formulaLength};
 ghost use Rattle.actl.specs.Prepared.{number, slotAt};
 ghost use Rattle.formulas.specs.Access.{slotOfNode};
 ghost use Rattle.actl.specs.Shaped.{shaped};
@@ -51,7 +53,7 @@ pub fn mask(formula: &[u8], at: usize) -> u64
 }
 
 pub fn node_count(formula: &[u8]) -> usize
-    requires { ⌜ 681 ≤ length (now formula) ⌝ }
+    requires { ⌜ formulaLength ≤ length (now formula) ⌝ }
     ensures { λ r. ⌜ r ≡ getD (now (formula .entry)) 0 0 ⌝ }
 {
     formula[0] as usize
@@ -59,20 +61,23 @@ pub fn node_count(formula: &[u8]) -> usize
 
 // Node k of a formula. `shaped` holds of every node's slot (proofs/Laws/Prepared.antt).
 pub fn node_at(formula: &[u8], k: usize) -> Node
-    requires { ⌜ 681 ≤ length (now formula) ⌝ }
+    requires { ⌜ formulaLength ≤ length (now formula) ⌝ }
     requires { ⌜ k < 40 ⌝ }
     requires { ⌜ shaped (slotAt (now formula) k) ≡ true ⌝ }
     ensures { λ r. ⌜ slotOfNode r ≡ slotAt (now (formula .entry)) k ⌝ }
 {
-    match formula[1 + k * 17] {
+    match formula[1 + k * NODE_SLOT] {
         1 => Node::True,
         2 => Node::Not,
         3 => Node::Or,
         4 => Node::Ex(Condition::Silent),
-        5 => Node::Ex(Condition::Labels(mask(formula, 2 + k * 17))),
+        5 => Node::Ex(Condition::Labels(mask(formula, 2 + k * NODE_SLOT))),
         6 => Node::Ax(Condition::Silent),
-        7 => Node::Ax(Condition::Labels(mask(formula, 2 + k * 17))),
-        8 => Node::Until(mask(formula, 2 + k * 17)),
-        _ => Node::UntilThen(mask(formula, 2 + k * 17), mask(formula, 10 + k * 17)),
+        7 => Node::Ax(Condition::Labels(mask(formula, 2 + k * NODE_SLOT))),
+        8 => Node::Until(mask(formula, 2 + k * NODE_SLOT)),
+        _ => Node::UntilThen(
+            mask(formula, 2 + k * NODE_SLOT),
+            mask(formula, 10 + k * NODE_SLOT),
+        ),
     }
 }

@@ -1,9 +1,12 @@
 // Walking a formula's nodes for numbering and classes: over their kinds in node order, from a node into its arms.
 use crate::node::node_count;
+use actl::sizes::NODE_SLOT;
+use actl::sizes::NODES;
 ghost use mathlib.Core.Path.{_≡_};
 ghost use mathlib.Core.Option.{none};
 ghost use Prim.Native.Nat.{_+_, _*_, _<_, _≤_};
 ghost use lib.ListN.{length, getD, set, take};
+ghost use Rattle.actl.specs.Sizes.{formulaLength};
 ghost use Rattle.actl.specs.Formulas.{classOfOr};
 ghost use Rattle.actl.specs.Walk.{classFrom, classOfArm, kindAt, kindsIn, lastNone};
 ghost use Rattle.formulas.specs.WalkReplies.{Walks, classlessNode, IsHighest, IsShape};
@@ -37,8 +40,8 @@ pub enum Classless {
 
 pub struct Shape {
     pub count: usize,
-    pub ends: [u8; 40],
-    pub classes: [u8; 40],
+    pub ends: [u8; NODES],
+    pub classes: [u8; NODES],
 }
 
 fn class_from(kind: u8, arm: u8) -> u8
@@ -135,22 +138,22 @@ pub fn highest_classless(kinds: &[u8]) -> Classless
     requires { ⌜ length (now kinds) ≤ 40 ⌝ }
     ensures { λ r. ⌜ IsHighest r (now (kinds .entry)) ⌝ }
 {
-    let mut ends = [0u8; 40];
-    let mut classes = [0u8; 40];
+    let mut ends = [0u8; NODES];
+    let mut classes = [0u8; NODES];
     walk(kinds, 0, &mut ends, &mut classes);
     let count = kinds.len();
     last_none(&classes[..count])
 }
 
 // The kinds of a prepared formula's first nodes.
-fn kinds_in(formula: &[u8], count: usize) -> [u8; 40]
-    requires { ⌜ (681 ≤ length (now formula)) × (count ≤ 40) ⌝ }
+fn kinds_in(formula: &[u8], count: usize) -> [u8; NODES]
+    requires { ⌜ (formulaLength ≤ length (now formula)) × (count ≤ 40) ⌝ }
     ensures { λ r. ⌜ take count r ≡ kindsIn (now (formula .entry)) count ⌝ }
 {
-    let mut kinds = [0u8; 40];
+    let mut kinds = [0u8; NODES];
     let mut k = 0;
     while k < count {
-        kinds[k] = formula[1 + k * 17];
+        kinds[k] = formula[1 + k * NODE_SLOT];
         k += 1;
     }
     kinds
@@ -158,11 +161,11 @@ fn kinds_in(formula: &[u8], count: usize) -> [u8; 40]
 
 // Whether the first nodes of prepared bytes, in order, are those of one formula with a class.
 pub fn spelled(formula: &[u8], count: usize) -> bool
-    requires { ⌜ (681 ≤ length (now formula)) × (count ≤ 40) ⌝ }
+    requires { ⌜ (formulaLength ≤ length (now formula)) × (count ≤ 40) ⌝ }
     ensures { λ r. ⌜ Decides (SpelledClassed (now (formula .entry)) count) r ⌝ }
 {
-    let mut ends = [0u8; 40];
-    let mut classes = [0u8; 40];
+    let mut ends = [0u8; NODES];
+    let mut classes = [0u8; NODES];
     let kinds = kinds_in(formula, count);
     let Walked::Node(end, arm) = walk(&kinds[..count], 0, &mut ends, &mut classes) else {
         return false;
@@ -175,13 +178,13 @@ pub fn spelled(formula: &[u8], count: usize) -> bool
 
 // Where the arms of each node of a prepared formula end, and each node's class.
 pub fn shape_of(formula: &[u8]) -> Shape
-    requires { ⌜ 681 ≤ length (now formula) ⌝ }
+    requires { ⌜ formulaLength ≤ length (now formula) ⌝ }
     ensures { λ r. ⌜ IsShape r (now (formula .entry)) ⌝ }
 {
     let count = node_count(formula);
-    let mut ends = [0u8; 40];
-    let mut classes = [0u8; 40];
-    if 40 < count {
+    let mut ends = [0u8; NODES];
+    let mut classes = [0u8; NODES];
+    if NODES < count {
         return Shape {
             count: count,
             ends: ends,
@@ -204,9 +207,13 @@ fn wide(byte: u8) -> usize
 }
 
 // The right arm of node k, if it has one: it stands behind the whole left arm.
-pub fn right_arm(ends: &[u8; 40], k: usize) -> usize
+pub fn right_arm(ends: &[u8; NODES], k: usize) -> usize
     requires { ⌜ k < 40 ⌝ }
     ensures { λ r. ⌜ (k + 1 < 40 → r ≡ getD (now (ends .entry)) (k + 1) 0) ⌝ }
 {
-    if k + 1 < 40 { wide(ends[k + 1]) } else { 40 }
+    if k + 1 < NODES {
+        wide(ends[k + 1])
+    } else {
+        NODES
+    }
 }

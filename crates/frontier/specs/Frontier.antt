@@ -6,6 +6,7 @@ use mathlib.Core.List.{List}
 use Prim.Native.Nat.{ℕ, zero, suc, _+_, _/_, _%_, _^_, _≤_, _<_}
 use lib.Bits.{bitOr}
 use lib.ListN.{getD, set, replicate}
+use Rattle.lts.specs.Sizes.{firstsLength}
 use Rattle.target_masks.specs.Masks.{bitAt}
 
 abbrev pub marksAt : List ℕ → ℕ → ℕ
@@ -22,7 +23,7 @@ nowhere = replicate 260 0
 
 -- No state has places any more.
 abbrev pub emptied : List ℕ → List ℕ
-emptied frontier = set (set (set (set frontier 256 0) 257 0) 258 0) 259 0
+emptied frontier = set (set (set (set frontier 256 0) firstsLength 0) 258 0) 259 0
 
 -- Places brought to a state.
 unfoldable pub brought : ℕ → ℕ → List ℕ → List ℕ

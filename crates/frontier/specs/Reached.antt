@@ -7,6 +7,7 @@ use Prim.Native.Nat.{ℕ, _+_, _*_, _≤_, _<_}
 use lib.Bits.{bitOr}
 use lib.Dec.{eqb}
 use lib.ListN.{length, getD}
+use Rattle.automaton.specs.Sizes.{placeCount, columnCount}
 use Rattle.lts.specs.Lists.{upFrom, anyOf as any}
 use Rattle.lts.specs.Steps.{Step, labels}
 use Rattle.lts.specs.Prepared.{tableIn}
@@ -20,14 +21,14 @@ use Rattle.frontier.specs.Frontier.{hasState, nowhere, emptied, brought,
 
 -- The target places of place k on label l, as `target_masks` leaves them.
 abbrev pub maskAt : List ℕ → ℕ → ℕ → ℕ
-maskAt masks k l = getD masks (k * 41 + columnOf l) 0
+maskAt masks k l = getD masks (k * columnCount + columnOf l) 0
 
 -- The target places of a set of places: with those of place k, if it is in the set; and of all of them.
 abbrev pub targetsAdded : List ℕ → ℕ → ℕ → ℕ → ℕ → ℕ
 targetsAdded masks places l k found = cond (bitAt places k) (bitOr found (maskAt masks k l)) found
 
 abbrev pub targetsOf : List ℕ → ℕ → ℕ → ℕ
-targetsOf masks places l = through (targetsAdded masks places l) 41 0 0
+targetsOf masks places l = through (targetsAdded masks places l) placeCount 0 0
 
 -- A step with the label l brings places to the state that it leads to.
 abbrev pub stepTaken : ℕ → ℕ → Step → List ℕ → List ℕ
@@ -61,7 +62,7 @@ abbrev pub finalPlace : List Bool → ℕ → ℕ → Bool
 finalPlace finals places k = bitAt places k && flagAt finals k
 
 abbrev pub someFinal : List Bool → ℕ → Bool
-someFinal finals places = any (finalPlace finals places) (upFrom 0 41)
+someFinal finals places = any (finalPlace finals places) (upFrom 0 placeCount)
 
 -- Letters that have a mask.
 pub record Letters (w : List ℕ) : Type 0 where

@@ -6,6 +6,7 @@ use mathlib.Core.List.{List}
 use mathlib.Core.Option.{some}
 use Prim.Native.Nat.{ℕ, _+_, _*_, _≤_, _<_}
 use lib.ListN.{length, getD}
+use Rattle.actl.specs.Sizes.{nodePositions}
 use Rattle.lts.specs.Steps.{Table, labels}
 use Rattle.lts.specs.Prepared.{tableIn}
 use Rattle.actl.specs.Formulas.{Formula, tru, size, nodes}
@@ -20,7 +21,7 @@ pub record RowRead (k : ℕ) (flags row : List Bool) : Type 0 where
 
 -- Flags with the row of node k put in.
 pub record RowPut (k : ℕ) (row flags flags′ : List Bool) : Type 0 where
-  pub places : length flags′ ≡ 10240
+  pub places : length flags′ ≡ nodePositions
   pub inside : (s : ℕ) → s < 256 → flagAt flags′ (k * 256 + s) ≡ flagAt row s
   pub outside : (i : ℕ) → (i < k * 256) ⊎ (k * 256 + 256 ≤ i) → flagAt flags′ i ≡ flagAt flags i
 
@@ -30,7 +31,7 @@ pub record LabelledFrom (t : Table) (F : Formula) (k : ℕ) (flags : List Bool) 
 
 -- The same of the formula in bytes, over the table in bytes.
 pub record RowsFrom (table formula : List ℕ) (k : ℕ) (flags : List Bool) : Type 0 where
-  pub places : length flags ≡ 10240
+  pub places : length flags ≡ nodePositions
   pub rows : (F : Formula) → preparedFormula (labels (tableIn table)) formula ≡ some F → LabelledFrom (tableIn table) F k flags
 
 -- 01: what holds at every node of the prepared formula, at every state.

@@ -1,14 +1,20 @@
 // Where every node of a prepared formula holds: from the last node to the first, so that arms come before their node.
 use crate::steps::label_at_once;
+use actl::sizes::NODE_POSITIONS;
+use actl::sizes::NODES;
 use formulas::node::Node;
 use formulas::node::node_at;
 use formulas::node::node_count;
 use formulas::walk::right_arm;
+use lts::sizes::FIRSTS;
+use lts::sizes::STATES;
+use lts::sizes::STEPS;
 use until_search::links::entering;
 use until_search::until;
 ghost use mathlib.Core.Path.{_≡_};
 ghost use Prim.Native.Nat.{_+_, _<_};
 ghost use lib.ListN.{length, getD};
+ghost use Rattle.actl.specs.Sizes.{nodePositions};
 ghost use Rattle.lts.specs.Steps.{labels};
 ghost use Rattle.lts.specs.Prepared.{tableIn};
 ghost use Rattle.lts.specs.HoldsTable.{HoldsTable};
@@ -21,13 +27,13 @@ ghost use Rattle.actl.specs.HoldsFormula.{HoldsFormula, ArmsEnd};
 // Where a node holds, from where its arms hold.
 fn label_node(
     table: &[u8],
-    steps: &[u16; 1280],
-    firsts: &[u16; 257],
-    links: &[u16; 1280],
+    steps: &[u16; STEPS],
+    firsts: &[u16; FIRSTS],
+    links: &[u16; STEPS],
     node: Node,
-    arm: &[bool; 256],
-    other: &[bool; 256],
-) -> [bool; 256]
+    arm: &[bool; STATES],
+    other: &[bool; STATES],
+) -> [bool; STATES]
     requires { ⌜ HoldsTable (now table) ⌝ }
     requires { ⌜ StepsOf (tableIn (now table)) (now steps) (now firsts) ⌝ }
     requires { ⌜ Linked (tableIn (now table)) (now links) ⌝ }
@@ -46,41 +52,41 @@ fn label_node(
 }
 
 // The row of node k; no state, if there is no place for such a node.
-pub fn row(flags: &[bool; 10240], k: usize) -> [bool; 256]
+pub fn row(flags: &[bool; NODE_POSITIONS], k: usize) -> [bool; STATES]
     ensures { λ r. ⌜ RowRead k (now (flags .entry)) r ⌝ }
 {
-    let mut found = [false; 256];
-    if 40 <= k {
+    let mut found = [false; STATES];
+    if NODES <= k {
         return found;
     }
     let mut s = 0;
-    while s < 256 {
-        found[s] = flags[k * 256 + s];
+    while s < STATES {
+        found[s] = flags[k * STATES + s];
         s += 1;
     }
     found
 }
 
-fn put_row(flags: &mut [bool; 10240], k: usize, found: &[bool; 256])
+fn put_row(flags: &mut [bool; NODE_POSITIONS], k: usize, found: &[bool; STATES])
     requires { ⌜ k < 40 ⌝ }
-    requires { ⌜ length (now flags) ≡ 10240 ⌝ }
+    requires { ⌜ length (now flags) ≡ nodePositions ⌝ }
     ensures { λ _. ⌜ RowPut k (now (found .entry)) (now (flags .entry)) (now (flags .exit)) ⌝ }
 {
     let mut s = 0;
-    while s < 256 {
-        flags[k * 256 + s] = found[s];
+    while s < STATES {
+        flags[k * STATES + s] = found[s];
         s += 1;
     }
 }
 
 fn label_row(
     table: &[u8],
-    steps: &[u16; 1280],
-    firsts: &[u16; 257],
-    links: &[u16; 1280],
+    steps: &[u16; STEPS],
+    firsts: &[u16; FIRSTS],
+    links: &[u16; STEPS],
     formula: &[u8],
-    ends: &[u8; 40],
-    flags: &mut [bool; 10240],
+    ends: &[u8; NODES],
+    flags: &mut [bool; NODE_POSITIONS],
     k: usize,
 )
     requires { ⌜ HoldsTable (now table) ⌝ }
@@ -102,11 +108,11 @@ fn label_row(
 // Node k and state s at k * 256 + s.
 pub fn label_nodes(
     table: &[u8],
-    steps: &[u16; 1280],
-    firsts: &[u16; 257],
+    steps: &[u16; STEPS],
+    firsts: &[u16; FIRSTS],
     formula: &[u8],
-    ends: &[u8; 40],
-) -> [bool; 10240]
+    ends: &[u8; NODES],
+) -> [bool; NODE_POSITIONS]
     requires { ⌜ HoldsTable (now table) ⌝ }
     requires { ⌜ StepsOf (tableIn (now table)) (now steps) (now firsts) ⌝ }
     requires { ⌜ HoldsFormula (labels (tableIn (now table))) (now formula) ⌝ }
@@ -114,7 +120,7 @@ pub fn label_nodes(
     ensures { λ r. ⌜ NodesLabelled (now (table .entry)) (now (formula .entry)) r ⌝ }
 {
     let links = entering(table);
-    let mut flags = [false; 10240];
+    let mut flags = [false; NODE_POSITIONS];
     let mut k = node_count(formula);
     while 0 < k {
         k -= 1;

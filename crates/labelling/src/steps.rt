@@ -1,6 +1,9 @@
 // What holds at a state by the steps that leave it, idle steps included.
 use formulas::node::Condition;
 use formulas::node::Node;
+use lts::sizes::FIRSTS;
+use lts::sizes::STATES;
+use lts::sizes::STEPS;
 use tables::steps::label_of;
 use tables::steps::leaving;
 use tables::steps::state_of;
@@ -25,11 +28,11 @@ fn leads(wanted: bool, condition: Condition, label: usize, there: bool) -> bool
 
 // Whether some step from s leads to the arm under the condition; or, if that is not wanted, whether some step does not.
 pub fn some_step(
-    steps: &[u16; 1280],
-    firsts: &[u16; 257],
+    steps: &[u16; STEPS],
+    firsts: &[u16; FIRSTS],
     wanted: bool,
     condition: Condition,
-    arm: &[bool; 256],
+    arm: &[bool; STATES],
     s: usize,
 ) -> bool
     requires { ⌜ StepsFit (now steps) (now firsts) ⌝ }
@@ -52,11 +55,11 @@ pub fn some_step(
 
 // What holds at s of a node, from where its arms hold. Of an until: whether s is an end of its paths.
 pub fn at_once(
-    steps: &[u16; 1280],
-    firsts: &[u16; 257],
+    steps: &[u16; STEPS],
+    firsts: &[u16; FIRSTS],
     node: Node,
-    arm: &[bool; 256],
-    other: &[bool; 256],
+    arm: &[bool; STATES],
+    other: &[bool; STATES],
     s: usize,
 ) -> bool
     requires { ⌜ StepsFit (now steps) (now firsts) ⌝ }
@@ -75,18 +78,18 @@ pub fn at_once(
 }
 
 pub fn label_at_once(
-    steps: &[u16; 1280],
-    firsts: &[u16; 257],
+    steps: &[u16; STEPS],
+    firsts: &[u16; FIRSTS],
     node: Node,
-    arm: &[bool; 256],
-    other: &[bool; 256],
-) -> [bool; 256]
+    arm: &[bool; STATES],
+    other: &[bool; STATES],
+) -> [bool; STATES]
     requires { ⌜ StepsFit (now steps) (now firsts) ⌝ }
     ensures { λ r. ⌜ Flags (λ s. atOnce node (flagAt (now (arm .entry))) (flagAt (now (other .entry))) s (stepsIn (now (steps .entry)) (now (firsts .entry)) s)) r ⌝ }
 {
-    let mut flags = [false; 256];
+    let mut flags = [false; STATES];
     let mut s = 0;
-    while s < 256 {
+    while s < STATES {
         flags[s] = at_once(steps, firsts, node, arm, other, s);
         s += 1;
     }

@@ -5,10 +5,11 @@ use Prim.Native.Nat.{ℕ, _*_, _≤_, _<_}
 use native.Mathlib.Omega.{arith}
 use lib.ListN.{length, take, drop, replicate, length-append, length-drop}
 use lib.Seq.{length-take-le}
+use Rattle.actl.specs.Sizes.{formulaLength}
+use Rattle.explanations.specs.Sizes.{rowsLength, edgesLength, keptLength}
+use Rattle.lts.specs.Sizes.{tableLength}
 use Rattle.lts.specs.Reply.{Reply, accepted, refusal}
-use Rattle.lts.specs.Prepared.{tableLength}
 use Rattle.lts.proofs.Laws.Texts.{text-of-read}
-use Rattle.actl.specs.Prepared.{formulaLength}
 use Rattle.actl.proofs.Laws.Accepted.{reading-leaves-form}
 use Rattle.automaton.specs.Listing.{Edge, Listing}
 use Rattle.automaton.specs.Bytes.{rowLength, edgeLength}
@@ -42,7 +43,7 @@ module _ (tableText text table formula rows edges : List ℕ) (long : tableLengt
       subst (λ (L : Listing). (d : Edge) → List·Memᴰ d (L .edges) → (d .row < 65536) × (d .target < 65536)) (sym (a .is-listing))
       (small-edges (e .table) (e .formula) (text-of-read tableText (e .table) (a .read-table) .1) (formed-has-class form) (form .few))
 
-  pub few-counts : length rows ≡ 3072 → length edges ≡ 20480 → (r : ExplainReply) → explainReply r ≡ explainReplied E → Few (explainReply r)
+  pub few-counts : length rows ≡ rowsLength → length edges ≡ edgesLength → (r : ExplainReply) → explainReply r ≡ explainReplied E → Few (explainReply r)
   few-counts i j r e = subst Few (sym e) (by E refl)
     where
       by : (x : Reply Explanation) → E ≡ x → Few (explainReplied x)
@@ -59,7 +60,7 @@ module _ (tableText text table formula rows edges : List ℕ) (long : tableLengt
       by (refusal k g) d = refl
       by (accepted x) d = listing-printed x rows edges (small x d)
 
-pub files-text : (tablefile text table formula : List ℕ) (n : ℕ) → Begins tablefile table → text ≡ take 513 (withoutEnd formula) → n ≡ length (withoutEnd formula)
+pub files-text : (tablefile text table formula : List ℕ) (n : ℕ) → Begins tablefile table → text ≡ take keptLength (withoutEnd formula) → n ≡ length (withoutEnd formula)
     → printed (withLength n (explanation tablefile text (replicate (1024 * rowLength) 0) (replicate (4096 * edgeLength) 0))) ≡ explainText table formula
 unfolding explainText
 files-text tablefile text table formula n (m, h, b) t e =

@@ -9,6 +9,7 @@ use lib.Dec.{eqb}
 use borrow.Author.Tests.{eqb-true, eqb-false, eq-eqb, ne-eqb}
 use lib.ListN.{length, getD, take, drop, length-append, length-take, length-drop, drop-of-length-le}
 use lib.Seq.{take-all, take-length, take-take, take-at, take-append-add, drop-drop, length-take-le, getD-append-add}
+use Rattle.explanations.specs.Sizes.{keptLength}
 use Rattle.listing_text.specs.Files.{lastByte, ScanOf, kept}
 use Rattle.explanations.specs.Printed.{withoutEnd}
 use Rattle.listing_text.specs.declared.files.Scanned.{Scanned}
@@ -19,31 +20,31 @@ take-again zero file chunk = refl
 take-again (suc k) [] chunk = refl
 take-again (suc k) (b ∷ file) chunk = ap (λ l. b ∷ l) (take-again k file chunk)
 
-module _ (file head chunk : List ℕ) (room : length head ≡ 513) (begun : take (length file) head ≡ take 513 file) where
-  first : take 513 (take (length file) head ++ chunk) ≡ take 513 (file ++ chunk)
-  first = ap (λ l. take 513 (l ++ chunk)) begun ∙ take-again 513 file chunk
+module _ (file head chunk : List ℕ) (room : length head ≡ keptLength) (begun : take (length file) head ≡ take keptLength file) where
+  first : take keptLength (take (length file) head ++ chunk) ≡ take keptLength (file ++ chunk)
+  first = ap (λ l. take keptLength (l ++ chunk)) begun ∙ take-again keptLength file chunk
 
   abbrev all : ℕ
   all = length file + length chunk
 
-  wide : length (take 513 (file ++ chunk)) ≡ min 513 all
-  wide = length-take 513 (file ++ chunk) ∙ ap (min 513) (length-append file chunk)
+  wide : length (take keptLength (file ++ chunk)) ≡ min keptLength all
+  wide = length-take keptLength (file ++ chunk) ∙ ap (min keptLength) (length-append file chunk)
 
-  kept-is : kept head (length file) chunk ≡ take 513 (file ++ chunk) ++ drop all head
+  kept-is : kept head (length file) chunk ≡ take keptLength (file ++ chunk) ++ drop all head
   kept-is = ap (λ l. l ++ drop all head) first
 
-  kept-room : length (kept head (length file) chunk) ≡ 513
-  kept-room = ap length kept-is ∙ length-append (take 513 (file ++ chunk)) (drop all head) ∙ omega (arith, wide, length-drop all head)
+  kept-room : length (kept head (length file) chunk) ≡ keptLength
+  kept-room = ap length kept-is ∙ length-append (take keptLength (file ++ chunk)) (drop all head) ∙ omega (arith, wide, length-drop all head)
 
-  kept-begun : take (length (file ++ chunk)) (kept head (length file) chunk) ≡ take 513 (file ++ chunk)
-  kept-begun = (λ i. take (length-append file chunk i) (kept-is i)) ∙ by (decLe all 513)
+  kept-begun : take (length (file ++ chunk)) (kept head (length file) chunk) ≡ take keptLength (file ++ chunk)
+  kept-begun = (λ i. take (length-append file chunk i) (kept-is i)) ∙ by (decLe all keptLength)
     where
-      by : Dec (all ≤ 513) → take all (take 513 (file ++ chunk) ++ drop all head) ≡ take 513 (file ++ chunk)
-      by (yes h) = take-at (take 513 (file ++ chunk)) (drop all head) all (omega (arith, wide))
+      by : Dec (all ≤ keptLength) → take all (take keptLength (file ++ chunk) ++ drop all head) ≡ take keptLength (file ++ chunk)
+      by (yes h) = take-at (take keptLength (file ++ chunk)) (drop all head) all (omega (arith, wide))
       by (no h) =
           let g : length head ≤ all = omega arith in
-          take-all all (take 513 (file ++ chunk) ++ drop all head) (omega (arith, wide, length-append (take 513 (file ++ chunk)) (drop all head), length-drop all head))
-          ∙ ap (λ l. take 513 (file ++ chunk) ++ l) (drop-of-length-le head g) ∙ append-nil (take 513 (file ++ chunk))
+          take-all all (take keptLength (file ++ chunk) ++ drop all head) (omega (arith, wide, length-append (take keptLength (file ++ chunk)) (drop all head), length-drop all head))
+          ∙ ap (λ l. take keptLength (file ++ chunk) ++ l) (drop-of-length-le head g) ∙ append-nil (take keptLength (file ++ chunk))
 
 pub scanned-more : (file head chunk : List ℕ) (scanned more : Scanned) → ScanOf file head scanned → 0 < length chunk
     → more .length ≡ scanned .length + length chunk → more .last ≡ lastByte chunk
@@ -63,7 +64,7 @@ scanned-none file head [] scanned h e = subst (λ l. ScanOf l head scanned) (sym
 scanned-none file head (b ∷ chunk) scanned h e = absurd (omega arith)
 
 -- The bytes as `keep` leaves them: n of the chunk, at `at`.
-module _ (head chunk : List ℕ) (at n : ℕ) (room : length head ≡ 513) where
+module _ (head chunk : List ℕ) (at n : ℕ) (room : length head ≡ keptLength) where
   abbrev part : List ℕ
   part = take n chunk
 
@@ -71,41 +72,41 @@ module _ (head chunk : List ℕ) (at n : ℕ) (room : length head ≡ 513) where
   abbrev rest : List ℕ
   rest = take (length head - at) (drop at head)
 
-  pub kept-part : at < 513 → n ≡ min (length chunk) (513 - at)
+  pub kept-part : at < keptLength → n ≡ min (length chunk) (keptLength - at)
       → take at head ++ ((take (length part) part ++ drop (length part) rest) ++ drop (length head - at) (drop at head)) ≡ kept head at chunk
   kept-part h e =
       let short : length (drop at head) ≤ length head - at = omega (arith, length-drop at head) in
       (λ i. take at head ++ ((take-length part i ++ drop (length part) (take-all (length head - at) (drop at head) short i)) ++ drop-of-length-le (drop at head) short i))
       ∙ ap (λ l. take at head ++ l) (append-nil (part ++ drop (length part) (drop at head)))
       ∙ ap (λ l. take at head ++ (part ++ l)) (drop-drop (length part) at head)
-      ∙ by (decLe (length chunk) (513 - at))
-      ∙ sym (append-assoc (take at head) (take (513 - at) chunk) (drop (at + length chunk) head))
+      ∙ by (decLe (length chunk) (keptLength - at))
+      ∙ sym (append-assoc (take at head) (take (keptLength - at) chunk) (drop (at + length chunk) head))
       ∙ ap (λ l. l ++ drop (at + length chunk) head) (sym whole)
     where
-      whole : take 513 (take at head ++ chunk) ≡ take at head ++ take (513 - at) chunk
+      whole : take keptLength (take at head ++ chunk) ≡ take at head ++ take (keptLength - at) chunk
       whole =
-          let z : 513 ≡ length (take at head) + (513 - at) = omega (arith, length-take at head) in
-          ap (λ k. take k (take at head ++ chunk)) z ∙ take-append-add (take at head) chunk (513 - at)
+          let z : keptLength ≡ length (take at head) + (keptLength - at) = omega (arith, length-take at head) in
+          ap (λ k. take k (take at head ++ chunk)) z ∙ take-append-add (take at head) chunk (keptLength - at)
 
-      by : Dec (length chunk ≤ 513 - at)
-          → take at head ++ (part ++ drop (at + length part) head) ≡ take at head ++ (take (513 - at) chunk ++ drop (at + length chunk) head)
+      by : Dec (length chunk ≤ keptLength - at)
+          → take at head ++ (part ++ drop (at + length part) head) ≡ take at head ++ (take (keptLength - at) chunk ++ drop (at + length chunk) head)
       by (yes g) =
           let i : part ≡ chunk = take-all n chunk (omega arith) in
-          let j : take (513 - at) chunk ≡ chunk = take-all (513 - at) chunk g in
+          let j : take (keptLength - at) chunk ≡ chunk = take-all (keptLength - at) chunk g in
           cc
       by (no g) =
-          let i : n ≡ 513 - at = omega arith in
+          let i : n ≡ keptLength - at = omega arith in
           let a : length head ≤ at + length part = omega (arith, length-take n chunk) in
           let b : length head ≤ at + length chunk = omega arith in
           let j : drop (at + length part) head ≡ [] = drop-of-length-le head a in
           let k : drop (at + length chunk) head ≡ [] = drop-of-length-le head b in
           cc
 
-  pub kept-whole : 513 ≤ at → head ≡ kept head at chunk
+  pub kept-whole : keptLength ≤ at → head ≡ kept head at chunk
   kept-whole h =
       let a : length head ≤ at + length chunk = omega arith in
-      sym (ap (λ l. take 513 (l ++ chunk) ++ drop (at + length chunk) head) (take-all at head (omega arith))
-      ∙ ap (λ l. l ++ drop (at + length chunk) head) (take-at head chunk 513 room)
+      sym (ap (λ l. take keptLength (l ++ chunk) ++ drop (at + length chunk) head) (take-all at head (omega arith))
+      ∙ ap (λ l. l ++ drop (at + length chunk) head) (take-at head chunk keptLength room)
       ∙ ap (λ l. head ++ l) (drop-of-length-le head a)
       ∙ append-nil head)
 
@@ -149,17 +150,17 @@ empty-length [] e = refl
 empty-length (b ∷ file) e = absurd (omega arith)
 
 -- The first 513 bytes of the text stand at the start of `head`.
-pub scanned-text : (file head : List ℕ) (scanned : Scanned) → ScanOf file head scanned → (n : ℕ) → n ≡ min (length (withoutEnd file)) 513 → take n head ≡ take 513 (withoutEnd file)
+pub scanned-text : (file head : List ℕ) (scanned : Scanned) → ScanOf file head scanned → (n : ℕ) → n ≡ min (length (withoutEnd file)) keptLength → take n head ≡ take keptLength (withoutEnd file)
 scanned-text file head scanned h n e =
     let begins = text-begins file in
     let short : length (withoutEnd file) ≤ length file = omega (arith, ap length begins, length-take (length (withoutEnd file)) file) in
     sym (take-take n (length file) head (omega arith))
     ∙ ap (take n) (h .begun)
-    ∙ take-take n 513 file (omega arith)
-    ∙ sym (ap (take 513) begins ∙ by (decLe (length (withoutEnd file)) 513))
+    ∙ take-take n keptLength file (omega arith)
+    ∙ sym (ap (take keptLength) begins ∙ by (decLe (length (withoutEnd file)) keptLength))
   where
-    by : Dec (length (withoutEnd file) ≤ 513) → take 513 (take (length (withoutEnd file)) file) ≡ take n file
+    by : Dec (length (withoutEnd file) ≤ keptLength) → take keptLength (take (length (withoutEnd file)) file) ≡ take n file
     by (yes g) =
-        take-all 513 (take (length (withoutEnd file)) file) (omega (arith, length-take (length (withoutEnd file)) file))
+        take-all keptLength (take (length (withoutEnd file)) file) (omega (arith, length-take (length (withoutEnd file)) file))
         ∙ ap (λ k. take k file) (let z : length (withoutEnd file) ≡ n = omega arith in z)
-    by (no g) = take-take 513 (length (withoutEnd file)) file (omega arith) ∙ ap (λ k. take k file) (let z : 513 ≡ n = omega arith in z)
+    by (no g) = take-take keptLength (length (withoutEnd file)) file (omega arith) ∙ ap (λ k. take k file) (let z : keptLength ≡ n = omega arith in z)

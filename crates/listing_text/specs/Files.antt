@@ -5,6 +5,8 @@ use mathlib.Core.List.{List, _++_}
 use Prim.Native.Nat.{ℕ, _+_, _-_, _≤_}
 use lib.Dec.{eqb}
 use lib.ListN.{length, getD, take, drop}
+use Rattle.explanations.specs.Sizes.{keptLength}
+use Rattle.lts.specs.Sizes.{enoughTableText}
 use Rattle.lts.specs.Reply.{Reply, accepted, refusal}
 use Rattle.explanations.specs.Explanation.{Summary}
 use Rattle.explanations.specs.Printed.{listingText, refusalLine}
@@ -12,7 +14,7 @@ use Rattle.listing_text.specs.declared.files.Scanned.{Scanned}
 
 -- The beginning of a table file: all of it, or at least 20,282 bytes, which get the same answer as all.
 abbrev pub Begins : List ℕ → List ℕ → Type 0
-Begins part file = (n : ℕ) × (20282 ≤ n) × (part ≡ take n file)
+Begins part file = (n : ℕ) × (enoughTableText ≤ n) × (part ≡ take n file)
 
 -- The last byte; 0 if there is none.
 abbrev pub lastByte : List ℕ → ℕ
@@ -22,12 +24,12 @@ lastByte file = getD file (length file - 1) 0
 pub record ScanOf (file head : List ℕ) (scanned : Scanned) : Type 0 where
   pub counted : scanned .length ≡ length file
   pub ends : scanned .last ≡ lastByte file
-  pub begun : take (length file) head ≡ take 513 file
-  pub room : length head ≡ 513
+  pub begun : take (length file) head ≡ take keptLength file
+  pub room : length head ≡ keptLength
 
 -- The first 513 bytes once a chunk came behind `at` bytes: what `head` held of them, then the chunk.
 abbrev pub kept : List ℕ → ℕ → List ℕ → List ℕ
-kept head at chunk = take 513 (take at head ++ chunk) ++ drop (at + length chunk) head
+kept head at chunk = take keptLength (take at head ++ chunk) ++ drop (at + length chunk) head
 
 -- The text of a reply about a formula of `n` bytes, by the bytes in the lent places. 01: "formula over 512 bytes": 5, "its length"
 abbrev pub replyText : Reply Summary → ℕ → List ℕ → List ℕ → List ℕ

@@ -1,9 +1,16 @@
 // What the program `explain` writes for its two files. They may be of any length: of the table 20,282 bytes are enough, of the formula
 // its first 513 bytes, its length and its last byte.
+use actl::sizes::FORMULA_LENGTH;
+use explanations::sizes::EDGES_LENGTH;
+use explanations::sizes::KEPT;
+use explanations::sizes::ROWS_LENGTH;
+use explanations::sizes::TEXT_LENGTH;
+use lts::sizes::TABLE_LENGTH;
 ghost use mathlib.Core.Path.{_≡_};
 ghost use mathlib.Core.List.{List, [], _++_};
 ghost use Prim.Native.Nat.{ℕ, _+_, _^_, _<_, min};
 ghost use lib.ListN.{length};
+ghost use Rattle.explanations.specs.Sizes.{keptLength};
 ghost use Rattle.explainer.specs.Replies.{explainReply};
 ghost use Rattle.listing_text.specs.Files.{Begins, ScanOf, kept, replyText, Few, PrefixLength};
 ghost use Rattle.explanations.specs.Printed.{withoutEnd, explainText, TextWritten};
@@ -21,7 +28,7 @@ pub struct Scanned {
 
 // Before the first byte.
 pub fn scan_start() -> Scanned
-    ensures { λ r. ⌜ ((head : List ℕ) → length head ≡ 513 → ScanOf [] head r) ⌝ }
+    ensures { λ r. ⌜ ((head : List ℕ) → length head ≡ keptLength → ScanOf [] head r) ⌝ }
 {
     Scanned { length: 0, last: 0 }
 }
@@ -34,11 +41,11 @@ fn least(a: usize, b: usize) -> usize
 
 // Puts the bytes of a chunk that belong to the first 513 into `head`, if `at` bytes came before.
 fn keep(chunk: &[u8], head: &mut [u8], at: usize)
-    requires { ⌜ length (now head) ≡ 513 ⌝ }
+    requires { ⌜ length (now head) ≡ keptLength ⌝ }
     ensures { λ _. ⌜ now (head .exit) ≡ kept (now (head .entry)) at (now (chunk .entry)) ⌝ }
 {
-    if at < 513 {
-        let n = least(chunk.len(), 513 - at);
+    if at < KEPT {
+        let n = least(chunk.len(), KEPT - at);
         copy(&chunk[..n], &mut head[at..]);
     }
 }
@@ -55,7 +62,7 @@ fn add(a: usize, b: usize) -> usize
 }
 
 // Takes in the next chunk of the formula file.
-pub fn scan_chunk(chunk: &[u8], head: &mut [u8; 513], scanned: Scanned) -> Scanned
+pub fn scan_chunk(chunk: &[u8], head: &mut [u8; KEPT], scanned: Scanned) -> Scanned
     ensures { λ r. ⌜ ((file : List ℕ) → ScanOf file (now (head .entry)) scanned → length file + length (now (chunk .entry)) < 2 ^ 64 → ScanOf (file ++ now (chunk .entry)) (now (head .exit)) r) ⌝ }
 {
     let n = chunk.len();
@@ -86,9 +93,9 @@ fn text_length(scanned: Scanned) -> usize
 fn write_reply(
     reply: ExplainReply,
     length: usize,
-    rows: &[u8; 3072],
-    edges: &[u8; 20480],
-    out: &mut [u8; 103586],
+    rows: &[u8; ROWS_LENGTH],
+    edges: &[u8; EDGES_LENGTH],
+    out: &mut [u8; TEXT_LENGTH],
 ) -> usize
     requires { ⌜ Few (explainReply reply) ⌝ }
     ensures { λ r. ⌜ TextWritten (replyText (explainReply reply) length (now (rows .entry)) (now (edges .entry))) (now (out .entry)) (now (out .exit)) r ⌝ }
@@ -117,19 +124,19 @@ fn write_reply(
 // Writes what the program writes at the start of `out`, and answers its length.
 pub fn explain_files(
     tablefile: &[u8],
-    head: &[u8; 513],
+    head: &[u8; KEPT],
     scanned: Scanned,
-    out: &mut [u8; 103586],
+    out: &mut [u8; TEXT_LENGTH],
 ) -> usize
     ensures { λ r. ⌜ ((table formula : List ℕ) → Begins (now (tablefile .entry)) table → ScanOf formula (now (head .entry)) scanned → TextWritten (explainText table formula) (now (out .entry)) (now (out .exit)) r) ⌝ }
     ensures { λ r. ⌜ PrefixLength r (now (out .exit)) ⌝ }
 {
-    let mut table = [0u8; 3718];
-    let mut formula = [0u8; 681];
-    let mut rows = [0u8; 3072];
-    let mut edges = [0u8; 20480];
+    let mut table = [0u8; TABLE_LENGTH];
+    let mut formula = [0u8; FORMULA_LENGTH];
+    let mut rows = [0u8; ROWS_LENGTH];
+    let mut edges = [0u8; EDGES_LENGTH];
     let length = text_length(scanned);
-    let n = least(length, 513);
+    let n = least(length, KEPT);
     let whole = &head[..];
     let reply = explain(
         tablefile,

@@ -1,4 +1,6 @@
 // The listing as text, by the bytes of rows and edges.
+use automaton::sizes::EDGE_LENGTH;
+use automaton::sizes::ROW_LENGTH;
 ghost use mathlib.Core.Path.{_≡_};
 ghost use Prim.Native.Nat.{_+_, _*_, _≤_, _<_};
 ghost use lib.ListN.{length, getD};
@@ -19,9 +21,9 @@ fn write_row(rows: &[u8], i: usize, out: &mut [u8], at: usize) -> usize
 {
     let values = [
         i as u64,
-        wide(rows[i * 3]),
-        wide(rows[i * 3 + 1]),
-        wide(rows[i * 3 + 2]),
+        wide(rows[i * ROW_LENGTH]),
+        wide(rows[i * ROW_LENGTH + 1]),
+        wide(rows[i * ROW_LENGTH + 2]),
     ];
     write_numbers(values, 4, out, at)
 }
@@ -40,9 +42,9 @@ fn write_edge(edges: &[u8], j: usize, out: &mut [u8], at: usize) -> usize
     ensures { λ _. ⌜ now (out .exit) ≡ pasted (now (out .entry)) at (edgeText (now (edges .entry)) j) ⌝ }
 {
     let values = [
-        pair(edges, j * 5),
-        wide(edges[j * 5 + 2]),
-        pair(edges, j * 5 + 3),
+        pair(edges, j * EDGE_LENGTH),
+        wide(edges[j * EDGE_LENGTH + 2]),
+        pair(edges, j * EDGE_LENGTH + 3),
         0,
     ];
     write_numbers(values, 3, out, at)

@@ -5,13 +5,14 @@ use mathlib.Core.Option.{some}
 use Prim.Native.Nat.{ℕ}
 use Prim.Native.String.{String}
 use lib.ListN.{length, take}
+use Rattle.lts.specs.Sizes.{tableLength}
 use Rattle.columns.specs.Ascii.{ascii}
 use Rattle.columns.specs.Columns.{column, digitsWithin}
 use Rattle.lts.specs.Reply.{accepted, refusal}
 use Rattle.lts.specs.Steps.{Step, Table, silent, stepsFrom, idleAt}
 use Rattle.lts.specs.Text.{tableText, ended}
 use Rattle.lts.specs.Reading.{readTable, readLabels, readTransitions}
-use Rattle.lts.specs.Prepared.{tableBytes, tableLength, tableIn, preparedTable}
+use Rattle.lts.specs.Prepared.{tableBytes, tableIn, preparedTable}
 
 abbrev pub step : ℕ → ℕ → ℕ → Step
 step s a t = record { from = s; label = a; to = t }

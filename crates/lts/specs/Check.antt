@@ -4,10 +4,11 @@ use mathlib.Core.Bool.{true}
 use mathlib.Core.List.{List}
 use Prim.Native.Nat.{ℕ, suc, _+_, _*_, _≤_, _<_}
 use lib.ListN.{length}
+use Rattle.lts.specs.Sizes.{transitionsAt, tableLength}
 use Rattle.lts.specs.Names.{isName}
 use Rattle.lts.specs.Steps.{Table, labels}
 use Rattle.lts.specs.Range.{Below, Differ}
-use Rattle.lts.specs.Prepared.{tableLength, byteAt, nameAt, transitionAt, tableIn}
+use Rattle.lts.specs.Prepared.{byteAt, nameAt, transitionAt, tableIn}
 
 -- Bytes from i to before j that are all zero.
 abbrev pub ZerosFrom : List ℕ → ℕ → ℕ → Type 0
@@ -47,6 +48,6 @@ pub record WellFormed (b : List ℕ) : Type 0 where
   pub long : tableLength ≤ length b
   pub counts : CountsHeld (tableIn b)
   pub names : NamesHeld b
-  pub past-names : ZerosFrom b (6 + labels (tableIn b) * 16) 646
+  pub past-names : ZerosFrom b (6 + labels (tableIn b) * 16) transitionsAt
   pub transitions : TransitionsHeld b
-  pub past-transitions : ZerosFrom b (646 + length (tableIn b .transitions) * 3) tableLength
+  pub past-transitions : ZerosFrom b (transitionsAt + length (tableIn b .transitions) * 3) tableLength

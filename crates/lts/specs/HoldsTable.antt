@@ -2,8 +2,9 @@
 use mathlib.Core.List.{List}
 use Prim.Native.Nat.{ℕ, _≤_}
 use lib.ListN.{length}
+use Rattle.lts.specs.Sizes.{tableLength}
 use Rattle.lts.specs.Range.{InRange}
-use Rattle.lts.specs.Prepared.{tableLength, tableIn}
+use Rattle.lts.specs.Prepared.{tableIn}
 
 -- Bytes in which a table stands that is in range: those that a reading leaves, whatever stands in slots that are not used.
 pub record HoldsTable (b : List ℕ) : Type 0 where

@@ -12,3 +12,4 @@ pub mod Slots
 pub mod Steps
 pub mod TableReading
 pub mod Text
+pub mod Sizes

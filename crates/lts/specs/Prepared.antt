@@ -5,15 +5,13 @@ use mathlib.Core.List.{List, [], _∷_, _++_, map}
 use mathlib.Core.Option.{Option, none, some}
 use Prim.Native.Nat.{ℕ, zero, suc, _+_, _*_}
 use lib.ListN.{length, getD, take, drop}
+use Rattle.lts.specs.Sizes.{namesLength, transitionsAt, transitionsLength, tableLength}
 use Rattle.columns.specs.Bytes.{sameBytes, padded, lowFirst}
 use Rattle.lts.specs.Lists.{upFrom, bind}
 use Rattle.lts.specs.Steps.{Step, Table, labels}
 use Rattle.lts.specs.Text.{tableText}
 use Rattle.lts.specs.Reply.{Reply, accepted, refusal}
 use Rattle.lts.specs.Reading.{readTable}
-
-abbrev pub tableLength : ℕ
-tableLength = 3718
 
 -- A name: its length, its bytes, zeros.
 abbrev pub nameSlot : List ℕ → List ℕ
@@ -23,10 +21,10 @@ abbrev pub transitionSlot : Step → List ℕ
 transitionSlot st = st .from ∷ st .label ∷ st .to ∷ []
 
 abbrev pub nameSlots : Table → List ℕ
-nameSlots t = padded 640 (bind nameSlot (t .names))
+nameSlots t = padded namesLength (bind nameSlot (t .names))
 
 abbrev pub transitionSlots : Table → List ℕ
-transitionSlots t = padded 3072 (bind transitionSlot (t .transitions))
+transitionSlots t = padded transitionsLength (bind transitionSlot (t .transitions))
 
 unfoldable pub tableBytes : Table → List ℕ
 tableBytes t =
@@ -40,7 +38,7 @@ abbrev pub nameAt : List ℕ → ℕ → List ℕ
 nameAt b k = take (byteAt b (6 + k * 16)) (drop (7 + k * 16) b)
 
 abbrev pub transitionAt : List ℕ → ℕ → Step
-transitionAt b k = record { from = byteAt b (646 + k * 3); label = byteAt b (647 + k * 3); to = byteAt b (648 + k * 3) }
+transitionAt b k = record { from = byteAt b (transitionsAt + k * 3); label = byteAt b ((transitionsAt + 1) + k * 3); to = byteAt b ((transitionsAt + 2) + k * 3) }
 
 unfoldable pub tableIn : List ℕ → Table
 tableIn b = record {

@@ -3,6 +3,7 @@ use mathlib.Core.Bool.{Bool, true}
 use mathlib.Core.List.{List, [], _∷_, _++_, map}
 use Prim.Native.Nat.{ℕ, zero, suc, _+_, _*_}
 use lib.ListN.{length, getD, take, drop}
+use Rattle.lts.specs.Sizes.{namesLength, transitionsLength}
 use Rattle.columns.specs.Bytes.{padded, lowFirst}
 use Rattle.lts.specs.Lists.{upFrom, bind}
 use Rattle.lts.specs.Steps.{Step}
@@ -28,10 +29,10 @@ risesAfter b zero st = true
 risesAfter b (suc k) st = stepBelow (storedStep b k) st
 
 abbrev pub nameBytes : List (List ℕ) → List ℕ
-nameBytes names = padded 640 (bind nameSlot names)
+nameBytes names = padded namesLength (bind nameSlot names)
 
 abbrev pub stepBytes : List Step → List ℕ
-stepBytes steps = padded 3072 (bind transitionSlot steps)
+stepBytes steps = padded transitionsLength (bind transitionSlot steps)
 
 -- The first six bytes of a prepared table.
 abbrev pub headBytes : Header → List ℕ

@@ -1,4 +1,14 @@
 // Whether bytes are a prepared table: the counts, each name's slot, each transition's slot, and zeros in the slots that are not used.
+use lts::sizes::HEAD;
+use lts::sizes::LABELS;
+use lts::sizes::NAME_BYTES_AT;
+use lts::sizes::NAME_SLOT;
+use lts::sizes::NAME_SLOT_END;
+use lts::sizes::STATES;
+use lts::sizes::TABLE_LENGTH;
+use lts::sizes::TRANSITION;
+use lts::sizes::TRANSITIONS;
+use lts::sizes::TRANSITIONS_AT;
 use tables::names::Lookup;
 use tables::names::find;
 use tables::names::name_end;
@@ -12,16 +22,17 @@ use tables::prepared::transition_count;
 ghost use mathlib.Core.Path.{_≡_};
 ghost use Prim.Native.Nat.{_+_, _*_, _≤_, _<_};
 ghost use lib.ListN.{length};
+ghost use Rattle.lts.specs.Sizes.{tableLength};
 ghost use Rattle.lts.specs.Steps.{labels};
 ghost use Rattle.lts.specs.Names.{longestName};
-ghost use Rattle.lts.specs.Prepared.{tableLength, tableIn, byteAt, preparedTable};
+ghost use Rattle.lts.specs.Prepared.{tableIn, byteAt, preparedTable};
 ghost use Rattle.lts.specs.Answers.{Decides, isSome};
 ghost use Rattle.lts.specs.Check.{ZerosFrom, CountsHeld, NameHeld, NewName, NamesHeld, TransitionHeld, TransitionsHeld};
 
 pub fn is_prepared(table: &[u8]) -> bool
     ensures { λ r. ⌜ r ≡ isSome (preparedTable (now (table .entry))) ⌝ }
 {
-    if table.len() < 3718 {
+    if table.len() < TABLE_LENGTH {
         return false;
     }
     if !counts_held(table) {
@@ -30,13 +41,17 @@ pub fn is_prepared(table: &[u8]) -> bool
     if !names_held(table) {
         return false;
     }
-    if !zeros(table, 6 + label_count(table) * 16, 646) {
+    if !zeros(table, HEAD + label_count(table) * NAME_SLOT, TRANSITIONS_AT) {
         return false;
     }
     if !transitions_held(table) {
         return false;
     }
-    zeros(table, 646 + transition_count(table) * 3, 3718)
+    zeros(
+        table,
+        TRANSITIONS_AT + transition_count(table) * TRANSITION,
+        TABLE_LENGTH,
+    )
 }
 
 // Whether the bytes from `from` to before `to` are zero: they are taken together and tested once.
@@ -61,13 +76,13 @@ fn counts_held(table: &[u8]) -> bool
     if states < 1 {
         return false;
     }
-    if 256 < states {
+    if STATES < states {
         return false;
     }
-    if 40 < label_count(table) {
+    if LABELS < label_count(table) {
         return false;
     }
-    if 1024 < transition_count(table) {
+    if TRANSITIONS < transition_count(table) {
         return false;
     }
     if states <= start_state(table) {
@@ -98,24 +113,24 @@ fn name_held(table: &[u8], k: usize) -> bool
     requires { ⌜ (tableLength ≤ length (now table)) × (k < 40) ⌝ }
     ensures { λ r. ⌜ Decides (NameHeld (now (table .entry)) k) r ⌝ }
 {
-    let at = 7 + k * 16;
+    let at = NAME_BYTES_AT + k * NAME_SLOT;
     let end = name_end(table, at);
     if end == at {
         return false;
     }
-    if end != at + byte(table, 6 + k * 16) {
+    if end != at + byte(table, HEAD + k * NAME_SLOT) {
         return false;
     }
-    zeros(table, end, 22 + k * 16)
+    zeros(table, end, NAME_SLOT_END + k * NAME_SLOT)
 }
 
 fn new_name(table: &[u8], k: usize) -> bool
     requires { ⌜ (tableLength ≤ length (now table)) × ((k < 40) × (byteAt (now table) (6 + k * 16) ≤ longestName)) ⌝ }
     ensures { λ r. ⌜ Decides (NewName (now (table .entry)) k) r ⌝ }
 {
-    let at = 7 + k * 16;
-    let end = at + byte(table, 6 + k * 16);
-    let before = find(&table[6..646], k, &table[at..end]);
+    let at = NAME_BYTES_AT + k * NAME_SLOT;
+    let end = at + byte(table, HEAD + k * NAME_SLOT);
+    let before = find(&table[HEAD..TRANSITIONS_AT], k, &table[at..end]);
     match before {
         Lookup::At(_) => false,
         Lookup::Nowhere => true,

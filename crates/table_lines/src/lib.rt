@@ -1,4 +1,7 @@
 // The lines of a table's text: what each says, where the next one starts, and whether its numbers are in range.
+use lts::sizes::LABELS;
+use lts::sizes::STATES;
+use lts::sizes::TRANSITIONS;
 ghost use mathlib.Core.Path.{_≡_};
 ghost use Prim.Native.Nat.{_+_, _<_, _≤_};
 ghost use lib.Dec.{eqb};
@@ -125,13 +128,13 @@ pub fn header_in_range(c: HeaderFields) -> bool
     if c.states < 1 {
         return false;
     }
-    if 256 < c.states {
+    if STATES < c.states {
         return false;
     }
-    if 40 < c.labels {
+    if LABELS < c.labels {
         return false;
     }
-    if 1024 < c.transitions {
+    if TRANSITIONS < c.transitions {
         return false;
     }
     c.start < c.states

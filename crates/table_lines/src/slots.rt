@@ -1,7 +1,10 @@
 // The slots that reading fills, laid out as in the prepared table: names, transitions, and whether a transition rises.
+use lts::sizes::NAME_SLOT;
+use lts::sizes::TRANSITION;
 ghost use mathlib.Core.Path.{_≡_};
 ghost use Prim.Native.Nat.{_+_, _*_, _<_, _≤_};
 ghost use lib.ListN.{length};
+ghost use Rattle.lts.specs.Sizes.{transitionsLength};
 ghost use Rattle.columns.specs.Write.{pasted};
 ghost use Rattle.lts.specs.Names.{longestName};
 ghost use Rattle.lts.specs.Prepared.{transitionSlot};
@@ -12,7 +15,7 @@ use tables::prepared::below;
 
 // Whether a transition is above the last of the first `count` in the transition slots.
 pub fn rises(slots: &[u8], count: usize, t: Transition) -> bool
-    requires { ⌜ (length (now slots) ≡ 3072) × (count ≤ 1024) ⌝ }
+    requires { ⌜ (length (now slots) ≡ transitionsLength) × (count ≤ 1024) ⌝ }
     ensures { λ r. ⌜ r ≡ risesAfter (now (slots .entry)) count (stepIn t) ⌝ }
 {
     if count == 0 {
@@ -42,7 +45,7 @@ pub fn write_transition(slots: &mut [u8], count: usize, t: Transition)
     requires { ⌜ (count * 3 + 3 ≤ length (now slots)) × ((t .from < 256) × ((t .label < 256) × (t .to < 256))) ⌝ }
     ensures { λ _. ⌜ now (slots .exit) ≡ pasted (now (slots .entry)) (count * 3) (transitionSlot (stepIn t)) ⌝ }
 {
-    let i = count * 3;
+    let i = count * TRANSITION;
     slots[i] = t.from as u8;
     slots[i + 1] = t.label as u8;
     slots[i + 2] = t.to as u8;
@@ -52,7 +55,7 @@ pub fn write_name(names: &mut [u8], count: usize, name: &[u8])
     requires { ⌜ (count * 16 + 16 ≤ length (now names)) × (length (now name) ≤ longestName) ⌝ }
     ensures { λ _. ⌜ now (names .exit) ≡ pasted (now (names .entry)) (count * 16) (counted (now (name .entry))) ⌝ }
 {
-    let i = count * 16;
+    let i = count * NAME_SLOT;
     names[i] = name.len() as u8;
     write_at(names, i + 1, name);
 }

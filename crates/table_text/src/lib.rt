@@ -1,8 +1,14 @@
 // Reading a table's text, line by line. Names and transitions are gathered in local bytes, laid out as in the prepared table, so that
 // the lent bytes are written only when the whole text is accepted.
+use lts::sizes::HEAD;
+use lts::sizes::NAMES_LENGTH;
+use lts::sizes::TABLE_LENGTH;
+use lts::sizes::TRANSITIONS_AT;
+use lts::sizes::TRANSITIONS_LENGTH;
 ghost use mathlib.Core.Path.{_≡_};
 ghost use Prim.Native.Nat.{_+_, _<_, _≤_};
 ghost use lib.ListN.{length, replicate};
+ghost use Rattle.lts.specs.Sizes.{namesLength, transitionsLength, tableLength};
 ghost use Rattle.table_text.specs.Replies.{tableReply};
 ghost use Rattle.lts.specs.TableReading.{tableReplied, tableLeft};
 ghost use Rattle.lts.specs.Slots.{headBytes};
@@ -44,7 +50,7 @@ pub enum Progress {
 
 // The line of the label after `count` names.
 fn read_label(text: &[u8], at: usize, names: &mut [u8], count: usize) -> Progress
-    requires { ⌜ (at ≤ length (now text)) × ((length (now names) ≡ 640) × (count < 40)) ⌝ }
+    requires { ⌜ (at ≤ length (now text)) × ((length (now names) ≡ namesLength) × (count < 40)) ⌝ }
     ensures { λ r. ⌜ LabelProgress (now (text .entry)) at count (now (names .entry)) (now (names .exit)) r ⌝ }
 {
     let line = count + 2;
@@ -65,7 +71,7 @@ fn read_label(text: &[u8], at: usize, names: &mut [u8], count: usize) -> Progres
 
 // The lines of all labels, from `from`.
 fn read_labels(text: &[u8], from: usize, counts: HeaderFields, names: &mut [u8]) -> Progress
-    requires { ⌜ (from ≤ length (now text)) × ((now names ≡ replicate 640 0) × (counts .labels ≤ 40)) ⌝ }
+    requires { ⌜ (from ≤ length (now text)) × ((now names ≡ replicate namesLength 0) × (counts .labels ≤ 40)) ⌝ }
     ensures { λ r. ⌜ LabelsRead (header counts) (now (text .entry)) from (now (names .exit)) r ⌝ }
 {
     let mut at = from;
@@ -89,7 +95,7 @@ fn read_transition(
     slots: &mut [u8],
     count: usize,
 ) -> Progress
-    requires { ⌜ (at ≤ length (now text)) × ((length (now slots) ≡ 3072) × (count < 1024)) ⌝ }
+    requires { ⌜ (at ≤ length (now text)) × ((length (now slots) ≡ transitionsLength) × (count < 1024)) ⌝ }
     requires { ⌜ (counts .states ≤ 256) × (counts .labels ≤ 40) ⌝ }
     ensures { λ r. ⌜ TransitionProgress (header counts) (now (text .entry)) at count (now (slots .entry)) (now (slots .exit)) r ⌝ }
 {
@@ -109,7 +115,7 @@ fn read_transition(
 
 // The lines of all transitions, from `from`, and the end of the text.
 fn read_transitions(text: &[u8], from: usize, counts: HeaderFields, slots: &mut [u8]) -> Progress
-    requires { ⌜ (from ≤ length (now text)) × (now slots ≡ replicate 3072 0) ⌝ }
+    requires { ⌜ (from ≤ length (now text)) × (now slots ≡ replicate transitionsLength 0) ⌝ }
     requires { ⌜ (counts .states ≤ 256) × ((counts .labels ≤ 40) × (counts .transitions ≤ 1024)) ⌝ }
     ensures { λ r. ⌜ TransitionsRead (header counts) (now (text .entry)) from (now (slots .exit)) r ⌝ }
 {
@@ -130,11 +136,11 @@ fn read_transitions(text: &[u8], from: usize, counts: HeaderFields, slots: &mut 
 }
 
 fn write_table(table: &mut [u8], counts: HeaderFields, names: &[u8], slots: &[u8])
-    requires { ⌜ (3718 ≤ length (now table)) × ((length (now names) ≡ 640) × (length (now slots) ≡ 3072)) ⌝ }
+    requires { ⌜ (tableLength ≤ length (now table)) × ((length (now names) ≡ namesLength) × (length (now slots) ≡ transitionsLength)) ⌝ }
     requires { ⌜ (counts .states ≤ 256) × ((counts .labels ≤ 40) × ((counts .transitions ≤ 1024) × (counts .start < 256))) ⌝ }
     ensures { λ _. ⌜ now (table .exit) ≡ overwritten (headBytes (header counts) ++ (now (names .entry) ++ now (slots .entry))) (now (table .entry)) ⌝ }
 {
-    let mut head = [0u8; 6];
+    let mut head = [0u8; HEAD];
     head[0] = (counts.states % 256) as u8;
     head[1] = (counts.states / 256 % 256) as u8;
     head[2] = counts.labels as u8;
@@ -142,8 +148,8 @@ fn write_table(table: &mut [u8], counts: HeaderFields, names: &[u8], slots: &[u8
     head[4] = (counts.transitions / 256 % 256) as u8;
     head[5] = counts.start as u8;
     write_at(table, 0, &head);
-    write_at(table, 6, names);
-    write_at(table, 646, slots);
+    write_at(table, HEAD, names);
+    write_at(table, TRANSITIONS_AT, slots);
 }
 
 // Reads a table's text into the prepared bytes.
@@ -151,8 +157,8 @@ pub fn read_table(text: &[u8], table: &mut [u8]) -> TableReply
     ensures { λ r. ⌜ tableReply r ≡ tableReplied (now (text .entry)) (now (table .entry)) ⌝ }
     ensures { λ _. ⌜ now (table .exit) ≡ tableLeft (now (text .entry)) (now (table .entry)) ⌝ }
 {
-    if table.len() < 3718 {
-        return TableReply::BufferShort(3718);
+    if table.len() < TABLE_LENGTH {
+        return TableReply::BufferShort(TABLE_LENGTH);
     }
     let HeaderLine::Header(counts) = header_line(text) else {
         return TableReply::NotLaidOut(1);
@@ -160,12 +166,12 @@ pub fn read_table(text: &[u8], table: &mut [u8]) -> TableReply
     if !header_in_range(counts) {
         return TableReply::OutOfRange(1);
     }
-    let mut names = [0u8; 640];
+    let mut names = [0u8; NAMES_LENGTH];
     let labels_read = read_labels(text, 25, counts, &mut names);
     match labels_read {
         Progress::Refused(reply) => reply,
         Progress::Next(at) => {
-            let mut slots = [0u8; 3072];
+            let mut slots = [0u8; TRANSITIONS_LENGTH];
             let transitions_read = read_transitions(text, at, counts, &mut slots);
             match transitions_read {
                 Progress::Refused(reply) => reply,

@@ -5,6 +5,7 @@ use mathlib.Core.List.{List, [], _∷_, _++_, map}
 use Prim.Native.Nat.{ℕ, suc, _+_, _-_, _*_, _/_, _%_, _≤_, _<_}
 use lib.Dec.{ltb}
 use lib.ListN.{length, getD, take}
+use Rattle.lts.specs.Sizes.{mostSteps}
 use Rattle.lts.specs.Lists.{upFrom}
 use Rattle.lts.specs.Steps.{Step, Table, stepsFrom}
 use Rattle.tables.specs.declared.steps.Span.{Span}
@@ -30,7 +31,7 @@ stepsIn steps firsts s = stepsBetween steps s (spanOf firsts s .from) (spanOf fi
 -- Spans in the array, of steps that have a label which masks hold.
 pub record StepsFit (steps firsts : List ℕ) : Type 0 where
   pub ordered : (s : ℕ) → s < 256 → spanOf firsts s .from ≤ spanOf firsts s .to
-  pub few : (s : ℕ) → s < 256 → spanOf firsts s .to ≤ 1280
+  pub few : (s : ℕ) → s < 256 → spanOf firsts s .to ≤ mostSteps
   pub labelled : (s j : ℕ) → s < 256 → spanOf firsts s .from ≤ j → j < spanOf firsts s .to → stepAt steps s j .label ≤ 40
 
 -- The arrays of a table: those that stand there for s are the steps that leave s, in the table's order.

@@ -1,13 +1,17 @@
 // Names of labels: where a name ends in a text, whether two are equal, and where one stands in slots of names. A slot has 16 bytes:
 // the name's length, its bytes, zeros. Nothing else knows the bytes of a name or how names are compared.
 use crate::prepared::label_count;
+use lts::sizes::HEAD;
+use lts::sizes::NAME_SLOT;
+use lts::sizes::TRANSITIONS_AT;
 ghost use mathlib.Core.Path.{_≡_};
 ghost use Prim.Native.Nat.{_+_, _*_, _≤_};
 ghost use lib.ListN.{length};
+ghost use Rattle.lts.specs.Sizes.{tableLength};
 ghost use Rattle.columns.specs.Bytes.{sameBytes};
 ghost use Rattle.lts.specs.Steps.{labels};
 ghost use Rattle.lts.specs.Names.{longestName, isLower, isNameByte, nameEnd, lookup};
-ghost use Rattle.lts.specs.Prepared.{tableLength, tableIn};
+ghost use Rattle.lts.specs.Prepared.{tableIn};
 ghost use Rattle.lts.specs.Slots.{storedName, storedNames};
 ghost use Rattle.tables.specs.Access.{foundIn};
 
@@ -64,10 +68,10 @@ fn same_name(slots: &[u8], k: usize, name: &[u8]) -> bool
     requires { ⌜ (k * 16 + 16 ≤ length (now slots)) × (length (now name) ≤ longestName) ⌝ }
     ensures { λ r. ⌜ r ≡ sameBytes (storedName (now (slots .entry)) k) (now (name .entry)) ⌝ }
 {
-    if slots[k * 16] as usize != name.len() {
+    if slots[k * NAME_SLOT] as usize != name.len() {
         return false;
     }
-    let at = k * 16 + 1;
+    let at = k * NAME_SLOT + 1;
     let mut i: usize = 0;
     while i < name.len() {
         if slots[at + i] != name[i] {
@@ -99,5 +103,5 @@ pub fn find_label(table: &[u8], name: &[u8]) -> Lookup
     ensures { λ r. ⌜ foundIn r ≡ lookup (tableIn (now (table .entry)) .names) (now (name .entry)) ⌝ }
 {
     let count = label_count(table);
-    find(&table[6..646], count, name)
+    find(&table[HEAD..TRANSITIONS_AT], count, name)
 }

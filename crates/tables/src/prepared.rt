@@ -1,10 +1,15 @@
 // What stands in the bytes of a prepared table: counts and transitions.
 // docs/FORMATS.md has the layout.
+use lts::sizes::LABELS_AT;
+use lts::sizes::TARGETS_AT;
+use lts::sizes::TRANSITION;
+use lts::sizes::TRANSITIONS_AT;
 ghost use mathlib.Core.Path.{_≡_};
 ghost use Prim.Native.Nat.{_≤_, _<_};
 ghost use lib.ListN.{length};
+ghost use Rattle.lts.specs.Sizes.{tableLength};
 ghost use Rattle.lts.specs.Steps.{labels};
-ghost use Rattle.lts.specs.Prepared.{tableLength, tableIn, byteAt};
+ghost use Rattle.lts.specs.Prepared.{tableIn, byteAt};
 ghost use Rattle.lts.specs.Reading.{stepBelow};
 ghost use Rattle.tables.specs.Access.{StepRead, stepIn};
 ghost use Rattle.lts.specs.Answers.{Counted};
@@ -54,11 +59,11 @@ pub fn transition_at(table: &[u8], k: usize) -> Transition
     requires { ⌜ (tableLength ≤ length (now table)) × (k < 1024) ⌝ }
     ensures { λ r. ⌜ StepRead (now (table .entry)) k r ⌝ }
 {
-    let at = k * 3;
+    let at = k * TRANSITION;
     Transition {
-        from: byte(table, 646 + at),
-        label: byte(table, 647 + at),
-        to: byte(table, 648 + at),
+        from: byte(table, TRANSITIONS_AT + at),
+        label: byte(table, LABELS_AT + at),
+        to: byte(table, TARGETS_AT + at),
     }
 }
 

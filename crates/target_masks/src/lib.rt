@@ -1,5 +1,10 @@
 // The places that a step leads to, as masks, and the final places of a prepared formula: from the last node to the first, so that arms
 // come before their node.
+use actl::sizes::NODE_SLOT;
+use actl::sizes::NODES;
+use automaton::sizes::COLUMNS;
+use automaton::sizes::MASKS_LENGTH;
+use automaton::sizes::PLACES;
 use formulas::conditions::in_set;
 use formulas::conditions::meets;
 use formulas::conditions::passes;
@@ -14,6 +19,8 @@ ghost use mathlib.Core.Path.{_≡_};
 ghost use Prim.Native.Nat.{_+_, _<_, _≤_};
 ghost use lib.Dec.{eqb};
 ghost use lib.ListN.{length, getD};
+ghost use Rattle.actl.specs.Sizes.{formulaLength};
+ghost use Rattle.automaton.specs.Sizes.{placeCount, columnCount};
 ghost use Rattle.actl.specs.Formulas.{Formula};
 ghost use Rattle.actl.specs.Prepared.{slotAt};
 ghost use Rattle.target_masks.specs.Masks.{bitIf, columnOf, maskOfNode, finalOfNode, Spells, MasksFit, MasksOf, MasksOn, FinalsOf};
@@ -72,22 +79,22 @@ fn node_final(node: Node, arm: bool, other: bool) -> bool
 }
 
 // The right arm of node k, if it has one and the number is a place.
-fn other_arm(ends: &[u8; 40], k: usize) -> usize
+fn other_arm(ends: &[u8; NODES], k: usize) -> usize
     requires { ⌜ k < 40 ⌝ }
     ensures { λ r. ⌜ r ≤ 40 ⌝ }
     ensures { λ r. ⌜ (k + 1 < 40 → getD (now (ends .entry)) (k + 1) 0 ≤ 40 → r ≡ getD (now (ends .entry)) (k + 1) 0) ⌝ }
 {
     let r = right_arm(ends, k);
-    if r <= 40 { r } else { 40 }
+    if r <= 40 { r } else { NODES }
 }
 
 // Whether node k is T.
 fn is_true(formula: &[u8], k: usize) -> bool
-    requires { ⌜ 681 ≤ length (now formula) ⌝ }
+    requires { ⌜ formulaLength ≤ length (now formula) ⌝ }
     ensures { λ r. ⌜ (k < 40 → r ≡ eqb (slotAt (now (formula .entry)) k .kind) 1) ⌝ }
 {
-    if k < 40 {
-        formula[1 + k * 17] == 1
+    if k < NODES {
+        formula[1 + k * NODE_SLOT] == 1
     } else {
         false
     }
@@ -96,39 +103,39 @@ fn is_true(formula: &[u8], k: usize) -> bool
 // The column of a label among the masks of a place.
 pub fn column(label: usize) -> usize
     requires { ⌜ label ≤ 40 ⌝ }
-    ensures { λ r. ⌜ (r ≡ columnOf label) × (r < 41) ⌝ }
+    ensures { λ r. ⌜ (r ≡ columnOf label) × (r < placeCount) ⌝ }
 {
     label
 }
 
 // The masks of place k, from those of the places behind it.
-fn mask_place(formula: &[u8], ends: &[u8; 40], masks: &mut [u64; 1681], k: usize)
-    requires { ⌜ (681 ≤ length (now formula)) × (k < getD (now formula) 0 0) ⌝ }
+fn mask_place(formula: &[u8], ends: &[u8; NODES], masks: &mut [u64; MASKS_LENGTH], k: usize)
+    requires { ⌜ (formulaLength ≤ length (now formula)) × (k < getD (now formula) 0 0) ⌝ }
     requires { ⌜ ((F : Formula) × Spells (now formula) (now ends) F) ⌝ }
     requires { ⌜ ((F : Formula) → Spells (now formula) (now ends) F → MasksOn F k 0 (now masks)) ⌝ }
-    ensures { λ _. ⌜ ((F : Formula) → Spells (now (formula .entry)) (now (ends .entry)) F → MasksOn F k 41 (now (masks .exit))) ⌝ }
+    ensures { λ _. ⌜ ((F : Formula) → Spells (now (formula .entry)) (now (ends .entry)) F → MasksOn F k columnCount (now (masks .exit))) ⌝ }
 {
     let end = node_count(formula);
     let node = node_at(formula, k);
     let last = is_true(formula, k + 1);
     let right = other_arm(ends, k);
     let mut l: usize = 0;
-    while l < 41 {
+    while l < COLUMNS {
         let at = column(l);
-        let arm = masks[(k + 1) * 41 + at];
-        let other = masks[right * 41 + at];
-        masks[k * 41 + at] = node_mask(node, end, k, l, last, arm, other);
+        let arm = masks[(k + 1) * COLUMNS + at];
+        let other = masks[right * COLUMNS + at];
+        masks[k * COLUMNS + at] = node_mask(node, end, k, l, last, arm, other);
         l += 1;
     }
 }
 
 // The masks of every place: place k and label l at k * 41 + column(l). END has none.
-pub fn target_masks(formula: &[u8], ends: &[u8; 40]) -> [u64; 1681]
-    requires { ⌜ 681 ≤ length (now formula) ⌝ }
+pub fn target_masks(formula: &[u8], ends: &[u8; NODES]) -> [u64; MASKS_LENGTH]
+    requires { ⌜ formulaLength ≤ length (now formula) ⌝ }
     requires { ⌜ ((F : Formula) × Spells (now formula) (now ends) F) ⌝ }
     ensures { λ r. ⌜ ((F : Formula) → Spells (now (formula .entry)) (now (ends .entry)) F → MasksOf F 0 r × MasksFit r) ⌝ }
 {
-    let mut masks = [0u64; 1681];
+    let mut masks = [0u64; MASKS_LENGTH];
     let mut k = node_count(formula);
     while 0 < k {
         k -= 1;
@@ -138,12 +145,12 @@ pub fn target_masks(formula: &[u8], ends: &[u8; 40]) -> [u64; 1681]
 }
 
 // Whether each place is final. END is.
-pub fn final_places(formula: &[u8], ends: &[u8; 40]) -> [bool; 41]
-    requires { ⌜ 681 ≤ length (now formula) ⌝ }
+pub fn final_places(formula: &[u8], ends: &[u8; NODES]) -> [bool; PLACES]
+    requires { ⌜ formulaLength ≤ length (now formula) ⌝ }
     requires { ⌜ ((F : Formula) × Spells (now formula) (now ends) F) ⌝ }
     ensures { λ r. ⌜ ((F : Formula) → Spells (now (formula .entry)) (now (ends .entry)) F → FinalsOf F 0 r) ⌝ }
 {
-    let mut finals = [true; 41];
+    let mut finals = [true; PLACES];
     let mut k = node_count(formula);
     while 0 < k {
         k -= 1;

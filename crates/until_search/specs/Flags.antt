@@ -4,6 +4,7 @@ use mathlib.Core.Bool.{Bool, true, false, not as negate, _&&_, _||_}
 use mathlib.Core.List.{List}
 use Prim.Native.Nat.{ℕ, _+_, _*_, _<_}
 use lib.ListN.{length, getD}
+use Rattle.actl.specs.Sizes.{nodePositions}
 use Rattle.lts.specs.Lists.{anyOf, every}
 use Rattle.lts.specs.Steps.{Step, Table, stepsFrom}
 use Rattle.actl.specs.Actions.{Cond, inSet, meets}
@@ -59,5 +60,5 @@ pub record Flags (p : ℕ → Bool) (flags : List Bool) : Type 0 where
 
 -- Flags of every node of F at every state: node k and state s at k * 256 + s.
 pub record NodeFlags (t : Table) (F : Formula) (flags : List Bool) : Type 0 where
-  pub places : length flags ≡ 10240
+  pub places : length flags ≡ nodePositions
   pub flag : (k s : ℕ) → k < size F → s < 256 → flagAt flags (k * 256 + s) ≡ holds t (getD (nodes F) k tru) s

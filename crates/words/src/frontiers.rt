@@ -1,5 +1,7 @@
 // What a word has reached: the places of each state as a mask, and in four masks behind these the states that have any, so that a letter
 // goes over no other states and clears no others.
+use lts::sizes::FIRSTS;
+use lts::sizes::STATES;
 ghost use mathlib.Core.Path.{_≡_};
 ghost use mathlib.Core.Bool.{cond};
 ghost use Prim.Native.Nat.{_^_, _<_, _≤_};
@@ -40,7 +42,7 @@ pub fn next_state(frontier: &[u64; 260], s: usize) -> usize
     ensures { λ r. ⌜ FirstFrom (hasState (now (frontier .entry))) s 256 r ⌝ }
 {
     let mut v = s;
-    while v < 256 {
+    while v < STATES {
         let k = next_bit(frontier[256 + v / 64], v % 64);
         if k < 64 {
             return v / 64 * 64 + k;
@@ -54,7 +56,7 @@ pub fn clear(frontier: &mut [u64; 260])
     ensures { λ _. ⌜ now (frontier .exit) ≡ emptied (now (frontier .entry)) ⌝ }
 {
     frontier[256] = 0;
-    frontier[257] = 0;
+    frontier[FIRSTS] = 0;
     frontier[258] = 0;
     frontier[259] = 0;
 }
@@ -82,7 +84,7 @@ pub fn all_places(frontier: &[u64; 260]) -> u64
 {
     let mut found = 0u64;
     let mut s = next_state(frontier, 0);
-    while s < 256 {
+    while s < STATES {
         found = found | frontier[s];
         s = next_state(frontier, s + 1);
     }

@@ -2,6 +2,7 @@
 use crate::frontiers::has;
 use crate::reading::read_word;
 use crate::reading::wide;
+use automaton::sizes::PLACES;
 use formula_check::inputs::Inputs;
 use formula_check::inputs::Unprepared;
 use formula_check::inputs::check_inputs;
@@ -54,18 +55,18 @@ fn bad_letter(labels: usize, word: &[u8]) -> Lookup
     Lookup::Nowhere
 }
 
-fn is_final(finals: &[bool; 41], places: u64, k: usize) -> bool
+fn is_final(finals: &[bool; PLACES], places: u64, k: usize) -> bool
     requires { ⌜ k ≤ 40 ⌝ }
     ensures { λ r. ⌜ r ≡ finalPlace (now (finals .entry)) places k ⌝ }
 {
     if has(places, k) { finals[k] } else { false }
 }
 
-fn some_final(finals: &[bool; 41], places: u64) -> bool
+fn some_final(finals: &[bool; PLACES], places: u64) -> bool
     ensures { λ r. ⌜ r ≡ someFinal (now (finals .entry)) places ⌝ }
 {
     let mut k = 0;
-    while k < 41 {
+    while k < PLACES {
         if is_final(finals, places, k) {
             return true;
         }

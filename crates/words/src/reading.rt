@@ -4,12 +4,19 @@ use crate::frontiers::bring;
 use crate::frontiers::clear;
 use crate::frontiers::next_bit;
 use crate::frontiers::next_state;
+use automaton::sizes::COLUMNS;
+use automaton::sizes::MASKS_LENGTH;
+use automaton::sizes::PLACES;
+use lts::sizes::FIRSTS;
+use lts::sizes::STATES;
+use lts::sizes::STEPS;
 use tables::steps::label_of;
 use tables::steps::leaving;
 use tables::steps::state_of;
 use target_masks::column;
 ghost use mathlib.Core.Path.{_≡_};
 ghost use Prim.Native.Nat.{ℕ, _<_, _≤_};
+ghost use Rattle.lts.specs.Sizes.{mostSteps};
 ghost use Rattle.tables.specs.StepArray.{stepAt, stepsIn, StepsFit};
 ghost use Rattle.frontier.specs.Frontier.{nowhere, allPlaces};
 ghost use Rattle.frontier.specs.Reached.{targetsOf, stepTaken, stepsTaken, placesRead, letterRead, wordRead, rootReached, Letters};
@@ -21,7 +28,7 @@ pub fn wide(letter: u8) -> usize
 }
 
 // The target places of a set of places on a label.
-fn targets_of(masks: &[u64; 1681], places: u64, label: usize) -> u64
+fn targets_of(masks: &[u64; MASKS_LENGTH], places: u64, label: usize) -> u64
     requires { ⌜ label ≤ 40 ⌝ }
     ensures { λ r. ⌜ r ≡ targetsOf (now (masks .entry)) places label ⌝ }
 {
@@ -29,8 +36,8 @@ fn targets_of(masks: &[u64; 1681], places: u64, label: usize) -> u64
     let mut found = 0u64;
     let mut rest = places;
     let mut k = next_bit(rest, 0);
-    while k < 41 {
-        found = found | masks[k * 41 + at];
+    while k < PLACES {
+        found = found | masks[k * COLUMNS + at];
         rest = rest & (rest - 1);
         k = next_bit(rest, 0);
     }
@@ -38,8 +45,8 @@ fn targets_of(masks: &[u64; 1681], places: u64, label: usize) -> u64
 }
 
 // Brings the places along step k, whichever state it leaves, if it has the label.
-fn take_step(steps: &[u16; 1280], k: usize, label: usize, places: u64, next: &mut [u64; 260])
-    requires { ⌜ k < 1280 ⌝ }
+fn take_step(steps: &[u16; STEPS], k: usize, label: usize, places: u64, next: &mut [u64; 260])
+    requires { ⌜ k < mostSteps ⌝ }
     ensures { λ _. ⌜ ((s : ℕ) → now (next .exit) ≡ stepTaken label places (stepAt (now (steps .entry)) s k) (now (next .entry))) ⌝ }
 {
     let step = steps[k];
@@ -50,8 +57,8 @@ fn take_step(steps: &[u16; 1280], k: usize, label: usize, places: u64, next: &mu
 
 // Brings the places along the steps of s that have the label.
 fn take_steps(
-    steps: &[u16; 1280],
-    firsts: &[u16; 257],
+    steps: &[u16; STEPS],
+    firsts: &[u16; FIRSTS],
     s: usize,
     label: usize,
     places: u64,
@@ -72,9 +79,9 @@ fn take_steps(
 
 // What a letter brings from the places of state s.
 fn read_places(
-    steps: &[u16; 1280],
-    firsts: &[u16; 257],
-    masks: &[u64; 1681],
+    steps: &[u16; STEPS],
+    firsts: &[u16; FIRSTS],
+    masks: &[u64; MASKS_LENGTH],
     places: u64,
     label: usize,
     s: usize,
@@ -92,9 +99,9 @@ fn read_places(
 
 // What a letter brings from all states that were reached.
 fn read_letter(
-    steps: &[u16; 1280],
-    firsts: &[u16; 257],
-    masks: &[u64; 1681],
+    steps: &[u16; STEPS],
+    firsts: &[u16; FIRSTS],
+    masks: &[u64; MASKS_LENGTH],
     letter: u8,
     reached: &[u64; 260],
     next: &mut [u64; 260],
@@ -106,7 +113,7 @@ fn read_letter(
     let label = wide(letter);
     clear(next);
     let mut s = next_state(reached, 0);
-    while s < 256 {
+    while s < STATES {
         read_places(steps, firsts, masks, reached[s], label, s, next);
         s = next_state(reached, s + 1);
     }
@@ -114,9 +121,9 @@ fn read_letter(
 
 // The places to which the word leads from the root at a start state. Two frontiers take turns.
 pub fn read_word(
-    steps: &[u16; 1280],
-    firsts: &[u16; 257],
-    masks: &[u64; 1681],
+    steps: &[u16; STEPS],
+    firsts: &[u16; FIRSTS],
+    masks: &[u64; MASKS_LENGTH],
     start: usize,
     word: &[u8],
 ) -> u64

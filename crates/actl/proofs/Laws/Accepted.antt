@@ -11,6 +11,7 @@ use lib.ListN.{length}
 use lib.Pow.{pow-pos}
 use lib.Seq.{take-at}
 use borrow.Author.Tests.{leb-true, lt-ltb}
+use Rattle.actl.specs.Sizes.{formulaLength}
 use Rattle.lts.specs.Reply.{Reply, accepted, refusal, unless}
 use Rattle.lts.proofs.Lists.{and-true-to}
 use Rattle.actl.specs.Actions.{Mask, Cond, silent, labels, maskOf}
@@ -18,7 +19,7 @@ use Rattle.actl.specs.Formulas.{Formula, size, nodes, highestWithoutClas
 use Rattle.actl.specs.Grammar.{Set, Condition, dot, set, Quantifier, existential, universal, Head, next, until, untilThen, Disjunction, term, or, Term, tru, not, modal, paren}
 use Rattle.actl.specs.Meaning.{actionOfSet, maskIn, condOf, nextOf, modalOf, formulaOf, formulaOfTerm}
 use Rattle.actl.specs.Mentions.{namesF}
-use Rattle.actl.specs.Prepared.{formulaLength, slotOf, formulaBytes, maskWithin, slotWithin, IsForm}
+use Rattle.actl.specs.Prepared.{slotOf, formulaBytes, maskWithin, slotWithin, IsForm}
 use Rattle.actl.specs.Reader.{Result, whole, refused, read}
 use Rattle.actl.specs.Reading.{unlessFound, firstUnknown, withClasses, onResult, readFormula}
 use Rattle.actl.proofs.Laws.Classed.{all-classed}

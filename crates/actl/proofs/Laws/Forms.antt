@@ -5,10 +5,11 @@ use Prim.Native.Nat.{ℕ, zero, suc, _+_, _*_, _-_, _/_, _%_, _^_, _≤_, _<_}
 use native.Mathlib.Omega.{arith}
 use lib.ListN.{length, getD, take, drop, replicate, length-append, length-replicate}
 use lib.Seq.{drop-drop, getD-drop, getD-take, getD-append-add}
+use Rattle.actl.specs.Sizes.{formulaLength}
 use Rattle.columns.specs.Bytes.{padded, lowFirst}
 use Rattle.lts.specs.Lists.{bind}
 use Rattle.actl.specs.Formulas.{Formula, tru, size, nodes}
-use Rattle.actl.specs.Prepared.{formulaLength, Slot, slot, slotOf, slotBytes, formulaBytes, number, slotAt}
+use Rattle.actl.specs.Prepared.{Slot, slot, slotOf, slotBytes, formulaBytes, number, slotAt}
 use Rattle.actl.proofs.Nodes.{length-nodes}
 use Rattle.actl.proofs.Laws.Numbers.{length-low-first, number-low-first, number-take}
 use Rattle.actl.proofs.Laws.Slots.{Shape, shape-of, node-shaped}

@@ -11,12 +11,13 @@ use lib.Pow.{pow-mono}
 use lib.ListN.{length, getD, take, length-map, List·getD-map}
 use lib.Seq.{getD-take, ext-getD}
 use borrow.Author.Tests.{leb-true, le-leb, eqb-false, ne-eqb, not-true}
+use Rattle.actl.specs.Sizes.{formulaLength}
 use Rattle.columns.specs.Bytes.{sameBytes}
 use Rattle.lts.specs.Lists.{upFrom, bind, every}
 use Rattle.lts.proofs.Lists.{and-true-of, and-true-to, every-of, every-to, getD-mem}
 use Rattle.actl.specs.Actions.{Mask}
 use Rattle.actl.specs.Formulas.{Formula, tru, size, nodes, classOf}
-use Rattle.actl.specs.Prepared.{formulaLength, Slot, slot, slotOf, formulaBytes, slotAt, maskWithin, slotWithin, IsForm, isForm, treesIn, formed, preparedFormula}
+use Rattle.actl.specs.Prepared.{Slot, slot, slotOf, formulaBytes, slotAt, maskWithin, slotWithin, IsForm, isForm, treesIn, formed, preparedFormula}
 use Rattle.actl.specs.Shaped.{shaped, firstUsed, secondUsed}
 use Rattle.actl.proofs.Nodes.{length-nodes}
 use Rattle.actl.proofs.Laws.Lists.{length-upFrom, getD-upFrom, same-bytes-of, same-bytes-refl}

@@ -9,11 +9,12 @@ use lib.Dec.{eqb}
 use lib.ListN.{length, getD, take, drop, replicate, length-append, length-drop, length-map, length-replicate, getD-replicate}
 use lib.Seq.{drop-cons, drop-drop, take-add, take-nil, length-take-le, getD-take, getD-drop, ext-getD}
 use borrow.Author.Tests.{eqb-true}
+use Rattle.actl.specs.Sizes.{formulaLength}
 use Rattle.columns.specs.Bytes.{padded, lowFirst}
 use Rattle.lts.specs.Lists.{upFrom, bind, every}
 use Rattle.lts.proofs.Lists.{upFrom-to, upFrom-snoc, every-of, bind-append}
 use Rattle.actl.specs.Formulas.{Formula, size, nodes}
-use Rattle.actl.specs.Prepared.{formulaLength, Slot, slotOf, slotBytes, formulaBytes, number, slotAt}
+use Rattle.actl.specs.Prepared.{Slot, slotOf, slotBytes, formulaBytes, number, slotAt}
 use Rattle.actl.specs.Check.{zerosFrom}
 use Rattle.actl.proofs.Nodes.{length-nodes}
 use Rattle.actl.proofs.Laws.Lists.{length-upFrom}

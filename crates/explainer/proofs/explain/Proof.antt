@@ -1,4 +1,6 @@
 use borrow.Author.Needs.{needs}
+use Rattle.actl.specs.Sizes.{formulaLength}
+use Rattle.lts.specs.Sizes.{tableLength}
 use Rattle.explainer.proofs.explain.Statement.{statement}
 use Rattle.explainer.proofs.explain.Tie as tie
 use Rattle.explainer.proofs.explain.Reads as reads
@@ -17,13 +19,13 @@ use Rattle.explainer.proofs.Promised.{was-read, was-refused, promised-r
 returns : tie.Need-returns
 returns c =
     let a = c .before .before .before .before .before .before .before .args in
-    promised-refusal (a .tabletext .now) (a .formulatext .now) (a .table .now) (a .formula .now) (a .rows .now) (a .edges .now) 14 3718
+    promised-refusal (a .tabletext .now) (a .formulatext .now) (a .table .now) (a .formula .now) (a .rows .now) (a .edges .now) 14 tableLength
     (short-table (a .tabletext .now) (a .formulatext .now) (a .table .now) (a .formula .now) (a .rows .now) (a .edges .now) (omega arith))
 
 returns-2 : tie.Need-returns-2
 returns-2 c =
     let a = c .before .before .before .before .before .before .before .before .args in
-    promised-refusal (a .tabletext .now) (a .formulatext .now) (a .table .now) (a .formula .now) (a .rows .now) (a .edges .now) 14 681
+    promised-refusal (a .tabletext .now) (a .formulatext .now) (a .table .now) (a .formula .now) (a .rows .now) (a .edges .now) 14 formulaLength
     (short-formula (a .tabletext .now) (a .formulatext .now) (a .table .now) (a .formula .now) (a .rows .now) (a .edges .now) (omega arith) (omega arith))
 
 slice-aggregate-read-both : tie.Need-slice-aggregate-read-both
@@ -55,8 +57,8 @@ returns-3 c =
     let got = c .before .ready .given in
     let read = c .before .before .before .before .before .read-both in
     let a = c .before .before .before .before .before .before .before .before .before .before .before .before .before .before .before .before .args in
-    let long : 3718 ≤ length (a .table .now) = omega arith in
-    let wide : 681 ≤ length (a .formula .now) = omega arith in
+    let long : tableLength ≤ length (a .table .now) = omega arith in
+    let wide : formulaLength ≤ length (a .formula .now) = omega arith in
     let h = subst (λ y. ReadBoth (readings (a .tabletext .now) (a .formulatext .now)) y (read .last .1 .1 .0) (read .last .1 .1 .1 .0)) (got .1) (read .ensures) in
     promised-refusal (a .tabletext .now) (a .formulatext .now) (a .table .now) (a .formula .now) (a .rows .now) (a .edges .now) _ _
     (long-enough (a .tabletext .now) (a .formulatext .now) (a .table .now) (a .formula .now) (a .rows .now) (a .edges .now) long wide
@@ -80,8 +82,8 @@ returns-4 c =
     let got = c .before .before .before .before .before .before .before .before .before .before .before .before .before .before .before .enum-told .given in
     let read = c .before .before .before .before .before .before .before .before .before .before .before .before .before .before .before .before .before .before .before .read-both in
     let a = c .before .before .before .before .before .before .before .before .before .before .before .before .before .before .before .before .before .before .before .before .before .before .before .before .before .before .before .before .before .before .args in
-    let long : 3718 ≤ length (a .table .now) = omega (arith, c .before .before .before .before .before .before .before .before .before .before .before .before .before .before .before .before .before .before .before .before .before .before .before .if1 .left) in
-    let wide : 681 ≤ length (a .formula .now) = omega (arith, c .before .before .before .before .before .before .before .before .before .before .before .before .before .before .before .before .before .before .before .before .before .before .if2 .left) in
+    let long : tableLength ≤ length (a .table .now) = omega (arith, c .before .before .before .before .before .before .before .before .before .before .before .before .before .before .before .before .before .before .before .before .before .before .before .if1 .left) in
+    let wide : formulaLength ≤ length (a .formula .now) = omega (arith, c .before .before .before .before .before .before .before .before .before .before .before .before .before .before .before .before .before .before .before .before .before .before .if2 .left) in
     let h = subst (λ y. ReadBoth (readings (a .tabletext .now) (a .formulatext .now)) y (read .last .1 .1 .0) (read .last .1 .1 .1 .0)) (got .1) (read .ensures) in
     let w = was-read (a .tabletext .now) (a .formulatext .now) (read .last .1 .1 .0) (read .last .1 .1 .1 .0) h in
     promised-listing (a .tabletext .now) (a .formulatext .now) (a .table .now) (a .formula .now) (a .rows .now) (a .edges .now) long wide (w .both) (w .read) (done .result) _ _ _ _ (done .ensures (w .both) (w .held))

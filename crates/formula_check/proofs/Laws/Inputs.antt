@@ -8,14 +8,16 @@ use native.Mathlib.Omega.{arith}
 use lib.Dec.{leb}
 use lib.ListN.{length}
 use borrow.Author.Tests.{le-leb, lt-leb}
+use Rattle.actl.specs.Sizes.{formulaLength}
+use Rattle.lts.specs.Sizes.{tableLength}
 use Rattle.lts.specs.Reply.{Reply, accepted, refusal, unless}
 use Rattle.lts.specs.Steps.{Table, labels}
-use Rattle.lts.specs.Prepared.{tableLength, tableIn, preparedTable}
+use Rattle.lts.specs.Prepared.{tableIn, preparedTable}
 use Rattle.lts.specs.HoldsTable.{HoldsTable}
 use Rattle.lts.specs.Answers.{isSome}
 use Rattle.lts.proofs.Laws.Prepared.{is-some-of, prepared-in, prepared-of, prepared-holds}
 use Rattle.actl.specs.Formulas.{Formula}
-use Rattle.actl.specs.Prepared.{formulaLength, preparedFormula}
+use Rattle.actl.specs.Prepared.{preparedFormula}
 use Rattle.actl.specs.FormulaReading.{withTable, withFormula, longEnough, onPrepared}
 use Rattle.formula_check.specs.Inputs.{unprepared}
 use Rattle.formula_check.specs.declared.inputs.Unprepared.{Unprepared}

@@ -5,6 +5,7 @@ use mathlib.Core.List.{List}
 use Prim.Native.Nat.{ℕ}
 use borrow.Author.Tests.{not-true, not-false}
 use lib.ListN.{length-replicate}
+use Rattle.actl.specs.Sizes.{cellsLength}
 use Rattle.lts.specs.Reply.{Reply, answers, leftIn}
 use Rattle.actl.specs.Formulas.{Formula}
 use Rattle.actl.specs.Prepared.{formulaBytes}
@@ -70,7 +71,7 @@ read-text-requires c κs =
     let long = c .before .before .before .before .before .if1 .left in
     let room = c .before .before .before .before .if2 .left in
     let held = sym (c .before .before .before .is-prepared .ensures) ∙ not-false _ (c .before .before .if3 .left) in
-    (table-held b s e long room held, c .before .if4 .left, length-replicate {A = ℕ} 1536 0)
+    (table-held b s e long room held, c .before .if4 .left, length-replicate {A = ℕ} cellsLength 0)
 
 enum-known-x : tie.Need-enum-known-x
 enum-known-x c = search needs

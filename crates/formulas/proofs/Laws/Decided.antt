@@ -9,11 +9,12 @@ use lib.Dec.{eqb}
 use lib.ListN.{length, getD, take, drop, replicate, length-take, length-map, length-append, List·getD-map}
 use lib.Seq.{getD-take, getD-append-add, ext-getD}
 use borrow.Author.Tests.{eqb-true, eq-eqb}
+use Rattle.actl.specs.Sizes.{formulaLength}
 use Rattle.lts.specs.Lists.{upFrom, bind, every}
 use Rattle.lts.specs.Answers.{isSome, Decides}
 use Rattle.lts.proofs.Lists.{upFrom-of, every-of, every-to, and-true-of, and-true-to, getD-mem, map-of, map-to}
 use Rattle.actl.specs.Formulas.{Formula, tru, size, nodes, classOf}
-use Rattle.actl.specs.Prepared.{formulaLength, Slot, slot, slotOf, slotBytes, formulaBytes, slotAt, slotWithin, IsForm, treesIn, formed, preparedFormula}
+use Rattle.actl.specs.Prepared.{Slot, slot, slotOf, slotBytes, formulaBytes, slotAt, slotWithin, IsForm, treesIn, formed, preparedFormula}
 use Rattle.actl.specs.Shaped.{shaped}
 use Rattle.actl.specs.Walk.{kindsOf, kindsIn}
 use Rattle.actl.specs.Check.{isPrepared, slotFits, slotsFit, zerosFrom, SpelledClassed}

@@ -7,6 +7,7 @@ use native.Mathlib.Omega.{arith}
 use lib.Dec.{eqb}
 use lib.ListN.{length, getD, length-replicate}
 use borrow.Author.Tests.{eqb-true, eq-eqb}
+use Rattle.automaton.specs.Sizes.{placeCount}
 use Rattle.lts.specs.Lists.{upFrom}
 use Rattle.lts.specs.Steps.{Step, Table, stepsFrom}
 use Rattle.lts.specs.Range.{InRange}
@@ -139,7 +140,7 @@ module _ (t : Table) (w : InRange t) where
 
       found-is-accepted : someFinal finals (allPlaces reached) ≡ true → accepts t F v ≡ true
       found-is-accepted e =
-          let (k, n, b) = some-of (finalPlace finals (allPlaces reached)) (upFrom 0 41) e in
+          let (k, n, b) = some-of (finalPlace finals (allPlaces reached)) (upFrom 0 placeCount) e in
           let (z, f) = and-true-of (bitAt (allPlaces reached) k) (flagAt finals k) b in
           let (s, m, a) = some-of (λ x. reachedAt reached x k) (upFrom 0 256) (sym (all-reached reached k) ∙ z) in
           let (p, c, o, led) = word-of v h (rootReached (t .start)) nowhere root-fits (at k s) (omega (arith, upFrom-of 0 256 m)) a in
@@ -157,7 +158,7 @@ module _ (t : Table) (w : InRange t) where
           let mark : flagAt finals (q .place) ≡ true = g .flag (q .place) (omega arith) (inside .0) ∙ final-to F (q .place) f in
           let among : bitAt (allPlaces reached) (q .place) ≡ true =
           all-reached reached (q .place) ∙ some-to (λ x. reachedAt reached x (q .place)) (upFrom 0 256) (upFrom-to 0 256 (q .state) (omega arith) (omega arith)) z in
-          some-to (finalPlace finals (allPlaces reached)) (upFrom 0 41) (upFrom-to 0 41 (q .place) (omega arith) (omega (arith, inside .0)))
+          some-to (finalPlace finals (allPlaces reached)) (upFrom 0 placeCount) (upFrom-to 0 placeCount (q .place) (omega arith) (omega (arith, inside .0)))
           (and-true-to (bitAt (allPlaces reached) (q .place)) (flagAt finals (q .place)) among mark)
 
       pub found-as-accepted : someFinal finals (allPlaces (wordRead (stepsFrom t) masks v (rootReached (t .start)) nowhere)) ≡ accepts t F v

@@ -9,6 +9,7 @@ use lib.Bits.{bitOr}
 use lib.Dec.{eqb}
 use lib.ListN.{length, getD}
 use borrow.Author.Tests.{eqb-true, eq-eqb}
+use Rattle.automaton.specs.Sizes.{placeCount}
 use Rattle.lts.specs.Lists.{upFrom, anyOf}
 use Rattle.lts.specs.Steps.{Step, Table, IsStep, stepsFrom}
 use Rattle.lts.specs.Range.{InRange}
@@ -41,10 +42,10 @@ module _ (masks : List ℕ) (places l q : ℕ) where
   abbrev led : ℕ → Bool
   led k = bitAt places k && bitAt (maskAt masks k l) q
 
-  targets-led : bitAt (targetsOf masks places l) q ≡ anyOf (λ k. bitAt places k && bitAt (maskAt masks k l) q) (upFrom 0 41)
+  targets-led : bitAt (targetsOf masks places l) q ≡ anyOf (λ k. bitAt places k && bitAt (maskAt masks k l) q) (upFrom 0 placeCount)
   targets-led =
-      through-adds (targetsAdded masks places l) (λ m. bitAt m q) led (λ m. Unit {0}) 41 (λ k m h u. tt) (λ k m h u. adds k m (bitAt places k)) 41 0 0 (omega arith) tt
-      ∙ ap (λ b. b || anyOf led (upFrom 0 41)) (bit-zero q)
+      through-adds (targetsAdded masks places l) (λ m. bitAt m q) led (λ m. Unit {0}) placeCount (λ k m h u. tt) (λ k m h u. adds k m (bitAt places k)) placeCount 0 0 (omega arith) tt
+      ∙ ap (λ b. b || anyOf led (upFrom 0 placeCount)) (bit-zero q)
     where
       adds : (k m : ℕ) (b : Bool) → bitAt (cond b (bitOr m (maskAt masks k l)) m) q ≡ (bitAt m q || (b && bitAt (maskAt masks k l) q))
       adds k m true = bit-or m (maskAt masks k l) q
@@ -158,7 +159,7 @@ module _ (t : Table) (w : InRange t) (masks : List ℕ) (l : ℕ) where
           let (g, c) = and-true-of (bitAt (targetsOn (getD reached s 0)) q) _ b in
           let (st, n, y) = some-of (enters l v) (stepsFrom t s) c in
           let (e, o) = and-true-of (onLabel l st) (eqb v (st .to)) y in
-          let (k, x, u) = some-of (led masks (getD reached s 0) l q) (upFrom 0 41) (sym (targets-led masks (getD reached s 0) l q) ∙ g) in
+          let (k, x, u) = some-of (led masks (getD reached s 0) l q) (upFrom 0 placeCount) (sym (targets-led masks (getD reached s 0) l q) ∙ g) in
           let (has, goes) = and-true-of (bitAt (getD reached s 0) k) (bitAt (maskAt masks k l) q) u in
           let from-here = reached-to reached s k i has in
           let (f, p) = steps-are t s st .0 n in
@@ -175,7 +176,7 @@ module _ (t : Table) (w : InRange t) (masks : List ℕ) (l : ℕ) where
           some-to (enters l v) (stepsFrom t x) (steps-are t x st .1 (refl, step)) (and-true-to (onLabel l st) (eqb v v) (eq-eqb l l refl) (eq-eqb v v refl)) in
           let goes : bitAt (targetsOn (getD reached x 0)) q ≡ true =
           targets-led masks (getD reached x 0) l q
-          ∙ some-to (led masks (getD reached x 0) l q) (upFrom 0 41) (upFrom-to 0 41 j (omega arith) (omega arith))
+          ∙ some-to (led masks (getD reached x 0) l q) (upFrom 0 placeCount) (upFrom-to 0 placeCount j (omega arith) (omega arith))
           (and-true-to (bitAt (getD reached x 0) j) (bitAt (maskAt masks j l) q) has (mask-leads j inside ∙ leads-to F j l q moves)) in
           letter-reached reached next long
           ∙ some-to (brings reached) (upFrom 0 256) (upFrom-to 0 256 x (omega arith) (omega arith))

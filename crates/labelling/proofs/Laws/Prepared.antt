@@ -7,11 +7,12 @@ use Prim.Native.Nat.{ℕ, _+_, _≤_, _<_}
 use native.Mathlib.Nat.{zero-add}
 use native.Mathlib.Omega.{arith}
 use lib.ListN.{length, getD, replicate, length-take, length-replicate}
+use Rattle.actl.specs.Sizes.{formulaLength, nodePositions}
 use Rattle.lts.specs.Steps.{labels}
 use Rattle.lts.specs.Prepared.{tableIn}
 use Rattle.lts.specs.HoldsTable.{HoldsTable}
 use Rattle.actl.specs.Formulas.{Formula, tru, size, nodes, root}
-use Rattle.actl.specs.Prepared.{formulaLength, preparedFormula, slotAt}
+use Rattle.actl.specs.Prepared.{preparedFormula, slotAt}
 use Rattle.actl.specs.Shaped.{shaped}
 use Rattle.actl.proofs.Nodes.{size-pos}
 use Rattle.actl.proofs.Subformulas.{node-at}
@@ -23,7 +24,7 @@ use Rattle.labelling.specs.Nodes.{RowsFrom, NodesLabelled, AtStart}
 use Rattle.actl.specs.HoldsFormula.{HoldsFormula}
 
 module _ (n : ℕ) (b : List ℕ) (h : HoldsFormula n b) where
-  pub formula-long : 681 ≤ length b
+  pub formula-long : formulaLength ≤ length b
   formula-long =
       omega (arith, ap length (prepared-of n b (h .prepared) .form), length-form (h .formula) (prepared-few n b (h .prepared)), length-take formulaLength b)
 
@@ -35,7 +36,7 @@ module _ (n : ℕ) (b : List ℕ) (h : HoldsFormula n b) where
 
 module _ (table formula : List ℕ) where
   -- No row is asked for past the last node.
-  pub rows-none : (flags : List Bool) → length flags ≡ 10240 → RowsFrom table formula (getD formula 0 0) flags
+  pub rows-none : (flags : List Bool) → length flags ≡ nodePositions → RowsFrom table formula (getD formula 0 0) flags
   rows-none flags e = record {
     places = e;
     rows = λ F d. record { flag = λ j s l m h. absurd (omega (arith, prepared-count (labels (tableIn table)) formula d)) };

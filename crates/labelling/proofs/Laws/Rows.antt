@@ -8,6 +8,7 @@ use native.Mathlib.Decide.{ℕ-discrete}
 use native.Mathlib.Omega.{arith}
 use lib.ListN.{length, getD, set, replicate, length-set, length-replicate}
 use lib.Seq.{getD-set-same, getD-set-other}
+use Rattle.actl.specs.Sizes.{nodePositions}
 use Rattle.until_search.specs.Flags.{flagAt}
 use Rattle.labelling.specs.Nodes.{RowRead, RowPut}
 use Rattle.until_search.proofs.Laws.Flags.{FlagsBelow}
@@ -21,12 +22,12 @@ row-all k s h d = record { places = d .places; flag = λ x l m. d .flag x (omega
 
 -- The first `end` flags of a row are put in.
 pub record RowPutBelow (k end : ℕ) (row flags flags′ : List Bool) : Type 0 where
-  pub places : length flags′ ≡ 10240
+  pub places : length flags′ ≡ nodePositions
   pub inside : (s : ℕ) → s < end → flagAt flags′ (k * 256 + s) ≡ flagAt row s
   pub outside : (i : ℕ) → (i < k * 256) ⊎ (k * 256 + 256 ≤ i) → flagAt flags′ i ≡ flagAt flags i
 
 module _ (k : ℕ) (row flags : List Bool) where
-  pub row-put-none : length flags ≡ 10240 → RowPutBelow k 0 row flags flags
+  pub row-put-none : length flags ≡ nodePositions → RowPutBelow k 0 row flags flags
   row-put-none e = record { places = e; inside = λ s h. absurd (omega arith); outside = λ i h. refl }
 
   pub row-put-on : (end : ℕ) (flags′ : List Bool) → k < 40 → end < 256 → RowPutBelow k end row flags flags′

@@ -8,6 +8,7 @@ use native.Mathlib.Omega.{arith}
 use lib.Dec.{eqb}
 use lib.ListN.{length, take, drop, length-append, length-drop}
 use lib.Seq.{drop-drop}
+use Rattle.lts.specs.Sizes.{enoughTableText}
 use Rattle.columns.specs.Columns.{column, valueAt}
 use Rattle.columns.specs.Bytes.{sameBytes}
 use Rattle.columns.proofs.Laws.Bytes.{same-of}
@@ -161,7 +162,7 @@ labels-bounded h few (suc left) names m text g =
     (labels-bounded h few left (names ++ (drop 7 l ∷ [])) (m - suc (length l)) rest (omega (arith, label-narrow l e))))
     text
 
-pub reading-bounded : (m : ℕ) (text : List ℕ) → 20282 ≤ m → readTable (take m text) ≡ readTable text
+pub reading-bounded : (m : ℕ) (text : List ℕ) → enoughTableText ≤ m → readTable (take m text) ≡ readTable text
 unfolding readTable
 reading-bounded m text g =
     line-bounded 1 24 m (λ l. headerLaidOut (headerOf l) l) (λ l rest. unless (headerInRange (headerOf l)) 2 1 (readLabels (headerOf l) (headerOf l .labels) [] rest))

@@ -6,12 +6,13 @@ use Prim.Native.Nat.{ℕ, _+_, _-_, _*_, _≤_, _<_}
 use native.Mathlib.Omega.{arith}
 use lib.ListN.{length, getD, take, drop, take-append-drop}
 use lib.Seq.{getD-drop}
+use Rattle.lts.specs.Sizes.{namesLength, transitionsAt, transitionsLength, tableLength}
 use Rattle.columns.specs.Bytes.{padded}
 use Rattle.lts.specs.Lists.{bind}
 use Rattle.lts.specs.Names.{isName}
 use Rattle.lts.specs.Steps.{Table, labels, idleAt}
 use Rattle.lts.specs.Range.{Below, Differ, StepInRange, InRange}
-use Rattle.lts.specs.Prepared.{tableLength, nameSlot, transitionSlot, tableBytes, byteAt, transitionAt, tableIn, preparedTable}
+use Rattle.lts.specs.Prepared.{nameSlot, transitionSlot, tableBytes, byteAt, transitionAt, tableIn, preparedTable}
 use Rattle.lts.specs.Answers.{isSome}
 use Rattle.lts.specs.Check.{ZerosFrom, NameHeld, NewName, TransitionHeld, WellFormed}
 use Rattle.lts.proofs.Lists.{getD-mem, rising-index}
@@ -66,16 +67,16 @@ module _ (b : List ℕ) (t : Table) (r : InRange t) (e : take tableLength b ≡ 
             (rising-index (idleAt 0) Below (tableIn b .transitions) (inside .steps-rise) j k (omega arith) h);
       }
 
-  past-names : ZerosFrom b (6 + labels (tableIn b) * 16) 646
+  past-names : ZerosFrom b (6 + labels (tableIn b) * 16) transitionsAt
   past-names i p q =
       let count : labels (tableIn b) ≡ labels t = ap labels same in
-      zeros-behind b (bind nameSlot (t .names)) _ 6 640 i (ap (drop 6) split ∙ names-behind t r rest)
+      zeros-behind b (bind nameSlot (t .names)) _ 6 namesLength i (ap (drop 6) split ∙ names-behind t r rest)
       (omega (arith, slots-length nameSlot 16 (t .names) (names-sized t r))) (omega arith)
 
-  past-transitions : ZerosFrom b (646 + length (tableIn b .transitions) * 3) tableLength
+  past-transitions : ZerosFrom b (transitionsAt + length (tableIn b .transitions) * 3) tableLength
   past-transitions i p q =
       let count : length (tableIn b .transitions) ≡ length (t .transitions) = ap (λ (u : Table). length (u .transitions)) same in
-      zeros-behind b (bind transitionSlot (t .transitions)) rest 646 3072 i (ap (drop 646) split ∙ transitions-behind t r rest)
+      zeros-behind b (bind transitionSlot (t .transitions)) rest transitionsAt transitionsLength i (ap (drop transitionsAt) split ∙ transitions-behind t r rest)
       (omega (arith, slots-length transitionSlot 3 (t .transitions) (λ st m. refl))) (omega arith)
 
   well-formed-of : tableLength ≤ length b → WellFormed b

@@ -6,6 +6,7 @@ use native.Mathlib.Numerals.{add-one}
 use native.Mathlib.Omega.{arith}
 use lib.ListN.{length, set, take, drop, length-append}
 use lib.Seq.{take-suc-set, drop-set-lt, append-snoc, take-at, drop-append-add, drop-drop}
+use Rattle.lts.specs.Sizes.{namesLength, transitionsAt, transitionsLength}
 use Rattle.lts.specs.Reply.{overwritten}
 use Rattle.columns.specs.Write.{pasted}
 
@@ -25,11 +26,11 @@ pasted-behind d a v n e =
     ∙ ap (λ k. drop (k + length v) d) e ∙ ap (λ k. drop k d) long)
     ∙ sym (append-assoc a v (drop (length (a ++ v)) d))
 
-pub table-pasted : (head names slots d : List ℕ) → length head ≡ 6 → length names ≡ 640 → length slots ≡ 3072
-    → pasted (pasted (pasted d 0 head) 6 names) 646 slots ≡ overwritten (head ++ (names ++ slots)) d
+pub table-pasted : (head names slots d : List ℕ) → length head ≡ 6 → length names ≡ namesLength → length slots ≡ transitionsLength
+    → pasted (pasted (pasted d 0 head) 6 names) transitionsAt slots ≡ overwritten (head ++ (names ++ slots)) d
 table-pasted head names slots d e f g =
     let first : pasted d 0 head ≡ overwritten head d = let none : 0 + length head ≡ length head = omega arith in ap (λ k. head ++ drop k d) none in
-    ap (λ x. pasted (pasted x 6 names) 646 slots) first
-    ∙ ap (λ x. pasted x 646 slots) (pasted-behind d head names 6 e)
-    ∙ pasted-behind d (head ++ names) slots 646 (length-append head names ∙ omega arith)
+    ap (λ x. pasted (pasted x 6 names) transitionsAt slots) first
+    ∙ ap (λ x. pasted x transitionsAt slots) (pasted-behind d head names 6 e)
+    ∙ pasted-behind d (head ++ names) slots transitionsAt (length-append head names ∙ omega arith)
     ∙ ap (λ x. overwritten x d) (append-assoc head names slots)

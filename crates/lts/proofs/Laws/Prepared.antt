@@ -7,6 +7,7 @@ use mathlib.Core.Option.{Option, none, some}
 use Prim.Native.Nat.{ℕ, _≤_}
 use native.Mathlib.Omega.{arith}
 use lib.ListN.{length, take, drop, length-take, take-append-drop}
+use Rattle.lts.specs.Sizes.{tableLength}
 use Rattle.columns.specs.Bytes.{sameBytes}
 use Rattle.columns.proofs.Laws.Bytes.{same-of, same-to}
 use Rattle.lts.specs.Reply.{Reply, accepted, refusal}
@@ -14,7 +15,7 @@ use Rattle.lts.specs.Steps.{Table}
 use Rattle.lts.specs.Range.{InRange}
 use Rattle.lts.specs.Text.{tableText}
 use Rattle.lts.specs.Reading.{readTable}
-use Rattle.lts.specs.Prepared.{tableLength, tableBytes, tableIn, leftBy, preparedTable, LeftByReading}
+use Rattle.lts.specs.Prepared.{tableBytes, tableIn, leftBy, preparedTable, LeftByReading}
 use Rattle.lts.specs.HoldsTable.{HoldsTable}
 use Rattle.lts.specs.Answers.{isSome}
 use Rattle.lts.proofs.Laws.Texts.{read-of-text, text-of-read}

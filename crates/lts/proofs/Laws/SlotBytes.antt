@@ -7,6 +7,7 @@ use native.Mathlib.Nat.{add-zero, zero-add}
 use native.Mathlib.Omega.{arith}
 use lib.ListN.{length, getD, take, drop, replicate, length-append, length-replicate, replicate-append-replicate}
 use lib.Seq.{take-append-seam, drop-append-add, take-at, drop-at, drop-drop, getD-drop}
+use Rattle.lts.specs.Sizes.{namesLength, transitionsLength}
 use Rattle.columns.specs.Bytes.{padded}
 use Rattle.columns.specs.Write.{pasted}
 use Rattle.lts.specs.Lists.{upFrom, bind, every}
@@ -59,10 +60,10 @@ pub name-written : (names : List (List ℕ)) (name : List ℕ) (k : ℕ) → len
 name-written names name k c h e s =
     let long : length (bind nameSlot names) ≡ k * 16 = names-length names e ∙ ap (λ n. n * 16) c in
     ap (λ i. pasted (nameBytes names) i (counted name)) (sym long)
-    ∙ padded-written 640 (bind nameSlot names) (counted name) (omega arith)
-    ∙ padded-inner 640 16 (bind nameSlot names) (counted name) (omega arith) (omega arith)
-    ∙ ap (λ z. padded 640 (bind nameSlot names ++ z)) (sym (append-nil (nameSlot name)))
-    ∙ ap (padded 640) (sym (bind-append nameSlot names (name ∷ [])))
+    ∙ padded-written namesLength (bind nameSlot names) (counted name) (omega arith)
+    ∙ padded-inner namesLength 16 (bind nameSlot names) (counted name) (omega arith) (omega arith)
+    ∙ ap (λ z. padded namesLength (bind nameSlot names ++ z)) (sym (append-nil (nameSlot name)))
+    ∙ ap (padded namesLength) (sym (bind-append nameSlot names (name ∷ [])))
 
 stored-slot : (b : List ℕ) (j : ℕ) (name z : List ℕ) → drop (j * 16) b ≡ nameSlot name ++ z → storedName b j ≡ name
 stored-slot b j name z e =
@@ -81,7 +82,7 @@ stored-from b j (n ∷ names) z e d =
     ap₂ (λ x y. x ∷ y) (stored-slot b j n (bind nameSlot names ++ z) here) (stored-from b (suc j) names z (f .1) further)
 
 pub names-stored : (names : List (List ℕ)) → every isName names ≡ true → storedNames (nameBytes names) (length names) ≡ names
-names-stored names e = stored-from (nameBytes names) 0 names (replicate (640 - length (bind nameSlot names)) 0) e refl
+names-stored names e = stored-from (nameBytes names) 0 names (replicate (namesLength - length (bind nameSlot names)) 0) e refl
 
 pub names-snoc : (names : List (List ℕ)) (name : List ℕ) → every isName names ≡ true → isName name ≡ true → every isName (names ++ (name ∷ [])) ≡ true
 names-snoc [] name e d = rw d
@@ -102,8 +103,8 @@ pub step-written : (steps : List Step) (st : Step) (k : ℕ) → length steps �
 step-written steps st k c h =
     let long : length (bind transitionSlot steps) ≡ k * 3 = steps-length steps ∙ ap (λ n. n * 3) c in
     ap (λ i. pasted (stepBytes steps) i (transitionSlot st)) (sym long)
-    ∙ padded-written 3072 (bind transitionSlot steps) (transitionSlot st) (omega arith)
-    ∙ ap (λ z. padded 3072 z) (sym (bind-append transitionSlot steps (st ∷ [])))
+    ∙ padded-written transitionsLength (bind transitionSlot steps) (transitionSlot st) (omega arith)
+    ∙ ap (λ z. padded transitionsLength z) (sym (bind-append transitionSlot steps (st ∷ [])))
 
 stored-step : (b : List ℕ) (j : ℕ) (x : Step) (z : List ℕ) → drop (j * 3) b ≡ transitionSlot x ++ z → storedStep b j ≡ x
 stored-step b j x z e =
@@ -124,7 +125,7 @@ pub rises-above : (steps : List Step) (st : Step) → risesAfter (stepBytes step
 unfolding risesAfter
 rises-above [] st = refl
 rises-above (x ∷ l) st =
-    ap (λ p. stepBelow (storedStep (stepBytes (x ∷ l)) p) st) (sym (zero-add (length l))) ∙ last-from (stepBytes (x ∷ l)) 0 x l (replicate (3072 - length (bind transitionSlot (x ∷ l))) 0) st refl
+    ap (λ p. stepBelow (storedStep (stepBytes (x ∷ l)) p) st) (sym (zero-add (length l))) ∙ last-from (stepBytes (x ∷ l)) 0 x l (replicate (transitionsLength - length (bind transitionSlot (x ∷ l))) 0) st refl
 
 pub rises-stored : (b : List ℕ) (count : ℕ) (steps : List Step) (st : Step) → length steps ≡ count → b ≡ stepBytes steps → risesAfter b count st ≡ above steps st
 rises-stored b count steps st c k = ap₂ (λ x n. risesAfter x n st) k (sym c) ∙ rises-above steps st

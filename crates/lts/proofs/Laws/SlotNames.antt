@@ -9,13 +9,14 @@ use borrow.Author.Tests.{leb-true, leb-false}
 use lib.Dec.{leb}
 use lib.ListN.{length, getD, take, drop, length-take, length-drop, take-append-drop}
 use lib.Seq.{length-take-le, getD-take, getD-drop, ext-getD, drop-cons, drop-drop}
+use Rattle.lts.specs.Sizes.{namesLength, tableLength}
 use Rattle.columns.specs.Bytes.{sameBytes}
 use Rattle.columns.proofs.Laws.Compared.{same-of-unequal}
 use Rattle.lts.specs.Lists.{upFrom}
 use Rattle.lts.specs.Steps.{labels}
 use Rattle.lts.specs.Names.{longestName, isName, nameLength, nameEnd, findFrom, lookup}
 use Rattle.lts.specs.Reading.{used}
-use Rattle.lts.specs.Prepared.{tableLength, tableIn, byteAt, nameAt}
+use Rattle.lts.specs.Prepared.{tableIn, byteAt, nameAt}
 use Rattle.lts.specs.Slots.{storedName, storedNames}
 use Rattle.lts.specs.Answers.{isSome}
 use Rattle.lts.specs.Check.{NameHeld, NewName}
@@ -63,13 +64,13 @@ module _ (b : List ℕ) (long : tableLength ≤ length b) where
 
   -- The slots as a part of the table.
   abbrev slots : List ℕ
-  slots = take 640 (drop 6 b)
+  slots = take namesLength (drop 6 b)
 
-  slots-length : length slots ≡ 640
-  slots-length = length-take-le 640 (drop 6 b) (omega (arith, length-drop 6 b))
+  slots-length : length slots ≡ namesLength
+  slots-length = length-take-le namesLength (drop 6 b) (omega (arith, length-drop 6 b))
 
-  slot-byte : (i : ℕ) → i < 640 → getD slots i 0 ≡ byteAt b (6 + i)
-  slot-byte i h = getD-take 640 (drop 6 b) i 0 h ∙ getD-drop 6 b i 0
+  slot-byte : (i : ℕ) → i < namesLength → getD slots i 0 ≡ byteAt b (6 + i)
+  slot-byte i h = getD-take namesLength (drop 6 b) i 0 h ∙ getD-drop 6 b i 0
 
   module _ (name : List ℕ) (short : length name ≤ longestName) where
     same-stored : (k : ℕ) → k < 40 → sameBytes (storedName slots k) name ≡ sameBytes (nameAt b k) name
@@ -98,7 +99,7 @@ module _ (b : List ℕ) (long : tableLength ≤ length b) where
     found-stored j i (suc n) h =
         (λ z. cond (same-stored i (omega arith) z) (some j) (found-stored (suc j) (suc i) n (omega arith) z))
 
-    pub table-lookup : (n : ℕ) → n ≡ labels (tableIn b) → n ≤ 40 → lookup (storedNames (take 640 (drop 6 b)) n) name ≡ lookup (tableIn b .names) name
+    pub table-lookup : (n : ℕ) → n ≡ labels (tableIn b) → n ≤ 40 → lookup (storedNames (take namesLength (drop 6 b)) n) name ≡ lookup (tableIn b .names) name
     unfolding tableIn
     table-lookup n e h = found-stored 1 0 n (omega arith) ∙ ap (λ m. lookup (map (nameAt b) (upFrom 0 m)) name) (e ∙ labels-in b)
 
@@ -113,10 +114,10 @@ module _ (b : List ℕ) (long : tableLength ≤ length b) where
     used-before : used before (nameAt b k) ≡ isSome (lookup (storedNames slots k) (nameAt b k))
     used-before = used-looked-up before (nameAt b k) ∙ ap isSome (sym (found-stored (nameAt b k) short 1 0 k (omega arith)))
 
-    pub new-of : isSome (lookup (storedNames (take 640 (drop 6 b)) k) (nameAt b k)) ≡ false → NewName b k
+    pub new-of : isSome (lookup (storedNames (take namesLength (drop 6 b)) k) (nameAt b k)) ≡ false → NewName b k
     new-of e j h = used-of before (nameAt b k) (ap not (used-before ∙ e)) (nameAt b j) (map-to (nameAt b) (upFrom-to 0 k j (omega arith) (omega arith)))
 
-    pub new-not : isSome (lookup (storedNames (take 640 (drop 6 b)) k) (nameAt b k)) ≡ true → NewName b k → ⊥
+    pub new-not : isSome (lookup (storedNames (take namesLength (drop 6 b)) k) (nameAt b k)) ≡ true → NewName b k → ⊥
     new-not e new = true≢false (sym (used-to before (nameAt b k) differ) ∙ ap not (used-before ∙ e))
       where
         differ : (n : List ℕ) → List·Memᴰ n before → n ≡ nameAt b k → ⊥

@@ -6,12 +6,13 @@ use native.Mathlib.Nat.{add-zero}
 use native.Mathlib.Omega.{arith}
 use lib.ListN.{length, getD, take, drop, replicate, length-append}
 use lib.Seq.{take-append-seam, drop-at, drop-drop, getD-drop, ext-getD}
+use Rattle.lts.specs.Sizes.{namesLength, transitionsAt, transitionsLength, tableLength}
 use Rattle.columns.specs.Bytes.{lowFirst}
 use Rattle.columns.proofs.Laws.Bytes.{Bytes, bytes-none, bytes-cons, bytes-append, padded-length, padded-bytes, lowFirst-bytes, pair-value}
 use Rattle.lts.specs.Lists.{upFrom, bind}
 use Rattle.lts.specs.Steps.{Step, Table, labels, idleAt}
 use Rattle.lts.specs.Range.{InRange}
-use Rattle.lts.specs.Prepared.{tableLength, nameSlot, transitionSlot, nameSlots, transitionSlots, tableBytes, byteAt, nameAt, transitionAt, tableIn}
+use Rattle.lts.specs.Prepared.{nameSlot, transitionSlot, nameSlots, transitionSlots, tableBytes, byteAt, nameAt, transitionAt, tableIn}
 use Rattle.lts.proofs.Lists.{bind-of}
 use Rattle.lts.proofs.Laws.Tests.{name-shape}
 use Rattle.lts.proofs.Laws.Contents.{map-upFrom-length, map-upFrom-at}
@@ -29,31 +30,31 @@ name-of-slot b n z k e =
     = ap (λ (j : ℕ). drop j b) (sym next) ∙ (sym (drop-drop 1 (6 + k * 16) b) ∙ (ap (drop 1) e ∙ append-assoc n zeros z)) in
     ap₂ take (size-of-slot b n z k e) bytes ∙ take-append-seam n (zeros ++ z)
 
-pub transition-of-slot : (b z : List ℕ) (st : Step) (k : ℕ) → drop (646 + k * 3) b ≡ transitionSlot st ++ z → transitionAt b k ≡ st
+pub transition-of-slot : (b z : List ℕ) (st : Step) (k : ℕ) → drop (transitionsAt + k * 3) b ≡ transitionSlot st ++ z → transitionAt b k ≡ st
 transition-of-slot b z st k e =
-    let first : byteAt b (646 + k * 3) ≡ st .from = at 0 (omega arith) in
-    let second : byteAt b (647 + k * 3) ≡ st .label = at 1 (omega arith) in
-    let third : byteAt b (648 + k * 3) ≡ st .to = at 2 (omega arith) in
+    let first : byteAt b (transitionsAt + k * 3) ≡ st .from = at 0 (omega arith) in
+    let second : byteAt b ((transitionsAt + 1) + k * 3) ≡ st .label = at 1 (omega arith) in
+    let third : byteAt b ((transitionsAt + 2) + k * 3) ≡ st .to = at 2 (omega arith) in
     λ i. record { from = first i; label = second i; to = third i }
   where
-    at : (i : ℕ) {j : ℕ} → (646 + k * 3) + i ≡ j → byteAt b j ≡ getD (transitionSlot st ++ z) i 0
-    at i d = ap (byteAt b) (sym d) ∙ (sym (getD-drop (646 + k * 3) b i 0) ∙ ap (λ (s : List ℕ). getD s i 0) e)
+    at : (i : ℕ) {j : ℕ} → (transitionsAt + k * 3) + i ≡ j → byteAt b j ≡ getD (transitionSlot st ++ z) i 0
+    at i d = ap (byteAt b) (sym d) ∙ (sym (getD-drop (transitionsAt + k * 3) b i 0) ∙ ap (λ (s : List ℕ). getD s i 0) e)
 
 module _ (t : Table) (r : InRange t) where
   pub names-sized : (n : List ℕ) → List·Memᴰ n (t .names) → length (nameSlot n) ≡ 16
   names-sized n m = padded-length 16 (length n ∷ n) (omega (arith, name-shape n (r .named n m) .short))
 
-  names-fit : length (bind nameSlot (t .names)) ≤ 640
+  names-fit : length (bind nameSlot (t .names)) ≤ namesLength
   names-fit = omega (arith, slots-length nameSlot 16 (t .names) names-sized, r .few-labels)
 
-  transitions-fit : length (bind transitionSlot (t .transitions)) ≤ 3072
+  transitions-fit : length (bind transitionSlot (t .transitions)) ≤ transitionsLength
   transitions-fit = omega (arith, slots-length transitionSlot 3 (t .transitions) (λ st m. refl), r .few-transitions)
 
-  pub name-slots-length : length (nameSlots t) ≡ 640
-  name-slots-length = padded-length 640 (bind nameSlot (t .names)) names-fit
+  pub name-slots-length : length (nameSlots t) ≡ namesLength
+  name-slots-length = padded-length namesLength (bind nameSlot (t .names)) names-fit
 
-  pub transition-slots-length : length (transitionSlots t) ≡ 3072
-  transition-slots-length = padded-length 3072 (bind transitionSlot (t .transitions)) transitions-fit
+  pub transition-slots-length : length (transitionSlots t) ≡ transitionsLength
+  transition-slots-length = padded-length transitionsLength (bind transitionSlot (t .transitions)) transitions-fit
 
   pub table-bytes-length : length (tableBytes t) ≡ tableLength
   unfolding tableBytes
@@ -78,7 +79,7 @@ module _ (t : Table) (r : InRange t) where
       (bytes-cons (omega (arith, r .few-labels))
       (bytes-append (lowFirst 2 (length (t .transitions))) (lowFirst-bytes 2 (length (t .transitions)))
       (bytes-cons (omega (arith, r .starts, r .few-states))
-      (bytes-append (nameSlots t) (padded-bytes 640 (bind nameSlot (t .names)) name-bytes) (padded-bytes 3072 (bind transitionSlot (t .transitions)) transition-bytes)))))
+      (bytes-append (nameSlots t) (padded-bytes namesLength (bind nameSlot (t .names)) name-bytes) (padded-bytes transitionsLength (bind transitionSlot (t .transitions)) transition-bytes)))))
 
   module _ (rest : List ℕ) where
     abbrev pub whole : List ℕ
@@ -88,13 +89,13 @@ module _ (t : Table) (r : InRange t) where
     unfolding tableBytes
     names-behind = append-assoc (nameSlots t) (transitionSlots t) rest
 
-    pub transitions-behind : drop 646 whole ≡ transitionSlots t ++ rest
+    pub transitions-behind : drop transitionsAt whole ≡ transitionSlots t ++ rest
     transitions-behind =
-        sym (drop-drop 640 6 whole) ∙ (ap (drop 640) names-behind ∙ drop-at (nameSlots t) (transitionSlots t ++ rest) 640 name-slots-length)
+        sym (drop-drop namesLength 6 whole) ∙ (ap (drop namesLength) names-behind ∙ drop-at (nameSlots t) (transitionSlots t ++ rest) namesLength name-slots-length)
 
     pub name-slot-there : (k : ℕ) → k < labels t → (z : List ℕ) × (drop (6 + k * 16) whole ≡ nameSlot (getD (t .names) k []) ++ z)
     name-slot-there k h =
-        let zeros : List ℕ = replicate (640 - length (bind nameSlot (t .names))) 0 in
+        let zeros : List ℕ = replicate (namesLength - length (bind nameSlot (t .names))) 0 in
         let (z, e) = slot-at nameSlot 16 (t .names) k [] (zeros ++ (transitionSlots t ++ rest)) names-sized h in (
           z,
           sym (drop-drop (k * 16) 6 whole)
@@ -106,10 +107,10 @@ module _ (t : Table) (r : InRange t) where
 
     transition-there : (k : ℕ) → k < length (t .transitions) → transitionAt whole k ≡ getD (t .transitions) k (idleAt 0)
     transition-there k h =
-        let zeros : List ℕ = replicate (3072 - length (bind transitionSlot (t .transitions))) 0 in
+        let zeros : List ℕ = replicate (transitionsLength - length (bind transitionSlot (t .transitions))) 0 in
         let (z, e) = slot-at transitionSlot 3 (t .transitions) k (idleAt 0) (zeros ++ rest) (λ st m. refl) h in
         transition-of-slot whole z (getD (t .transitions) k (idleAt 0)) k
-        (sym (drop-drop (k * 3) 646 whole)
+        (sym (drop-drop (k * 3) transitionsAt whole)
         ∙ (ap (drop (k * 3)) (transitions-behind ∙ append-assoc (bind transitionSlot (t .transitions)) zeros rest) ∙ e))
 
     -- The table stands in its bytes.

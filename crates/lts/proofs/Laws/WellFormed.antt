@@ -8,13 +8,14 @@ use native.Mathlib.Nat.{add-zero}
 use native.Mathlib.Omega.{arith}
 use lib.ListN.{length, getD, take, drop, replicate, length-drop}
 use lib.Seq.{take-add, drop-drop, drop-cons, getD-drop}
+use Rattle.lts.specs.Sizes.{namesLength, transitionsAt, transitionsLength, tableLength}
 use Rattle.columns.specs.Bytes.{lowFirst}
 use Rattle.columns.proofs.Laws.Bytes.{pair-bytes}
 use Rattle.lts.specs.Lists.{upFrom}
 use Rattle.lts.specs.Names.{isName}
 use Rattle.lts.specs.Steps.{Step, labels, idleAt}
 use Rattle.lts.specs.Range.{Below, Differ, StepInRange, InRange}
-use Rattle.lts.specs.Prepared.{tableLength, nameSlot, transitionSlot, nameSlots, transitionSlots, tableBytes, byteAt, nameAt, transitionAt, tableIn, preparedTable}
+use Rattle.lts.specs.Prepared.{nameSlot, transitionSlot, nameSlots, transitionSlots, tableBytes, byteAt, nameAt, transitionAt, tableIn, preparedTable}
 use Rattle.lts.specs.Check.{WellFormed}
 use Rattle.lts.proofs.Lists.{mem-index, rising-pairs, rising-adjacent}
 use Rattle.lts.proofs.Laws.Tests.{below-trans, name-shape}
@@ -86,38 +87,38 @@ module _ (b : List ℕ) (w : WellFormed b) where
         let left : 15 - size ≡ 16 - suc (length (nameAt b k)) = omega arith in
         ap (take 16) cut ∙ ap₂ (λ (n : ℕ) (l : List ℕ). n ∷ l) (sym sized) (tail ∙ ap (λ (m : ℕ). nameAt b k ++ replicate m 0) left)
 
-    transition-slot-is : (k : ℕ) → k < length (tableIn b .transitions) → take 3 (drop (k * 3) (drop 646 b)) ≡ transitionSlot (transitionAt b k)
+    transition-slot-is : (k : ℕ) → k < length (tableIn b .transitions) → take 3 (drop (k * 3) (drop transitionsAt b)) ≡ transitionSlot (transitionAt b k)
     transition-slot-is k h =
         let few : k < 1024 = omega (arith, w .counts .few-transitions) in
-        let at : ℕ = 646 + k * 3 in
-        let second : at + 1 ≡ 647 + k * 3 = omega arith in
-        let third : at + 2 ≡ 648 + k * 3 = omega arith in
-        ap (take 3) (drop-drop (k * 3) 646 b)
+        let at : ℕ = transitionsAt + k * 3 in
+        let second : at + 1 ≡ (transitionsAt + 1) + k * 3 = omega arith in
+        let third : at + 2 ≡ (transitionsAt + 2) + k * 3 = omega arith in
+        ap (take 3) (drop-drop (k * 3) transitionsAt b)
         ∙ (take-bytes 3 (drop at b) (omega (arith, length-drop at b, w .long))
         ∙ (λ i. (getD-drop at b 0 0 ∙ ap (byteAt b) (add-zero at)) i ∷ (getD-drop at b 1 0 ∙ ap (byteAt b) second) i ∷ (getD-drop at b 2 0 ∙ ap (byteAt b) third) i ∷ []))
 
-    name-slots-are : take 640 (drop 6 b) ≡ nameSlots (tableIn b)
+    name-slots-are : take namesLength (drop 6 b) ≡ nameSlots (tableIn b)
     unfolding tableIn
     name-slots-are =
         let count : labels (tableIn b) ≡ byteAt b 2 = labels-in b in
-        filled (λ k. nameSlot (nameAt b k)) 16 (byteAt b 2) 640 (drop 6 b) (omega (arith, w .counts .few-labels)) (omega (arith, length-drop 6 b, w .long))
+        filled (λ k. nameSlot (nameAt b k)) 16 (byteAt b 2) namesLength (drop 6 b) (omega (arith, w .counts .few-labels)) (omega (arith, length-drop 6 b, w .long))
         (λ k h. name-slot-is k (omega arith)) (λ i h l. getD-drop 6 b i 0 ∙ w .past-names (6 + i) (omega arith) (omega arith))
-        ∙ ap (λ (l : List ℕ). l ++ replicate (640 - length l) 0) (sym (bind-map nameSlot (nameAt b) (upFrom 0 (byteAt b 2))))
+        ∙ ap (λ (l : List ℕ). l ++ replicate (namesLength - length l) 0) (sym (bind-map nameSlot (nameAt b) (upFrom 0 (byteAt b 2))))
 
-    transition-slots-are : take 3072 (drop 646 b) ≡ transitionSlots (tableIn b)
+    transition-slots-are : take transitionsLength (drop transitionsAt b) ≡ transitionSlots (tableIn b)
     unfolding tableIn
     transition-slots-are =
         let n : ℕ = byteAt b 3 + byteAt b 4 * 256 in
         let count : length (tableIn b .transitions) ≡ n = transitions-in b in
-        filled (λ k. transitionSlot (transitionAt b k)) 3 n 3072 (drop 646 b) (omega (arith, w .counts .few-transitions)) (omega (arith, length-drop 646 b, w .long))
-        (λ k h. transition-slot-is k (omega arith)) (λ i h l. getD-drop 646 b i 0 ∙ w .past-transitions (646 + i) (omega arith) (omega arith))
-        ∙ ap (λ (l : List ℕ). l ++ replicate (3072 - length l) 0) (sym (bind-map transitionSlot (transitionAt b) (upFrom 0 n)))
+        filled (λ k. transitionSlot (transitionAt b k)) 3 n transitionsLength (drop transitionsAt b) (omega (arith, w .counts .few-transitions)) (omega (arith, length-drop transitionsAt b, w .long))
+        (λ k h. transition-slot-is k (omega arith)) (λ i h l. getD-drop transitionsAt b i 0 ∙ w .past-transitions (transitionsAt + i) (omega arith) (omega arith))
+        ∙ ap (λ (l : List ℕ). l ++ replicate (transitionsLength - length l) 0) (sym (bind-map transitionSlot (transitionAt b) (upFrom 0 n)))
 
     pub well-formed-bytes : take tableLength b ≡ tableBytes (tableIn b)
     unfolding tableBytes
     well-formed-bytes =
         take-add 6 3712 b ∙ ap₂ (λ (l m : List ℕ). l ++ m) head-bytes
-        (take-add 640 3072 (drop 6 b) ∙ ap₂ (λ (l m : List ℕ). l ++ m) name-slots-are (ap (take 3072) (drop-drop 640 6 b) ∙ transition-slots-are))
+        (take-add namesLength transitionsLength (drop 6 b) ∙ ap₂ (λ (l m : List ℕ). l ++ m) name-slots-are (ap (take transitionsLength) (drop-drop namesLength 6 b) ∙ transition-slots-are))
 
     pub well-formed-prepared : preparedTable b ≡ some (tableIn b)
     well-formed-prepared = prepared-to b (tableIn b) well-formed-range well-formed-bytes

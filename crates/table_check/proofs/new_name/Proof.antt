@@ -3,6 +3,7 @@ use mathlib.Core.Path.{_≡_, sym, ap, _∙_}
 use Prim.Native.Nat.{_+_, _-_, _*_}
 use native.Mathlib.Omega.{arith}
 use lib.ListN.{take, drop}
+use Rattle.lts.specs.Sizes.{namesLength}
 use Rattle.lts.specs.Names.{lookup}
 use Rattle.lts.specs.Prepared.{byteAt, nameAt}
 use Rattle.lts.specs.Slots.{storedNames}
@@ -61,7 +62,7 @@ enum-told-2 c = search needs
 
 -- The bytes that are looked for are the name in the slot.
 sought : (c : tie.After-find) → isSome (foundIn (c .find .result))
-    ≡ isSome (lookup (storedNames (take 640 (drop 6 (c .before .before .before .before .before .args .table .now))) (c .before .before .before .before .before .args .k))
+    ≡ isSome (lookup (storedNames (take namesLength (drop 6 (c .before .before .before .before .before .args .table .now))) (c .before .before .before .before .before .args .k))
     (nameAt (c .before .before .before .before .before .args .table .now) (c .before .before .before .before .before .args .k)))
 sought c =
     let start = c .before .before .before .before .before in
@@ -69,7 +70,7 @@ sought c =
     let k = start .args .k in
     let size = c .before .before .before .byte in
     let long : (7 + k * 16) + size .result - (7 + k * 16) ≡ byteAt b (6 + k * 16) = omega (arith, size .ensures .count) in
-    ap isSome (c .find .ensures) ∙ ap (λ n. isSome (lookup (storedNames (take 640 (drop 6 b)) k) (take n (drop (7 + k * 16) b)))) long
+    ap isSome (c .find .ensures) ∙ ap (λ n. isSome (lookup (storedNames (take namesLength (drop 6 b)) k) (take n (drop (7 + k * 16) b)))) long
 
 returns : tie.Need-returns
 returns c =

@@ -5,6 +5,7 @@ use mathlib.Core.List.{List, [], _∷_, _++_}
 use Prim.Native.Nat.{ℕ, suc, _+_, _-_, _<_, _≤_}
 use native.Mathlib.Omega.{arith}
 use lib.ListN.{length, drop, replicate, length-replicate, length-append, length-drop, drop-of-length-le}
+use Rattle.lts.specs.Sizes.{namesLength, transitionsLength}
 use Rattle.lts.specs.Lists.{every}
 use Rattle.lts.specs.Reply.{Reply, accepted, refusal}
 use Rattle.lts.specs.Steps.{Step, Table}
@@ -34,7 +35,7 @@ pub record NamesSoFar (h : Header) (s : List ℕ) (from : ℕ) (b : List ℕ) (a
   pub kept : b ≡ nameBytes names
 
 module _ (h : Header) (s : List ℕ) (from : ℕ) where
-  pub names-start : (b : List ℕ) → from ≤ length s → b ≡ replicate 640 0 → NamesSoFar h s from b from 0
+  pub names-start : (b : List ℕ) → from ≤ length s → b ≡ replicate namesLength 0 → NamesSoFar h s from b from 0
   names-start b k e = record {
     names = [];
     counts = refl;
@@ -84,7 +85,7 @@ pub record StepsSoFar (h : Header) (s : List ℕ) (from : ℕ) (names : List (Li
   pub kept : b ≡ stepBytes steps
 
 module _ (h : Header) (s : List ℕ) (from : ℕ) (names : List (List ℕ)) where
-  pub steps-start : (b : List ℕ) → b ≡ replicate 3072 0 → StepsSoFar h s from names b from 0
+  pub steps-start : (b : List ℕ) → b ≡ replicate transitionsLength 0 → StepsSoFar h s from names b from 0
   steps-start b e = record {
     steps = [];
     counts = refl;
@@ -138,7 +139,7 @@ module _ (h : Header) (s : List ℕ) (from : ℕ) (names : List (List ℕ)) wher
 pub record TransitionsSoFar (c : HeaderFields) (s : List ℕ) (from : ℕ) (b : List ℕ) (at count : ℕ) : Type 0 where
   pub within : at ≤ length s
   pub few : count ≤ c .transitions
-  pub long : length b ≡ 3072
+  pub long : length b ≡ transitionsLength
   pub so-far : (names : List (List ℕ)) → length names ≡ c .labels → StepsSoFar (header c) s from names b at count
 
 line-within : (c : HeaderFields) (s : List ℕ) (from : ℕ) (b : List ℕ) (at count : ℕ) → TransitionsSoFar c s from b at count → (to : ℕ) (d : List ℕ)

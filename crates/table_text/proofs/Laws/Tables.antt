@@ -7,10 +7,11 @@ use native.Mathlib.Omega.{arith}
 use borrow.Author.Tests.{ltb-true, leb-true, le-leb, lt-leb}
 use lib.Dec.{leb, ltb}
 use lib.ListN.{length, drop}
+use Rattle.lts.specs.Sizes.{tableLength}
 use Rattle.lts.specs.Reply.{accepted, refusal, unless, overwritten, leftIn, answers}
 use Rattle.lts.specs.Steps.{Step, Table}
 use Rattle.lts.specs.Reading.{Header, firstLine, headerOf, headerLaidOut, headerInRange, readLabels, readTable}
-use Rattle.lts.specs.Prepared.{tableLength, tableBytes}
+use Rattle.lts.specs.Prepared.{tableBytes}
 use Rattle.table_text.specs.Replies.{tableReply}
 use Rattle.lts.specs.TableReading.{tableReading, tableReplied, tableLeft}
 use Rattle.lts.specs.Slots.{nameBytes, stepBytes, headBytes}
@@ -66,13 +67,13 @@ table-bytes h names steps e f = rw (e, f)
 
 -- The answer and the bytes.
 module _ (s b : List ℕ) where
-  pub short-replies : length b < 3718 → (refusal 14 3718 ≡ tableReplied s b) × (b ≡ tableLeft s b)
+  pub short-replies : length b < tableLength → (refusal 14 tableLength ≡ tableReplied s b) × (b ≡ tableLeft s b)
   unfolding tableReading
   short-replies h =
-      let short : tableReading s b ≡ refusal 14 3718 = failed (leb tableLength (length b)) 14 tableLength (readTable s) (lt-leb tableLength (length b) h) in
+      let short : tableReading s b ≡ refusal 14 tableLength = failed (leb tableLength (length b)) 14 tableLength (readTable s) (lt-leb tableLength (length b) h) in
       (ap (answers (λ t. tt)) (sym short), ap (λ r. leftIn tableBytes r b) (sym short))
 
-  module _ (h : 3718 ≤ length b) where
+  module _ (h : tableLength ≤ length b) where
     reading-is : tableReading s b ≡ readTable s
     unfolding tableReading
     reading-is = passed (leb tableLength (length b)) 14 tableLength (readTable s) (le-leb tableLength (length b) h)

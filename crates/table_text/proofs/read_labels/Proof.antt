@@ -4,6 +4,7 @@ use Prim.Native.Nat.{_+_, _-_}
 use lib.ListN.{length}
 use borrow.Author.Needs.{needs}
 use native.Mathlib.Omega.{arith}
+use Rattle.lts.specs.Sizes.{namesLength}
 use Rattle.table_text.proofs.Laws.Readings.{NamesSoFar, names-start, names-refused, names-go-on, names-end}
 use Rattle.table_lines.specs.LineReplies.{header}
 use Rattle.table_text.specs.Progress.{LabelProgress, LabelsRead}
@@ -11,7 +12,7 @@ use Rattle.table_text.proofs.read_labels.Statement.{statement}
 use Rattle.table_text.proofs.read_labels.Tie as tie
 
 abbrev Inv-loop : tie.InvT-loop
-Inv-loop text from counts names₀ at₀ count₀ names at count = NamesSoFar (header counts) text from names at count × (length names ≡ 640)
+Inv-loop text from counts names₀ at₀ count₀ names at count = NamesSoFar (header counts) text from names at count × (length names ≡ namesLength)
 
 abbrev μ-loop : tie.MeasureT-loop
 μ-loop text from counts names₀ at₀ count₀ names at count = counts .labels - count

@@ -1,6 +1,7 @@
 -- `write_table` leaves the head, the names and the transitions, one behind the other.
 use borrow.Author.Needs.{needs}
 use mathlib.Core.Path.{refl, ap, _∙_}
+use Rattle.lts.specs.Sizes.{transitionsAt}
 use Rattle.lts.proofs.Laws.Pasted.{table-pasted}
 use Rattle.columns.specs.Write.{pasted}
 use Rattle.lts.specs.Slots.{headBytes}
@@ -68,7 +69,7 @@ returns c =
     let head = headBytes (header (a .counts)) in
     let d = a .table .now in
     c .before .before .write-at3 .ensures
-    ∙ ap (λ x. pasted x 646 (a .slots .now)) (second .write-at2 .ensures ∙ ap (λ x. pasted x 6 (a .names .now)) (first .write-at .ensures))
+    ∙ ap (λ x. pasted x transitionsAt (a .slots .now)) (second .write-at2 .ensures ∙ ap (λ x. pasted x 6 (a .names .now)) (first .write-at .ensures))
     ∙ table-pasted head (a .names .now) (a .slots .now) d refl (start .pre .0 .1 .0) (start .pre .0 .1 .1)
 
 pub write-table-spec : {M : Type 1} → statement M

@@ -8,6 +8,7 @@ use native.Mathlib.Decide.{decLt, ℕ-discrete}
 use native.Mathlib.Omega.{arith}
 use lib.ListN.{length, getD, set, take, length-set, length-map, length-append, List·getD-append}
 use lib.Seq.{slice, slice-cons, take-suc-set, length-slice, getD-set-same, getD-set-other, getD-append-add, getD-take}
+use Rattle.lts.specs.Sizes.{mostSteps, firstsLength}
 use Rattle.lts.specs.Lists.{upFrom, orElse, bind}
 use Rattle.lts.specs.Steps.{Step, Table, idleAt, stepsFrom}
 use Rattle.lts.specs.Range.{InRange}
@@ -124,14 +125,14 @@ module _ (t : Table) where
 
   -- The first s states are done.
   pub record BelowDone (s at : ℕ) (steps firsts : List ℕ) : Type 0 where
-    pub steps-long : length steps ≡ 1280
-    pub firsts-long : length firsts ≡ 257
+    pub steps-long : length steps ≡ mostSteps
+    pub firsts-long : length firsts ≡ firstsLength
     pub counted : at ≡ length (stepsBelow t s)
     pub codes : take at steps ≡ map stepCode (stepsBelow t s)
     pub first : (i : ℕ) → i < s → getD firsts i 0 ≡ length (stepsBelow t i)
     pub few : at ≤ exitsBelow (t .transitions) s + s
 
-  pub below-none : (steps firsts : List ℕ) → length steps ≡ 1280 → length firsts ≡ 257 → BelowDone 0 0 steps firsts
+  pub below-none : (steps firsts : List ℕ) → length steps ≡ mostSteps → length firsts ≡ firstsLength → BelowDone 0 0 steps firsts
   unfolding stepsBelow
   below-none steps firsts a b = record {
     steps-long = a;
@@ -154,7 +155,7 @@ map-upFrom-is f d (x ∷ l) a h =
 -- All states are done.
 record AllDone (t : Table) (steps firsts : List ℕ) : Type 0 where
   first : (s : ℕ) → s ≤ 256 → getD firsts s 0 ≡ length (stepsBelow t s)
-  few : length (stepsBelow t 256) ≤ 1280
+  few : length (stepsBelow t 256) ≤ mostSteps
   codes : take (length (stepsBelow t 256)) steps ≡ map stepCode (stepsBelow t 256)
 
 module _ (t : Table) (w : InRange t) (steps firsts : List ℕ) (h : AllDone t steps firsts) (s : ℕ) (few : s < 256) where
@@ -227,7 +228,7 @@ all-steps t w steps firsts h = record {
 }
 
 module _ (t : Table) (w : InRange t) where
-  pub below-fits : {s at : ℕ} {steps firsts : List ℕ} → s ≤ 256 → BelowDone t s at steps firsts → at ≤ 1280
+  pub below-fits : {s at : ℕ} {steps firsts : List ℕ} → s ≤ 256 → BelowDone t s at steps firsts → at ≤ mostSteps
   below-fits {s} h d = omega (arith, d .few, exits-at-most (t .transitions) s, w .few-transitions)
 
   pub below-more : {s at : ℕ} {steps firsts : List ℕ} → s < 256 → BelowDone t s at steps firsts → (end : ℕ) (after : List ℕ)

@@ -10,6 +10,7 @@ use native.Mathlib.Omega.{arith}
 use lib.Dec.{eqb}
 use lib.ListN.{length, getD, set, length-set, replicate}
 use lib.Seq.{getD-set-same, getD-set-other}
+use Rattle.automaton.specs.Sizes.{placeCount, columnCount, masksLength}
 use Rattle.actl.specs.Actions.{silent, labels}
 use Rattle.actl.specs.Formulas.{Formula, tru, not, or, ex, ax, eu, euThen, size, isT, At}
 use Rattle.actl.specs.Prepared.{slotOf, slotAt, preparedFormula}
@@ -64,13 +65,13 @@ module _ {b ends : List ℕ} {F : Formula} (p : Spells b ends F) (k : ℕ) (h : 
     right-is : k + 1 < size F → k + 1 + size (nodeAt F (k + 1)) < size F → right ≡ k + 1 + size (nodeAt F (k + 1))
     right-is x y = let e = p .end (k + 1) x in r (omega (arith, p .few)) (omega (arith, p .few)) ∙ e
 
-    module _ (masks : List ℕ) (l : ℕ) (m : MasksOn F k l masks) (c : l < 41) (node : Node) (s : slotOfNode node ≡ slotAt b k) (end : ℕ) (e : end ≡ getD b 0 0)
+    module _ (masks : List ℕ) (l : ℕ) (m : MasksOn F k l masks) (c : l < placeCount) (node : Node) (s : slotOfNode node ≡ slotAt b k) (end : ℕ) (e : end ≡ getD b 0 0)
         (last : Bool) (t : k + 1 < 40 → last ≡ eqb (slotAt b (k + 1) .kind) 1) where
       abbrev arm : ℕ
-      arm = getD masks ((k + 1) * 41 + l) 0
+      arm = getD masks ((k + 1) * columnCount + l) 0
 
       abbrev other : ℕ
-      other = getD masks (right * 41 + l) 0
+      other = getD masks (right * columnCount + l) 0
 
       abbrev mask : ℕ
       mask = maskOfNode node end k l last arm other
@@ -83,28 +84,28 @@ module _ {b ends : List ℕ} {F : Formula} (p : Spells b ends F) (k : ℕ) (h : 
           ap (λ n. maskOfNode node n k l last arm other) (e ∙ p .count)
           ∙ node-mask-is l arm other last
           (λ x. m .behind .mask (k + 1) l (omega arith) (omega arith) (omega arith))
-          (λ x y. ap (λ q. getD masks (q * 41 + l) 0) (right-is x y) ∙ m .behind .mask (k + 1 + size (nodeAt F (k + 1))) l (omega arith) (omega arith) (omega arith))
+          (λ x y. ap (λ q. getD masks (q * columnCount + l) 0) (right-is x y) ∙ m .behind .mask (k + 1 + size (nodeAt F (k + 1))) l (omega arith) (omega arith) (omega arith))
           T-is node (nodeAt F k) (at-node F k below) (s ∙ p .slot k below)
 
-      masks-turn : (v : ℕ) → v ≡ mask → MasksOn F k (l + 1) (set masks (k * 41 + l) v)
+      masks-turn : (v : ℕ) → v ≡ mask → MasksOn F k (l + 1) (set masks (k * columnCount + l) v)
       masks-turn v q = record {
-        long = length-set masks (k * 41 + l) v ∙ m .long;
-        behind = record { mask = λ j i x y z. getD-set-other masks (k * 41 + l) (j * 41 + i) v 0 (λ u. omega arith) ∙ m .behind .mask j i x y z };
+        long = length-set masks (k * columnCount + l) v ∙ m .long;
+        behind = record { mask = λ j i x y z. getD-set-other masks (k * columnCount + l) (j * columnCount + i) v 0 (λ u. omega arith) ∙ m .behind .mask j i x y z };
         here = λ i x. pick i x (ℕ-discrete i l);
-        fit = set-below masks (k * 41 + l) v (2 ^ 41) (subst (λ n. n < 2 ^ 41) (sym (q ∙ mask-is)) (target-fits F k l (p .few))) (m .fit);
+        fit = set-below masks (k * columnCount + l) v (2 ^ placeCount) (subst (λ n. n < 2 ^ placeCount) (sym (q ∙ mask-is)) (target-fits F k l (p .few))) (m .fit);
       }
         where
-          pick : (i : ℕ) → i < l + 1 → Dec (i ≡ l) → getD (set masks (k * 41 + l) v) (k * 41 + i) 0 ≡ targetMask F k i
+          pick : (i : ℕ) → i < l + 1 → Dec (i ≡ l) → getD (set masks (k * columnCount + l) v) (k * columnCount + i) 0 ≡ targetMask F k i
           pick i x (yes d) =
-              ap (λ n. getD (set masks (k * 41 + l) v) (k * 41 + n) 0) d
-              ∙ (getD-set-same masks (k * 41 + l) v 0 (omega (arith, m .long, place-few)) ∙ (q ∙ (mask-is ∙ ap (targetMask F k) (sym d))))
-          pick i x (no d) = getD-set-other masks (k * 41 + l) (k * 41 + i) v 0 (λ u. d (omega arith)) ∙ m .here i (omega arith)
+              ap (λ n. getD (set masks (k * columnCount + l) v) (k * columnCount + n) 0) d
+              ∙ (getD-set-same masks (k * columnCount + l) v 0 (omega (arith, m .long, place-few)) ∙ (q ∙ (mask-is ∙ ap (targetMask F k) (sym d))))
+          pick i x (no d) = getD-set-other masks (k * columnCount + l) (k * columnCount + i) v 0 (λ u. d (omega arith)) ∙ m .here i (omega arith)
 
       -- The same in the column that the code found.
-      pub masks-turn-at : (at : ℕ) → at ≡ columnOf l → (v : ℕ) → v ≡ maskOfNode node end k l last (getD masks ((k + 1) * 41 + at) 0) (getD masks (right * 41 + at) 0)
-          → MasksOn F k (l + 1) (set masks (k * 41 + at) v)
+      pub masks-turn-at : (at : ℕ) → at ≡ columnOf l → (v : ℕ) → v ≡ maskOfNode node end k l last (getD masks ((k + 1) * columnCount + at) 0) (getD masks (right * columnCount + at) 0)
+          → MasksOn F k (l + 1) (set masks (k * columnCount + at) v)
       masks-turn-at at c v =
-          subst (λ x. v ≡ maskOfNode node end k l last (getD masks ((k + 1) * 41 + x) 0) (getD masks (right * 41 + x) 0) → MasksOn F k (l + 1) (set masks (k * 41 + x) v)) (sym c) (masks-turn v)
+          subst (λ x. v ≡ maskOfNode node end k l last (getD masks ((k + 1) * columnCount + x) 0) (getD masks (right * columnCount + x) 0) → MasksOn F k (l + 1) (set masks (k * columnCount + x) v)) (sym c) (masks-turn v)
 
     -- The flag of place k, from those behind.
     module _ (finals : List Bool) (m : FinalsOf F (k + 1) finals) (node : Node) (s : slotOfNode node ≡ slotAt b k) where
@@ -125,20 +126,20 @@ module _ {b ends : List ℕ} {F : Formula} (p : Spells b ends F) (k : ℕ) (h : 
           pick j x y (no d) = getD-set-other finals k j v false (λ u. d (omega arith)) ∙ m .flag j (omega arith) y
 
 -- A whole place, and the next one; the start, where every mask is zero.
-pub masks-next : {F : Formula} {k : ℕ} {masks : List ℕ} → MasksOn F k 41 masks → MasksOf F k masks
+pub masks-next : {F : Formula} {k : ℕ} {masks : List ℕ} → MasksOn F k columnCount masks → MasksOf F k masks
 masks-next {F} {k} {masks} m = record { mask = λ j l x y z. pick j l x y z (ℕ-discrete j k) }
   where
-    pick : (j l : ℕ) → k ≤ j → j ≤ size F → l ≤ 40 → Dec (j ≡ k) → getD masks (j * 41 + l) 0 ≡ targetMask F j l
-    pick j l x y z (yes d) = ap (λ n. getD masks (n * 41 + l) 0) d ∙ (m .here l (omega arith) ∙ ap (λ n. targetMask F n l) (sym d))
+    pick : (j l : ℕ) → k ≤ j → j ≤ size F → l ≤ 40 → Dec (j ≡ k) → getD masks (j * columnCount + l) 0 ≡ targetMask F j l
+    pick j l x y z (yes d) = ap (λ n. getD masks (n * columnCount + l) 0) d ∙ (m .here l (omega arith) ∙ ap (λ n. targetMask F n l) (sym d))
     pick j l x y z (no d) = m .behind .mask j l (omega arith) y z
 
-pub masks-before : {F : Formula} (k : ℕ) {masks : List ℕ} → length masks ≡ 1681 → MasksFit masks → MasksOf F (k + 1) masks → MasksOn F k 0 masks
+pub masks-before : {F : Formula} (k : ℕ) {masks : List ℕ} → length masks ≡ masksLength → MasksFit masks → MasksOf F (k + 1) masks → MasksOn F k 0 masks
 masks-before k e f m = record { long = e; behind = m; here = λ i x. absurd (omega arith); fit = f }
 
 pub masks-end : (F : Formula) (masks : List ℕ) → ((i : ℕ) → getD masks i 0 ≡ 0) → MasksOf F (size F) masks
-masks-end F masks h = record { mask = λ j l x y z. h (j * 41 + l) ∙ sym (mask-past F j l x) }
+masks-end F masks h = record { mask = λ j l x y z. h (j * columnCount + l) ∙ sym (mask-past F j l x) }
 
-pub finals-end : (F : Formula) (finals : List Bool) → length finals ≡ 41 → ((i : ℕ) → i < 41 → getD finals i false ≡ true) → size F ≤ 40 → FinalsOf F (size F) finals
+pub finals-end : (F : Formula) (finals : List Bool) → length finals ≡ placeCount → ((i : ℕ) → i < placeCount → getD finals i false ≡ true) → size F ≤ 40 → FinalsOf F (size F) finals
 finals-end F finals e h few = record { long = e; flag = λ j x y. h j (omega arith) ∙ sym (final-past F j x) }
 
 -- Fresh arrays.
@@ -148,7 +149,7 @@ zeros-at (suc n) zero = refl
 zeros-at (suc n) (suc i) = zeros-at n i
 
 -- Place k - 1, where those from k on are done.
-pub masks-from : {F : Formula} {k : ℕ} {masks : List ℕ} → 0 < k → length masks ≡ 1681 → MasksFit masks → MasksOf F k masks → MasksOn F (k - 1) 0 masks
+pub masks-from : {F : Formula} {k : ℕ} {masks : List ℕ} → 0 < k → length masks ≡ masksLength → MasksFit masks → MasksOf F k masks → MasksOn F (k - 1) 0 masks
 masks-from {F} {k} {masks} h e f m = let z : k ≡ k - 1 + 1 = omega arith in masks-before (k - 1) e f (subst (λ j. MasksOf F j masks) z m)
 
 pub finals-from : {F : Formula} {k : ℕ} {finals : List Bool} → 0 < k → FinalsOf F k finals → FinalsOf F (k - 1 + 1) finals

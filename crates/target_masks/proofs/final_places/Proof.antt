@@ -1,4 +1,5 @@
 -- `masks::final_places` meets its contract: the flags from place k on are right.
+use Rattle.automaton.specs.Sizes.{placeCount}
 use Rattle.target_masks.proofs.final_places.Statement.{statement}
 use Rattle.target_masks.proofs.final_places.Tie as tie
 use Rattle.formulas.proofs.node.node_at.Reads as node-at-reads
@@ -24,7 +25,7 @@ node-count-requires c κs = c .before .pre .0
 
 loop-holds : tie.Need-loop-holds Inv-loop μ-loop
 loop-holds c = let n = c .node-count .ensures in
-    (omega (arith, n), λ F p. subst (λ k. FinalsOf F k (replicate 41 true)) (sym (n ∙ p .count)) (finals-end F _ (length-replicate 41 true) (λ i h. getD-replicate 41 i true false h) (p .few)))
+    (omega (arith, n), λ F p. subst (λ k. FinalsOf F k (replicate placeCount true)) (sym (n ∙ p .count)) (finals-end F _ (length-replicate placeCount true) (λ i h. getD-replicate placeCount i true false h) (p .few)))
 
 sub-k : tie.Need-sub-k Inv-loop μ-loop
 sub-k c = omega arith

@@ -2,6 +2,7 @@
 use mathlib.Core.Path.{_≡_, refl, sym, ap, _∙_, subst}
 use Prim.Native.Nat.{_+_, _-_, _≤_, _<_}
 use native.Mathlib.Omega.{arith}
+use Rattle.automaton.specs.Sizes.{placeCount}
 use Rattle.actl.specs.Formulas.{Formula}
 use Rattle.target_masks.specs.Masks.{Spells, MasksOn}
 use Rattle.target_masks.proofs.Laws.Places.{place-few, place-shaped, masks-turn-at}
@@ -9,19 +10,19 @@ use Rattle.target_masks.proofs.mask_place.Statement.{statement}
 use Rattle.target_masks.proofs.mask_place.Tie as tie
 
 abbrev Inv-loop : tie.InvT-loop
-Inv-loop formula ends masks₀ k end node last right l₀ masks l = (l ≤ 41) × ((F : Formula) → Spells formula ends F → MasksOn F k l masks)
+Inv-loop formula ends masks₀ k end node last right l₀ masks l = (l ≤ placeCount) × ((F : Formula) → Spells formula ends F → MasksOn F k l masks)
 
 abbrev μ-loop : tie.MeasureT-loop
-μ-loop formula ends masks₀ k end node last right l₀ masks l = 41 - l
+μ-loop formula ends masks₀ k end node last right l₀ masks l = placeCount - l
 
 -- The place is one of 40, and in the loop the other arm's is one of 41, and the column one of 41.
 few : (c : tie.Start Inv-loop μ-loop) → c .args .k < 40
 few c = place-few (c .pre .1 .0 .1) (c .args .k) (c .pre .0 .1)
 
-few-here : (c : tie.After-column Inv-loop μ-loop) → (c .before .before .before .before .before .before .before .before .args .k < 40) × (c .column .result < 41)
+few-here : (c : tie.After-column Inv-loop μ-loop) → (c .before .before .before .before .before .before .before .before .args .k < 40) × (c .column .result < placeCount)
 few-here c = (few (c .before .before .before .before .before .before .before .before), c .column .ensures .1)
 
-few-other : (c : tie.After-column Inv-loop μ-loop) → (c .before .before .before .other-arm .result ≤ 40) × (c .column .result < 41)
+few-other : (c : tie.After-column Inv-loop μ-loop) → (c .before .before .before .other-arm .result ≤ 40) × (c .column .result < placeCount)
 few-other c = (c .before .before .before .other-arm .ensures .0, c .column .ensures .1)
 
 node-count-requires : tie.Need-node-count-requires Inv-loop μ-loop
@@ -116,7 +117,7 @@ loop-again c =
 returns : tie.Need-returns Inv-loop μ-loop
 returns c =
     let loop = c .before .loop in
-    let last : loop .l ≡ 41 = omega (arith, c .loop-test .left, loop .inv .0) in
+    let last : loop .l ≡ placeCount = omega (arith, c .loop-test .left, loop .inv .0) in
     λ F p. subst (λ n. MasksOn F (c .before .before .before .before .before .before .before .args .k) n (loop .masks)) last (loop .inv .1 F p)
 
 pub mask-place-spec : {M : Type 1} → statement M

@@ -1,4 +1,5 @@
 -- `masks::target_masks` meets its contract: the masks from place k on are right.
+use Rattle.automaton.specs.Sizes.{masksLength}
 use Rattle.target_masks.proofs.target_masks.Statement.{statement}
 use Rattle.target_masks.proofs.target_masks.Tie as tie
 use Rattle.formulas.proofs.node.node_count.Reads as node-count-reads
@@ -11,7 +12,7 @@ use Rattle.target_masks.specs.Masks.{Spells, MasksFit, MasksOf}
 use Rattle.target_masks.proofs.Laws.Places.{zeros-at, masks-from, masks-next, masks-end}
 
 abbrev Inv-loop : tie.InvT-loop
-Inv-loop formula ends masks₀ k₀ masks k = (k ≤ getD formula 0 0) × (length masks ≡ 1681) × MasksFit masks × ((F : Formula) → Spells formula ends F → MasksOf F k masks)
+Inv-loop formula ends masks₀ k₀ masks k = (k ≤ getD formula 0 0) × (length masks ≡ masksLength) × MasksFit masks × ((F : Formula) → Spells formula ends F → MasksOf F k masks)
 
 abbrev μ-loop : tie.MeasureT-loop
 μ-loop formula ends masks₀ k₀ masks k = k
@@ -22,9 +23,9 @@ node-count-requires c κs = c .before .pre .0
 loop-holds : tie.Need-loop-holds Inv-loop μ-loop
 loop-holds c = let n = c .node-count .ensures in (
   omega (arith, n),
-  length-replicate {A = ℕ} 1681 0,
-  λ i. subst (λ m. m < 2199023255552) (sym (zeros-at 1681 i)) (omega arith),
-  λ F p. subst (λ k. MasksOf F k (replicate 1681 0)) (sym (n ∙ p .count)) (masks-end F _ (zeros-at 1681)),
+  length-replicate {A = ℕ} masksLength 0,
+  λ i. subst (λ m. m < 2199023255552) (sym (zeros-at masksLength i)) (omega arith),
+  λ F p. subst (λ k. MasksOf F k (replicate masksLength 0)) (sym (n ∙ p .count)) (masks-end F _ (zeros-at masksLength)),
 )
 
 sub-k : tie.Need-sub-k Inv-loop μ-loop

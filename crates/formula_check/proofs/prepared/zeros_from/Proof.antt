@@ -1,5 +1,6 @@
 -- `zeros_from` meets its contract: the test of bytes is the one over each of them.
 use borrow.Author.Needs.{needs}
+use Rattle.actl.specs.Sizes.{formulaLength}
 use Rattle.formula_check.proofs.prepared.zeros_from.Statement.{statement}
 use Rattle.formula_check.proofs.prepared.zeros_from.Tie as tie
 use mathlib.Core.Path.{_≡_, refl, sym, _∙_}
@@ -20,12 +21,12 @@ use Rattle.actl.proofs.Laws.Lists.{passed-all}
 zeros-requires : tie.Need-zeros-requires
 zeros-requires c κs = search needs
 
-module _ (b : List ℕ) (from : ℕ) (few : from ≤ 681) where
-  each : zerosFrom b from ≡ true → ZerosFrom b from 681
-  each e k l m = eqb-true (getD b k 0) 0 (every-of (λ i. eqb (getD b i 0) 0) (upFrom from (681 - from)) e k (upFrom-to from (681 - from) k l (omega arith)))
+module _ (b : List ℕ) (from : ℕ) (few : from ≤ formulaLength) where
+  each : zerosFrom b from ≡ true → ZerosFrom b from formulaLength
+  each e k l m = eqb-true (getD b k 0) 0 (every-of (λ i. eqb (getD b i 0) 0) (upFrom from (formulaLength - from)) e k (upFrom-to from (formulaLength - from) k l (omega arith)))
 
-  decided : (r : Bool) → Decides (ZerosFrom b from 681) r → r ≡ zerosFrom b from
-  decided true d = sym (passed-all (λ i. eqb (getD b i 0) 0) from (681 - from) 681 (omega arith) (λ i l m. eq-eqb (getD b i 0) 0 (d .yes refl i l m)))
+  decided : (r : Bool) → Decides (ZerosFrom b from formulaLength) r → r ≡ zerosFrom b from
+  decided true d = sym (passed-all (λ i. eqb (getD b i 0) 0) from (formulaLength - from) formulaLength (omega arith) (λ i l m. eq-eqb (getD b i 0) 0 (d .yes refl i l m)))
   decided false d = go (zerosFrom b from) refl
     where
       go : (t : Bool) → zerosFrom b from ≡ t → false ≡ t

@@ -3,16 +3,17 @@ use Prim.Native.Nat.{_-_, _≤_}
 use native.Mathlib.Omega.{arith}
 use mathlib.Core.Path.{_≡_, refl, ap, _∙_}
 use lib.ListN.{length, replicate, length-set}
+use Rattle.actl.specs.Sizes.{formulaLength}
 use Rattle.columns.specs.Write.{pasted}
 use Rattle.actl.proofs.ReadingBytes.{zeros-none, zeros-more}
 use Rattle.formula_text.proofs.writing.put_zeros.Statement.{statement}
 use Rattle.formula_text.proofs.writing.put_zeros.Tie as tie
 
 abbrev Inv-loop : tie.InvT-loop
-Inv-loop formula₀ from i₀ formula i = (from ≤ i) × (i ≤ 681) × (formula ≡ pasted formula₀ from (replicate (i - from) 0)) × (length formula ≡ length formula₀)
+Inv-loop formula₀ from i₀ formula i = (from ≤ i) × (i ≤ formulaLength) × (formula ≡ pasted formula₀ from (replicate (i - from) 0)) × (length formula ≡ length formula₀)
 
 abbrev μ-loop : tie.MeasureT-loop
-μ-loop formula₀ from i₀ formula i = 681 - i
+μ-loop formula₀ from i₀ formula i = formulaLength - i
 
 loop-holds : tie.Need-loop-holds Inv-loop μ-loop
 loop-holds c = (omega arith, c .pre .0, zeros-none (c .args .from) (c .args .formula .now), refl)
@@ -39,7 +40,7 @@ returns : tie.Need-returns Inv-loop μ-loop
 returns c =
     let a = c .before .before .args in
     let l = c .before .loop in
-    let e : l .i ≡ 681 = omega arith in
+    let e : l .i ≡ formulaLength = omega arith in
     l .inv .2 ∙ ap (λ n. pasted (a .formula .now) (a .from) (replicate (n - a .from) 0)) e
 
 pub put-zeros-spec : {M : Type 1} → statement M

@@ -4,6 +4,7 @@ use mathlib.Core.Bool.{Bool, false}
 use Prim.Native.Nat.{ℕ, _≤_, _<_, _+_, _-_}
 use native.Mathlib.Omega.{arith}
 use lib.ListN.{length, getD, replicate, length-replicate}
+use Rattle.actl.specs.Sizes.{nodePositions}
 use Rattle.labelling.specs.Nodes.{RowsFrom}
 use Rattle.labelling.proofs.Laws.Prepared.{formula-long, rows-none, rows-all}
 use Rattle.labelling.proofs.nodes.label_nodes.Statement.{statement}
@@ -25,7 +26,7 @@ loop-holds : tie.Need-loop-holds Inv-loop μ-loop
 loop-holds c =
     let start = c .before .before .before .before in
     let counted = c .node-count .ensures in
-    (omega (arith, counted), subst (λ k. RowsFrom (start .args .table .now) (start .args .formula .now) k (replicate 10240 false)) (sym counted) (rows-none _ _ _ (length-replicate 10240 false)))
+    (omega (arith, counted), subst (λ k. RowsFrom (start .args .table .now) (start .args .formula .now) k (replicate nodePositions false)) (sym counted) (rows-none _ _ _ (length-replicate nodePositions false)))
 
 sub-k : tie.Need-sub-k Inv-loop μ-loop
 sub-k c = omega (arith, c .loop-test .taken)

@@ -3,6 +3,7 @@ use mathlib.Core.Path.{_≡_, refl, sym, ap, _∙_}
 use mathlib.Core.Bool.{Bool, true, false}
 use Prim.Native.Nat.{ℕ, _≤_, _<_, _+_, _-_}
 use native.Mathlib.Omega.{arith}
+use Rattle.lts.specs.Sizes.{mostSteps}
 use Rattle.lts.specs.Lists.{anyOf}
 use Rattle.lts.specs.Steps.{Step}
 use Rattle.tables.specs.StepArray.{stepAt, stepsBetween, stepsIn, spanOf}
@@ -25,7 +26,7 @@ abbrev wanted : tie.Start Inv-loop μ-loop → Step → Bool
 wanted c = leadsAsWanted (c .args .wanted) (condIn (c .args .condition)) (flagAt (c .args .arm .now))
 
 -- The step at k has its place.
-placed : (c : tie.In-loop Inv-loop μ-loop) → c .before .loop .k < 1280
+placed : (c : tie.In-loop Inv-loop μ-loop) → c .before .loop .k < mostSteps
 placed c =
     let start = c .before .before .before in
     omega (arith, c .loop-test .taken, c .before .loop .inv .1, start .pre .0 .few (start .args .s) (start .pre .1))

@@ -1,4 +1,7 @@
 use borrow.Author.Needs.{needs}
+use Rattle.actl.specs.Sizes.{formulaLength}
+use Rattle.explanations.specs.Sizes.{rowsLength, edgesLength, keptLength}
+use Rattle.lts.specs.Sizes.{tableLength}
 use Rattle.listing_text.proofs.files.explain_files.Statement.{statement}
 use Rattle.listing_text.proofs.files.explain_files.Tie as tie
 use Rattle.listing_text.proofs.files.explain_files.Reads as reads
@@ -45,7 +48,7 @@ write-reply-requires c κs =
     let call = c .before .before .before .before .before .before .before .explain in
     let a = c .before .before .before .before .before .before .before .before .before .before .before .before .before .before .before .before .before .args in
     let n = c .before .before .before .before .before .before .before .before .before .before .before .before .before .before .least in
-    few-counts (a .tablefile .now) (take (n .result) (a .head .now)) (replicate 3718 0) (replicate 681 0) (replicate 3072 0) (replicate 20480 0) (omega arith) (omega arith) (omega arith) (omega arith) (call .result) (call .ensures .outcome .reply)
+    few-counts (a .tablefile .now) (take (n .result) (a .head .now)) (replicate tableLength 0) (replicate formulaLength 0) (replicate rowsLength 0) (replicate edgesLength 0) (omega arith) (omega arith) (omega arith) (omega arith) (call .result) (call .ensures .outcome .reply)
 
 returns : tie.Need-returns
 returns c =
@@ -55,10 +58,10 @@ returns c =
     let a = c .before .before .before .before .before .before .before .before .before .before .before .before .before .before .before .before .before .before .args in
     let part = take (n .result) (a .head .now) in
     let outcome = call .ensures .outcome in
-    let is = reply-text (a .tablefile .now) part (replicate 3718 0) (replicate 681 0) (replicate 3072 0) (replicate 20480 0) (omega arith) (omega arith) (long .result) (call .result) (call .last .1 .1 .1 .1 .0) (call .last .1 .1 .1 .1 .1 .0) (outcome .reply) (outcome .rows-left) (outcome .edges-left) in (
+    let is = reply-text (a .tablefile .now) part (replicate tableLength 0) (replicate formulaLength 0) (replicate rowsLength 0) (replicate edgesLength 0) (omega arith) (omega arith) (long .result) (call .result) (call .last .1 .1 .1 .1 .0) (call .last .1 .1 .1 .1 .1 .0) (outcome .reply) (outcome .rows-left) (outcome .edges-left) in (
       λ table formula b h.
           let size = long .ensures formula (a .head .now) h in
-          let text = scanned-text formula (a .head .now) (a .scanned) h (n .result) (n .ensures ∙ ap (λ k. min k 513) size) in
+          let text = scanned-text formula (a .head .now) (a .scanned) h (n .result) (n .ensures ∙ ap (λ k. min k keptLength) size) in
           subst (λ (l : List ℕ). TextWritten l (a .out .now) (c .write-reply .last .1 .1 .1 .1 .0) (c .write-reply .result))
           (is ∙ files-text (a .tablefile .now) part table formula (long .result) b text size) (c .write-reply .ensures .0),
       c .write-reply .ensures .1,

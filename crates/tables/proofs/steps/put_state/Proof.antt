@@ -7,6 +7,7 @@ use native.Mathlib.Omega.{arith}
 use lib.ListN.{length}
 use lib.Seq.{slice}
 use borrow.Author.Needs.{needs}
+use Rattle.lts.specs.Sizes.{mostSteps}
 use Rattle.lts.specs.Steps.{idleAt}
 use Rattle.lts.specs.Prepared.{tableIn}
 use Rattle.tables.specs.StepArray.{stepCode, exitsBelow}
@@ -16,10 +17,10 @@ use Rattle.tables.proofs.steps.put_state.Statement.{statement}
 use Rattle.tables.proofs.steps.put_state.Tie as tie
 
 -- There is a place for the idle step.
-room : (c : tie.Start) → (c .args .at < 1280) × (c .args .at < length (c .args .steps .now))
+room : (c : tie.Start) → (c .args .at < mostSteps) × (c .args .at < length (c .args .steps .now))
 room c =
     let few = exits-at-most (tableIn (c .args .table .now) .transitions) (c .args .s) in
-    let fits : c .args .at < 1280 = omega (arith, few, c .pre .0 .in-range .few-transitions, c .pre .1 .0 .0, c .pre .1 .1 .1 .0, c .pre .1 .1 .1 .1) in
+    let fits : c .args .at < mostSteps = omega (arith, few, c .pre .0 .in-range .few-transitions, c .pre .1 .0 .0, c .pre .1 .1 .1 .0, c .pre .1 .1 .1 .1) in
     (fits, omega (arith, c .pre .1 .1 .0))
 
 next : (c : tie.Start) → c .args .b ≡ exitsBelow (tableIn (c .args .table .now) .transitions) (suc (c .args .s))

@@ -5,6 +5,7 @@ use Prim.Native.Nat.{_+_, _-_, _≤_, _<_}
 use native.Mathlib.Omega.{arith}
 use lib.ListN.{length, length-set}
 use lib.Seq.{slice}
+use Rattle.lts.specs.Sizes.{mostSteps}
 use Rattle.lts.specs.Prepared.{tableIn}
 use Rattle.tables.specs.Access.{stepIn}
 use Rattle.tables.specs.StepArray.{stepCode}
@@ -14,7 +15,7 @@ use Rattle.tables.proofs.steps.put_transitions.Statement.{statement}
 use Rattle.tables.proofs.steps.put_transitions.Tie as tie
 
 abbrev Inv-loop : tie.InvT-loop
-Inv-loop table steps₀ at a b p₀ j₀ steps p j = (j ≤ b) × (p + (b - j) ≤ 1280) × (length steps ≡ 1280)
+Inv-loop table steps₀ at a b p₀ j₀ steps p j = (j ≤ b) × (p + (b - j) ≤ mostSteps) × (length steps ≡ mostSteps)
     × PutSoFar (map stepCode (slice a b (tableIn table .transitions))) at steps₀ (map stepCode (slice j b (tableIn table .transitions))) p steps
 
 abbrev μ-loop : tie.MeasureT-loop

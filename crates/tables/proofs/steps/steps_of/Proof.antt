@@ -4,6 +4,7 @@ use Prim.Native.Nat.{ℕ, suc, _+_, _-_, _≤_, _<_}
 use native.Mathlib.Numerals.{add-one}
 use native.Mathlib.Omega.{arith}
 use lib.ListN.{length-replicate}
+use Rattle.lts.specs.Sizes.{mostSteps, firstsLength}
 use Rattle.lts.specs.Prepared.{tableIn}
 use Rattle.tables.specs.StepArray.{exitsBelow}
 use Rattle.tables.proofs.Laws.Exits.{exits-none, exits-grow}
@@ -18,7 +19,7 @@ abbrev μ-loop : tie.MeasureT-loop
 μ-loop table n steps₀ firsts₀ at₀ a₀ s₀ steps firsts at a s = 256 - s
 
 -- The steps put so far have their places.
-fits : (c : tie.At-loop Inv-loop μ-loop) → c .loop .at ≤ 1280
+fits : (c : tie.At-loop Inv-loop μ-loop) → c .loop .at ≤ mostSteps
 fits c =
     let start = c .before .before .before in
     below-fits (tableIn (start .args .table .now)) (start .pre .in-range) (c .loop .inv .0) (c .loop .inv .2)
@@ -30,7 +31,7 @@ loop-holds : tie.Need-loop-holds Inv-loop μ-loop
 loop-holds c =
     let t = tableIn (c .before .before .args .table .now) in
     let none : 0 ≡ exitsBelow (t .transitions) 0 = sym (exits-none (t .transitions) 0 (λ y m. omega arith)) in
-    (omega arith, none, below-none t _ _ (length-replicate {A = ℕ} 1280 0) (length-replicate {A = ℕ} 257 0))
+    (omega arith, none, below-none t _ _ (length-replicate {A = ℕ} mostSteps 0) (length-replicate {A = ℕ} firstsLength 0))
 
 add-exits-end : tie.Need-add-exits-end Inv-loop μ-loop
 add-exits-end c = omega arith

@@ -2,6 +2,7 @@
 use mathlib.Core.Path.{_≡_, sym, ap, _∙_}
 use Prim.Native.Nat.{ℕ, _≤_, _<_, _+_, _-_}
 use native.Mathlib.Omega.{arith}
+use Rattle.lts.specs.Sizes.{mostSteps}
 use Rattle.tables.specs.StepArray.{stepsBetween, stepsIn, spanOf}
 use Rattle.tables.specs.declared.steps.Span.{Span}
 use Rattle.frontier.specs.Reached.{stepsTaken}
@@ -17,7 +18,7 @@ abbrev μ-loop : tie.MeasureT-loop
 μ-loop steps firsts s label places next₀ end k₀ next k = end - k
 
 -- The step at k has its place.
-placed : (c : tie.In-loop Inv-loop μ-loop) → c .before .loop .k < 1280
+placed : (c : tie.In-loop Inv-loop μ-loop) → c .before .loop .k < mostSteps
 placed c =
     let start = c .before .before .before in
     omega (arith, c .loop-test .taken, c .before .loop .inv .0, start .pre .0 .few (start .args .s) (start .pre .1))

@@ -6,6 +6,7 @@ use Prim.Native.Nat.{ℕ, _+_, _*_, _-_, _<_}
 use native.Mathlib.Omega.{arith}
 use lib.Bits.{bitOr}
 use lib.ListN.{getD}
+use Rattle.automaton.specs.Sizes.{placeCount, columnCount}
 use Rattle.target_masks.specs.Masks.{bitAt}
 use Rattle.frontier.specs.Reached.{maskAt, targetsAdded, targetsOf}
 use Rattle.frontier.proofs.Laws.Bits.{BitsFrom, bits-all, bits-some, bits-first, bits-rest}
@@ -15,10 +16,10 @@ use Rattle.words.proofs.reading.targets_of.Tie as tie
 
 abbrev Inv-loop : tie.InvT-loop
 Inv-loop masks places label at found₀ rest₀ k₀ found rest k =
-    BitsFrom places k rest × (k < 64 → bitAt places k ≡ true) × (targetsOf masks places label ≡ left (targetsAdded masks places label) 41 k found)
+    BitsFrom places k rest × (k < 64 → bitAt places k ≡ true) × (targetsOf masks places label ≡ left (targetsAdded masks places label) placeCount k found)
 
 abbrev μ-loop : tie.MeasureT-loop
-μ-loop masks places label at found₀ rest₀ k₀ found rest k = 41 - k
+μ-loop masks places label at found₀ rest₀ k₀ found rest k = placeCount - k
 
 idle : (masks : List ℕ) (places label k found : ℕ) → bitAt places k ≡ false → targetsAdded masks places label k found ≡ found
 idle masks places label k found e = ap (λ b. cond b (bitOr found (maskAt masks k label)) found) e
@@ -33,7 +34,7 @@ loop-holds : tie.Need-loop-holds Inv-loop μ-loop
 loop-holds c =
     let a = c .before .before .args in
     let first = c .next-bit .ensures in
-    (bits-all (a .places) first, first .found, left-skip (targetsAdded (a .masks .now) (a .places) (a .label)) 41 (bitAt (a .places)) (idle (a .masks .now) (a .places) (a .label)) 0 first)
+    (bits-all (a .places) first, first .found, left-skip (targetsAdded (a .masks .now) (a .places) (a .label)) placeCount (bitAt (a .places)) (idle (a .masks .now) (a .places) (a .label)) 0 first)
 
 mul-found : tie.Need-mul-found Inv-loop μ-loop
 mul-found c = omega arith
@@ -76,14 +77,14 @@ loop-again c =
       bits-rest (loop .inv .0) few set next,
       first .found,
       loop .inv .2
-          ∙ left-turn (targetsAdded (a .masks .now) (a .places) (a .label)) 41 (bitAt (a .places)) (idle (a .masks .now) (a .places) (a .label)) (loop .found) _ taken
-          (ap (λ b. cond b more (loop .found)) set ∙ ap (λ n. bitOr (loop .found) (getD (a .masks .now) (loop .k * 41 + n) 0)) (sym (found .ensures .0))) first,
+          ∙ left-turn (targetsAdded (a .masks .now) (a .places) (a .label)) placeCount (bitAt (a .places)) (idle (a .masks .now) (a .places) (a .label)) (loop .found) _ taken
+          (ap (λ b. cond b more (loop .found)) set ∙ ap (λ n. bitOr (loop .found) (getD (a .masks .now) (loop .k * columnCount + n) 0)) (sym (found .ensures .0))) first,
     )
 
 returns : tie.Need-returns Inv-loop μ-loop
 returns c =
     let a = c .before .before .before .before .args in
-    sym (c .before .loop .inv .2 ∙ left-over (targetsAdded (a .masks .now) (a .places) (a .label)) 41 (c .before .loop .k) (c .before .loop .found) (c .loop-test .left))
+    sym (c .before .loop .inv .2 ∙ left-over (targetsAdded (a .masks .now) (a .places) (a .label)) placeCount (c .before .loop .k) (c .before .loop .found) (c .loop-test .left))
 
 pub targets-of-spec : {M : Type 1} → statement M
 targets-of-spec =
