@@ -7,7 +7,7 @@ use native.Mathlib.Numerals.{add-one}
 use native.Mathlib.Omega.{arith}
 use lib.ListN.{length, getD, take, drop, set, replicate, length-append, length-set, length-replicate, length-map, take-append-drop, replicate-append-replicate}
 use lib.Seq.{length-take-le, take-at, drop-append-add, drop-drop, take-suc-set}
-use Rattle.actl.specs.Sizes.{formulaLength}
+use Rattle.actl.specs.Sizes.{mostNodes, formulaLength}
 use Rattle.columns.specs.Write.{pasted}
 use Rattle.columns.proofs.Laws.Pasting.{pasted-length, set-pasted}
 use Rattle.columns.specs.Bytes.{lowFirst}
@@ -103,7 +103,7 @@ nodes-more c e x y k h p q =
     let l = length-cell-bytes c k in
     pasted-then 1 (1 + k * 17) (cellBytes c k) (bytesAt c k) e x y p (omega arith) (omega arith) q ∙ ap (λ b. pasted e 1 b) (cell-bytes-more c k)
 
-pub bytes-pasted : (c : List ℕ) (n : ℕ) (e x y z : List ℕ) → n ≤ 40 → formulaLength ≤ length e → x ≡ set e 0 n → y ≡ pasted x 1 (cellBytes c n) → z ≡ pasted y (1 + n * 17) (replicate (formulaLength - (1 + n * 17)) 0) → z ≡ pasted e 0 (preparedBytes c n)
+pub bytes-pasted : (c : List ℕ) (n : ℕ) (e x y z : List ℕ) → n ≤ mostNodes → formulaLength ≤ length e → x ≡ set e 0 n → y ≡ pasted x 1 (cellBytes c n) → z ≡ pasted y (1 + n * 17) (replicate (formulaLength - (1 + n * 17)) 0) → z ≡ pasted e 0 (preparedBytes c n)
 bytes-pasted c n e x y z h w p q r =
     let l = length-cell-bytes c n in
     let a : x ≡ pasted e 0 (n ∷ []) = p ∙ set-pasted e 0 n (omega arith) in
@@ -120,7 +120,7 @@ pub record Kinds (c : List ℕ) (n k : ℕ) (x : List ℕ) : Type 0 where
 pub kinds-none : (c : List ℕ) (n : ℕ) (x : List ℕ) → length x ≡ 40 → Kinds c n 0 x
 kinds-none c n x l = record { few = omega arith; long = l; same = refl }
 
-pub kinds-more : (c : List ℕ) (n k : ℕ) (x : List ℕ) → n ≤ 40 → k < n → Kinds c n k x → Kinds c n (k + 1) (set x k (getD c (k * 3) 0 % 256))
+pub kinds-more : (c : List ℕ) (n k : ℕ) (x : List ℕ) → n ≤ mostNodes → k < n → Kinds c n k x → Kinds c n (k + 1) (set x k (getD c (k * 3) 0 % 256))
 kinds-more c n k x h w m = record {
   few = omega arith;
   long = length-set x k (getD c (k * 3) 0 % 256) ∙ m .long;

@@ -6,13 +6,13 @@ use native.Mathlib.Numerals.{add-one}
 use native.Mathlib.Omega.{arith}
 use lib.ListN.{length, getD, take, drop, set, length-append, length-take, length-drop, take-append-drop, drop-of-length-le, List·getD-append}
 use lib.Seq.{length-take-le, take-suc, drop-cons, take-append-le, take-at, drop-at, set-at, getD-take, take-take, sets-eq}
-use Rattle.actl.specs.Sizes.{cellsLength}
+use Rattle.actl.specs.Sizes.{longestText, cellsLength}
 use Rattle.lts.proofs.Lists.{bind-append}
 use Rattle.actl.specs.Formulas.{Formula, nodes}
 use Rattle.actl.specs.Prepared.{slotOf}
 use Rattle.actl.specs.Readers.{slotCells, nodeCells, putAt, joinedAt, CellsWritten}
 
-pub put-written : (n k f g : ℕ) (e : List ℕ) → length e ≡ cellsLength → n < 512 → set (set (set e (n * 3) k) (n * 3 + 1) f) (n * 3 + 2) g ≡ putAt n k f g e
+pub put-written : (n k f g : ℕ) (e : List ℕ) → length e ≡ cellsLength → n < longestText → set (set (set e (n * 3) k) (n * 3 + 1) f) (n * 3 + 2) g ≡ putAt n k f g e
 put-written n k f g e l h =
     let i = n * 3 in
     let a : i + 1 ≡ suc i = add-one i in
@@ -26,7 +26,7 @@ moved n i e = take (i + 3) e ++ (drop i (take (n * 3) e) ++ drop (n * 3 + 3) e)
 pub moved-none : (n : ℕ) (e : List ℕ) → e ≡ moved n (n * 3) e
 moved-none n e = sym (take-append-drop (n * 3 + 3) e) ∙ ap (λ l. take (n * 3 + 3) e ++ (l ++ drop (n * 3 + 3) e)) (sym (drop-of-length-le (take (n * 3) e) (let z : length (take (n * 3) e) ≤ n * 3 = rw length-take (omega arith) in z)))
 
-module _ (n k : ℕ) (e : List ℕ) (long : length e ≡ cellsLength) (few : n < 512) (h : k < n * 3) where
+module _ (n k : ℕ) (e : List ℕ) (long : length e ≡ cellsLength) (few : n < longestText) (h : k < n * 3) where
   pub moved-read : getD (moved n (k + 1) e) k 0 ≡ getD e k 0
   moved-read = List·getD-append (take (k + 1 + 3) e) _ 0 k (let z : k < length (take (k + 1 + 3) e) = rw length-take (omega arith) in z) ∙ getD-take (k + 1 + 3) e k 0 (omega arith)
 
@@ -44,12 +44,12 @@ module _ (n k : ℕ) (e : List ℕ) (long : length e ≡ cellsLength) (few : n <
       ∙ (set-at (take (k + 3) e) (getD e (k + 3) 0) (q ++ r) (getD e k 0) (k + 3) (length-take-le (k + 3) e (omega arith))
       ∙ ap (λ l. take (k + 3) e ++ (l ++ r)) (sym c))))
 
-pub moved-step : (n i : ℕ) (e x : List ℕ) → length e ≡ cellsLength → n < 512 → 0 < i → i ≤ n * 3 → x ≡ moved n i e → set x (i - 1 + 3) (getD x (i - 1) 0) ≡ moved n (i - 1) e
+pub moved-step : (n i : ℕ) (e x : List ℕ) → length e ≡ cellsLength → n < longestText → 0 < i → i ≤ n * 3 → x ≡ moved n i e → set x (i - 1 + 3) (getD x (i - 1) 0) ≡ moved n (i - 1) e
 moved-step n i e x l h z w p =
     let a : i ≡ i - 1 + 1 = omega arith in
     ap (λ y. set y (i - 1 + 3) (getD y (i - 1) 0)) (p ∙ ap (λ j. moved n j e) a) ∙ moved-more n (i - 1) e l h (omega arith)
 
-pub length-moved : (n i : ℕ) (e : List ℕ) → length e ≡ cellsLength → n < 512 → i ≤ n * 3 → length (moved n i e) ≡ cellsLength
+pub length-moved : (n i : ℕ) (e : List ℕ) → length e ≡ cellsLength → n < longestText → i ≤ n * 3 → length (moved n i e) ≡ cellsLength
 length-moved n i e l h w =
     let a = length-take-le (i + 3) e (omega arith) in
     let b = length-take-le (n * 3) e (omega arith) in
@@ -57,7 +57,7 @@ length-moved n i e l h w =
     ∙ omega (arith, length-append (drop i (take (n * 3) e)) (drop (n * 3 + 3) e), length-drop i (take (n * 3) e), length-drop (n * 3 + 3) e)
 
 -- All have moved, and `|` is put before them.
-pub joined-written : (start n : ℕ) (e : List ℕ) → length e ≡ cellsLength → start ≤ n → n < 512 → putAt start 3 0 0 (moved n (start * 3) e) ≡ joinedAt start n e
+pub joined-written : (start n : ℕ) (e : List ℕ) → length e ≡ cellsLength → start ≤ n → n < longestText → putAt start 3 0 0 (moved n (start * 3) e) ≡ joinedAt start n e
 joined-written start n e l h w =
     let i = start * 3 in
     let r = drop i (take (n * 3) e) ++ drop (n * 3 + 3) e in
@@ -73,7 +73,7 @@ written-none n e = record { long = refl; cells = sym (append-nil (take (n * 3) e
 pub written-more : {n m k : ℕ} {e x y l j : List ℕ} → CellsWritten n m e x l → CellsWritten m k x y j → CellsWritten n k e y (l ++ j)
 written-more {n} {e} {l} {j} p q = record { long = q .long ∙ p .long; cells = q .cells ∙ (ap (λ h. h ++ j) (p .cells) ∙ append-assoc (take (n * 3) e) l j) }
 
-pub put-node : (n k f g : ℕ) (e x : List ℕ) → length e ≡ cellsLength → n < 512 → x ≡ putAt n k f g e → CellsWritten n (n + 1) e x (k ∷ f ∷ g ∷ [])
+pub put-node : (n k f g : ℕ) (e x : List ℕ) → length e ≡ cellsLength → n < longestText → x ≡ putAt n k f g e → CellsWritten n (n + 1) e x (k ∷ f ∷ g ∷ [])
 put-node n k f g e x l h p =
     let i = n * 3 in
     let a = length-take-le i e (omega arith) in
@@ -85,7 +85,7 @@ put-node n k f g e x l h p =
       cells = ap (take ((n + 1) * 3)) (p ∙ sym (append-assoc (take i e) v (drop (i + 3) e))) ∙ take-at (take i e ++ v) (drop (i + 3) e) ((n + 1) * 3) c;
     }
 
-pub join-nodes : (start n : ℕ) (e x y l : List ℕ) → length e ≡ cellsLength → start ≤ n → n < 512 → CellsWritten start n e x l → y ≡ joinedAt start n x → CellsWritten start (n + 1) e y (3 ∷ 0 ∷ 0 ∷ l)
+pub join-nodes : (start n : ℕ) (e x y l : List ℕ) → length e ≡ cellsLength → start ≤ n → n < longestText → CellsWritten start n e x l → y ≡ joinedAt start n x → CellsWritten start (n + 1) e y (3 ∷ 0 ∷ 0 ∷ l)
 join-nodes start n e x y l w h k p q =
     let i = start * 3 in
     let a = length-take-le i e (omega arith) in

@@ -9,6 +9,7 @@ use native.Mathlib.Omega.{arith}
 use lib.ListN.{length, take, drop, length-append, length-drop}
 use lib.Pow.{shl-exact}
 use lib.Seq.{take-at}
+use Rattle.actl.specs.Sizes.{mostNodes}
 use Rattle.columns.specs.Bytes.{sameBytes}
 use Rattle.lts.specs.Names.{findFrom, lookup}
 use Rattle.actl.specs.Actions.{Action, maskOf}
@@ -66,7 +67,7 @@ pub found-range : (N : List (List ℕ)) (y : List ℕ) (a : ℕ) → some a ≡ 
 found-range N y a e = let z = found-from 1 N y a e in omega (arith, z .0, z .1)
 
 -- Shifts within a word.
-pub shifted-all : (n : ℕ) → n ≤ 40 → 2 * 2 ^ n % 2 ^ 64 ≡ maskOf n Action.any + 2
+pub shifted-all : (n : ℕ) → n ≤ mostNodes → 2 * 2 ^ n % 2 ^ 64 ≡ maskOf n Action.any + 2
 shifted-all n h = shl-exact 2 n 64 (omega arith) (omega arith) ∙ (sym (pow-succ' 2 n) ∙ mask-any n)
 
 pub shifted-one : (a : ℕ) → a ≤ 40 → 1 * 2 ^ a % 2 ^ 64 ≡ 2 ^ a

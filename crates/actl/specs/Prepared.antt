@@ -6,7 +6,7 @@ use mathlib.Core.Option.{Option, none, some}
 use Prim.Native.Nat.{ℕ, zero, suc, _+_, _*_, _^_, _%_, _≤_, _<_}
 use lib.Dec.{leb, ltb, eqb}
 use lib.ListN.{length, getD, take, drop}
-use Rattle.actl.specs.Sizes.{formulaLength}
+use Rattle.actl.specs.Sizes.{mostNodes, formulaLength}
 use Rattle.columns.specs.Bytes.{sameBytes, padded, lowFirst}
 use Rattle.lts.specs.Lists.{upFrom, bind, every}
 use Rattle.actl.specs.Actions.{Mask, Cond, silent, labels}
@@ -50,7 +50,7 @@ slotWithin n s = maskWithin n (s .first) && maskWithin n (s .second)
 -- 01: "the one form, given in docs/, of 1 to 40 nodes in order, each with a class, sets within this table's labels"
 pub record IsForm (n : ℕ) (b : List ℕ) (F : Formula) : Type 0 where
   pub form : take formulaLength b ≡ formulaBytes F
-  pub few : size F ≤ 40
+  pub few : size F ≤ mostNodes
   pub classed : (f : Formula) → List·Memᴰ f (nodes F) → classOf f ≡ 0 → ⊥
   pub within : (f : Formula) → List·Memᴰ f (nodes F) → slotWithin n (slotOf f) ≡ true
 
@@ -97,7 +97,7 @@ treesIn (s ∷ l) = pushOn s (treesIn l)
 
 -- The same as `IsForm`, as a test.
 abbrev pub isForm : ℕ → List ℕ → Formula → Bool
-isForm n b F = sameBytes (take formulaLength b) (formulaBytes F) && leb (size F) 40 && every (λ f. negate (eqb (classOf f) 0)) (nodes F) && every (λ f. slotWithin n (slotOf f)) (nodes F)
+isForm n b F = sameBytes (take formulaLength b) (formulaBytes F) && leb (size F) mostNodes && every (λ f. negate (eqb (classOf f) 0)) (nodes F) && every (λ f. slotWithin n (slotOf f)) (nodes F)
 
 abbrev pub formed : ℕ → List ℕ → Option (List Formula) → Option Formula
 formed n b none = none

@@ -6,7 +6,7 @@ use mathlib.Core.List.{List, [], _∷_, _++_}
 use mathlib.Core.Option.{Option, none, some}
 use Prim.Native.Nat.{ℕ, zero, suc, _+_, _*_, _-_, _≤_, _<_}
 use lib.ListN.{length, take, drop}
-use Rattle.actl.specs.Sizes.{cellsLength}
+use Rattle.actl.specs.Sizes.{longestText, cellsLength}
 use Rattle.lts.specs.Lists.{bind}
 use Rattle.lts.specs.Names.{lookup}
 use Rattle.lts.specs.Prepared.{tableIn}
@@ -28,7 +28,7 @@ namesIn b = tableIn b .names
 -- Where a reader may begin: over a table's bytes b, at a token of a text that is not too long.
 pub record ReaderStart (b s : List ℕ) (at : ℕ) : Type 0 where
   pub table : HoldsTable b
-  pub short : length s ≤ 512
+  pub short : length s ≤ longestText
   pub token : Token s at
 
 -- The first of the names that the table lacks, by its offset in a text of n bytes.

@@ -5,6 +5,7 @@ use mathlib.Core.Option.{Option, none, some}
 use Prim.Native.Nat.{ℕ, _-_}
 use lib.Dec.{leb}
 use lib.ListN.{length}
+use Rattle.actl.specs.Sizes.{mostNodes, longestText}
 use Rattle.lts.specs.Reply.{Reply, accepted, refusal, unless}
 use Rattle.lts.specs.Names.{lookup}
 use Rattle.actl.specs.Formulas.{Formula, size, highestWithoutClass}
@@ -29,11 +30,11 @@ firstUnknown names f (m ∷ l) = unknownAt (lookup names (m .name .bytes)) (offs
 
 -- 01: "over 40 nodes", then "a node without class: the highest-numbered one"
 abbrev pub withClasses : Formula → Reply Formula
-withClasses F = unless (leb (size F) 40) 8 (size F) (unlessFound (highestWithoutClass F) 9 (accepted F))
+withClasses F = unless (leb (size F) mostNodes) 8 (size F) (unlessFound (highestWithoutClass F) 9 (accepted F))
 
 abbrev pub onResult : List (List ℕ) → List ℕ → Result → Reply Formula
 onResult names text (refused rest) = refusal 6 (length text - length rest)
 onResult names text (whole f) = unlessFound (firstUnknown names f (namesF f [])) 7 (withClasses (formulaOf names f))
 
 unfoldable pub readFormula : List (List ℕ) → List ℕ → Reply Formula
-readFormula names text = unless (leb (length text) 512) 5 (length text) (onResult names text (read text))
+readFormula names text = unless (leb (length text) longestText) 5 (length text) (onResult names text (read text))

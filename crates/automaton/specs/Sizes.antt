@@ -16,3 +16,7 @@ columnCount = suc mostLabels
 
 abbrev pub masksLength : ℕ
 masksLength = placeCount * columnCount
+
+-- 01: "A word (at most 1,024 label numbers)"
+abbrev pub longestWord : ℕ
+longestWord = 1024

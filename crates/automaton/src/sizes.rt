@@ -16,3 +16,5 @@ pub const MASKS_LENGTH: usize = PLACES * COLUMNS;
 pub const ROW_LENGTH: usize = 3;
 
 pub const EDGE_LENGTH: usize = 5;
+
+pub const LONGEST_WORD: usize = 1024;

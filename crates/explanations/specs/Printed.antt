@@ -5,6 +5,7 @@ use mathlib.Core.List.{List, [], _∷_, _++_}
 use Prim.Native.Nat.{ℕ, zero, suc, _+_, _*_}
 use lib.Dec.{eqb}
 use lib.ListN.{length, getD, replicate}
+use Rattle.explanations.specs.Sizes.{rowsLent, edgesLent}
 use Rattle.columns.specs.Columns.{numbersLine}
 use Rattle.lts.specs.Lists.{upFrom, bind}
 use Rattle.lts.specs.Reply.{Reply, accepted, refusal, overwritten}
@@ -64,4 +65,4 @@ withoutEnd (b ∷ c ∷ l) = b ∷ withoutEnd (c ∷ l)
 -- What `explain` writes for the contents of its two files. "The program lends places for 1,024 rows and 4,096 edges."
 unfoldable pub explainText : List ℕ → List ℕ → List ℕ
 explainText tableFile formulaFile =
-    printed (explanation tableFile (withoutEnd formulaFile) (replicate (1024 * rowLength) 0) (replicate (4096 * edgeLength) 0))
+    printed (explanation tableFile (withoutEnd formulaFile) (replicate (rowsLent * rowLength) 0) (replicate (edgesLent * edgeLength) 0))

@@ -11,7 +11,7 @@ ghost use mathlib.Core.Bool.{_&&_, _||_};
 ghost use Prim.Native.Nat.{_+_, _*_, _<_, _≤_};
 ghost use lib.Dec.{eqb, leb};
 ghost use lib.ListN.{length};
-ghost use Rattle.actl.specs.Sizes.{formulaLength};
+ghost use Rattle.actl.specs.Sizes.{mostNodes, formulaLength};
 ghost use Rattle.actl.specs.Prepared.{maskWithin, slotAt};
 ghost use Rattle.actl.specs.Shaped.{firstUsed, secondUsed};
 ghost use Rattle.actl.specs.Check.{isPrepared, slotFits, slotsFit, zerosFrom};
@@ -51,7 +51,7 @@ fn masks_of(kind: u8) -> u8
 }
 
 fn slot_fits(labels: usize, formula: &[u8], k: usize) -> bool
-    requires { ⌜ (formulaLength ≤ length (now formula)) × (k < 40) ⌝ }
+    requires { ⌜ (formulaLength ≤ length (now formula)) × (k < mostNodes) ⌝ }
     ensures { λ r. ⌜ r ≡ slotFits labels (slotAt (now (formula .entry)) k) ⌝ }
 {
     let kind = formula[1 + k * NODE_SLOT];
@@ -68,7 +68,7 @@ fn slot_fits(labels: usize, formula: &[u8], k: usize) -> bool
 }
 
 fn slots_fit(labels: usize, formula: &[u8], count: usize) -> bool
-    requires { ⌜ (formulaLength ≤ length (now formula)) × (count ≤ 40) ⌝ }
+    requires { ⌜ (formulaLength ≤ length (now formula)) × (count ≤ mostNodes) ⌝ }
     ensures { λ r. ⌜ r ≡ slotsFit labels (now (formula .entry)) count ⌝ }
 {
     let mut k = 0;

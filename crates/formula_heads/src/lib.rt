@@ -1,6 +1,7 @@
 // Reading a keyword with its square bracket: the kind and the masks of its node.
 ghost use Prim.Native.Nat.{_+_, _-_, _≤_, _<_};
 ghost use lib.ListN.{length};
+ghost use Rattle.actl.specs.Sizes.{longestText};
 ghost use Rattle.lts.specs.HoldsTable.{HoldsTable};
 ghost use Rattle.actl.specs.Readers.{namesIn, ReaderStart, NoMark, NoKeyword};
 ghost use Rattle.formula_heads.specs.HeadReplies.{NextSays, UntilSays, HeadSays};
@@ -18,7 +19,7 @@ pub enum Heading {
 
 // The bracket of EX or AX, whose node has the kind `base` for the silent step, and one more for a set.
 fn next_head(table: &[u8], text: &[u8], c: Cursor, base: u64, lost: usize) -> Heading
-    requires { ⌜ HoldsTable (now table) × (length (now text) ≤ 512) × (c .at ≤ length (now text)) × (base < 8) ⌝ }
+    requires { ⌜ HoldsTable (now table) × (length (now text) ≤ longestText) × (c .at ≤ length (now text)) × (base < 8) ⌝ }
     ensures { λ r. ⌜ NextSays (namesIn (now (table .entry))) (now (text .entry)) (c .at) base lost r ⌝ }
 {
     let o = c.skip_blanks(text);
@@ -40,7 +41,7 @@ fn next_head(table: &[u8], text: &[u8], c: Cursor, base: u64, lost: usize) -> He
 
 // The bracket of EU, with one set or two.
 fn until_head(table: &[u8], text: &[u8], c: Cursor, lost: usize) -> Heading
-    requires { ⌜ HoldsTable (now table) × (length (now text) ≤ 512) × (c .at ≤ length (now text)) ⌝ }
+    requires { ⌜ HoldsTable (now table) × (length (now text) ≤ longestText) × (c .at ≤ length (now text)) ⌝ }
     ensures { λ r. ⌜ UntilSays (namesIn (now (table .entry))) (now (text .entry)) (c .at) lost r ⌝ }
 {
     let o = c.skip_blanks(text);

@@ -4,6 +4,7 @@ use mathlib.Core.List.{List, [], _∷_, _++_}
 use Prim.Native.Nat.{ℕ, _+_, _-_, _≤_, _<_}
 use native.Mathlib.Omega.{arith}
 use lib.ListN.{length, drop}
+use Rattle.actl.specs.Sizes.{longestText}
 use Rattle.actl.specs.Formulas.{size}
 use Rattle.actl.specs.Grammar.{gap, Disjunction, term, or, Term, showF, showT}
 use Rattle.actl.specs.Reader.{InDisjunction, InTerm, tFirst, tOr, termAt, afterDisjunction, plugT}
@@ -86,7 +87,7 @@ module _ {N : List (List ℕ)} {s : List ℕ} {at n lost : ℕ} {e : List ℕ} {
       lacks = joined-lacks;
     }
 
-    module _ {g : ℕ} (t : Tokened s f 124 g) (short : length s ≤ 512) where
+    module _ {g : ℕ} (t : Tokened s f 124 g) (short : length s ≤ longestText) where
       pub join-fits : m < 512
       join-fits = omega (arith, room .below, j .few, h .few, b .up, t .skipped .up, t .skipped .within)
 

@@ -3,6 +3,7 @@ ghost use mathlib.Core.Path.{_≡_};
 ghost use mathlib.Core.Option.{some};
 ghost use Prim.Native.Nat.{_+_, _*_, _-_, _<_};
 ghost use lib.ListN.{length};
+ghost use Rattle.actl.specs.Sizes.{longestText};
 ghost use Rattle.lts.specs.HoldsTable.{HoldsTable};
 ghost use Rattle.actl.specs.Actions.{Action, maskOf};
 ghost use Rattle.actl.specs.Cursor.{Named};
@@ -29,7 +30,7 @@ fn all_labels(table: &[u8]) -> u64
 
 // The first offset so far is kept.
 fn earlier_of(lost: usize, at: usize) -> usize
-    requires { ⌜ at < 512 ⌝ }
+    requires { ⌜ at < longestText ⌝ }
     ensures { λ r. ⌜ r ≡ earlier lost (some at) ⌝ }
 {
     if lost == 0 { at + 1 } else { lost }

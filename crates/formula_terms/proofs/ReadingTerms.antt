@@ -5,6 +5,7 @@ use mathlib.Core.List.{List, [], _∷_, _++_}
 use Prim.Native.Nat.{ℕ, suc, _+_, _-_, _≤_, _<_}
 use native.Mathlib.Omega.{arith}
 use lib.ListN.{length, drop}
+use Rattle.actl.specs.Sizes.{longestText}
 use Rattle.actl.specs.Formulas.{Formula, size}
 use Rattle.actl.specs.Grammar.{gap, existential, universal, Head, next, until, untilThen, tru, not, modal, paren, showT, showH}
 use Rattle.actl.specs.Reader.{fParen, tFirst, tNot, tModal, termAt, afterDisjunction, plugT}
@@ -33,9 +34,9 @@ modal-cells N (next universal a b c d) f = refl
 modal-cells N (until a b x d) f = refl
 modal-cells N (untilThen a b x c d y e) f = refl
 
-module _ (N : List (List ℕ)) (s : List ℕ) (at n lost : ℕ) (e : List ℕ) (room : NodeRoom e at n) (short : length s ≤ 512) where
+module _ (N : List (List ℕ)) (s : List ℕ) (at n lost : ℕ) (e : List ℕ) (room : NodeRoom e at n) (short : length s ≤ longestText) where
   -- A byte of the text is left for each node that is still to come.
-  pub node-fits : at < length s → n < 512
+  pub node-fits : at < length s → n < longestText
   node-fits h = omega (arith, room .below)
 
   pub term-true : {to : ℕ} {x : List ℕ} → Marked s at 84 to → x ≡ putAt n 1 0 0 e → TermRead N s at n lost e to (n + 1) lost x
@@ -52,10 +53,10 @@ module _ (N : List (List ℕ)) (s : List ℕ) (at n lost : ℕ) (e : List ℕ) (
   pub inner-room : {d mark : ℕ} → Tokened s at mark d → NodeRoom e d n
   inner-room t = record { below = omega (arith, room .below, t .skipped .up); long = room .long }
 
-  pub token-fits : {d mark : ℕ} → Tokened s at mark d → n < 512
+  pub token-fits : {d mark : ℕ} → Tokened s at mark d → n < longestText
   token-fits t = node-fits (omega (arith, t .skipped .up, t .skipped .within))
 
-  module _ {x : List ℕ} (k f g : ℕ) (fits : n < 512) (p : x ≡ putAt n k f g e) where
+  module _ {x : List ℕ} (k f g : ℕ) (fits : n < longestText) (p : x ≡ putAt n k f g e) where
     first-node : CellsWritten n (n + 1) e x (k ∷ f ∷ g ∷ [])
     first-node = put-node n k f g e x (room .long) fits p
 
@@ -115,7 +116,7 @@ module _ (N : List (List ℕ)) (s : List ℕ) (at n lost : ℕ) (e : List ℕ) (
     headed : Moves s at d (λ r. showH (h .value) (gap (d - a) r)) termAt (λ i. termAt (tModal (h .value) i (d - a)))
     headed = then (h .moves) (skip (λ g i. termAt (tModal (h .value) i g)) (λ g i. refl) b)
 
-    pub head-fits : n < 512
+    pub head-fits : n < longestText
     head-fits = node-fits (omega (arith, h .up, h .moves .within))
 
     pub head-up : at < d

@@ -5,7 +5,7 @@ use actl::sizes::CELLS;
 ghost use mathlib.Core.Path.{_≡_};
 ghost use Prim.Native.Nat.{_+_, _*_, _-_, _≤_, _<_};
 ghost use lib.ListN.{length};
-ghost use Rattle.actl.specs.Sizes.{cellsLength};
+ghost use Rattle.actl.specs.Sizes.{longestText, cellsLength};
 ghost use Rattle.lts.specs.HoldsTable.{HoldsTable};
 ghost use Rattle.actl.specs.Readers.{namesIn, ReaderStart, putAt, joinedAt, NodeRoom};
 ghost use Rattle.formula_terms.specs.TermReplies.{TermSays, BracketSays, FormulaSays, ReadingSays};
@@ -34,7 +34,7 @@ pub enum Reading {
 
 // Node n: its kind and its masks.
 fn put(cells: &mut [u64; CELLS], n: usize, kind: u64, first: u64, second: u64)
-    requires { ⌜ (length (now cells) ≡ cellsLength) × (n < 512) ⌝ }
+    requires { ⌜ (length (now cells) ≡ cellsLength) × (n < longestText) ⌝ }
     ensures { λ r. ⌜ now (cells .exit) ≡ putAt n kind first second (now (cells .entry)) ⌝ }
 {
     let at = n * CELL;
@@ -45,7 +45,7 @@ fn put(cells: &mut [u64; CELLS], n: usize, kind: u64, first: u64, second: u64)
 
 // The nodes from `start` up to n move up by one, and `|` stands before them.
 fn join(cells: &mut [u64; CELLS], start: usize, n: usize)
-    requires { ⌜ (length (now cells) ≡ cellsLength) × (start ≤ n) × (n < 512) ⌝ }
+    requires { ⌜ (length (now cells) ≡ cellsLength) × (start ≤ n) × (n < longestText) ⌝ }
     ensures { λ r. ⌜ now (cells .exit) ≡ joinedAt start n (now (cells .entry)) ⌝ }
 {
     let low = start * CELL;
@@ -152,7 +152,7 @@ fn formula(
 
 // A whole text of at most 512 bytes.
 pub fn read_text(table: &[u8], text: &[u8], cells: &mut [u64; CELLS]) -> Reading
-    requires { ⌜ HoldsTable (now table) × (length (now text) ≤ 512) × (length (now cells) ≡ cellsLength) ⌝ }
+    requires { ⌜ HoldsTable (now table) × (length (now text) ≤ longestText) × (length (now cells) ≡ cellsLength) ⌝ }
     ensures { λ r. ⌜ ReadingSays (namesIn (now (table .entry))) (now (text .entry)) (now (cells .exit)) r ⌝ }
 {
     let c = Cursor { at: 0 };

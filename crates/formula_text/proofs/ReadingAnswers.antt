@@ -10,6 +10,7 @@ use borrow.Author.Tests.{le-leb, lt-leb}
 use lib.Dec.{leb}
 use lib.ListN.{length, getD, take, drop, replicate}
 use lib.Seq.{getD-take, getD-drop}
+use Rattle.actl.specs.Sizes.{mostNodes}
 use Rattle.columns.specs.Write.{pasted}
 use Rattle.columns.specs.Bytes.{lowFirst}
 use Rattle.lts.specs.Lists.{upFrom, bind}
@@ -73,7 +74,7 @@ module _ (c : List ℕ) (n : ℕ) (F : Formula) (count : n ≡ size F) (cells : 
   pub kinds-are : cellKinds c n ≡ kindsOf F
   kinds-are = ap (cellKinds c) same-count ∙ map-numbered tru (λ k. getD c (k * 3) 0 % 256) kindOf (nodes F) 0 (λ i w. ap (λ j. getD c (j * 3) 0 % 256) (zero-add i) ∙ kind-of i (omega (arith, same-count)))
 
-  pub bytes-are : n ≤ 40 → preparedBytes c n ≡ formulaBytes F
+  pub bytes-are : n ≤ mostNodes → preparedBytes c n ≡ formulaBytes F
   unfolding formulaBytes
   bytes-are h =
       let b : cellBytes c n ≡ bind (λ f. slotBytes (slotOf f)) (nodes F) = ap (cellBytes c) same-count ∙ bind-numbered tru (bytesAt c) (λ f. slotBytes (slotOf f)) (nodes F) 0 (λ i w. ap (bytesAt c) (zero-add i) ∙ bytes-of i (omega (arith, same-count))) in
@@ -90,13 +91,13 @@ module _ (c : List ℕ) (n lost : ℕ) (e : List ℕ) (F : Formula) where
     pub answer-many : (o : Option ℕ) → CellsHold c n lost F o → 40 < n → FormulaAnswered (unlessFound o 7 (withClasses F)) e (TooManyNodes n) e
     answer-many (some a) h w = absurd (omega (arith, h .lacks))
     answer-many none h w =
-        let t : leb (size F) 40 ≡ false = lt-leb (size F) 40 (omega (arith, h .count)) in
+        let t : leb (size F) mostNodes ≡ false = lt-leb (size F) mostNodes (omega (arith, h .count)) in
         let q : withClasses F ≡ refusal 8 n = ap (λ v. unless v 8 (size F) (unlessFound (highestWithoutClass F) 9 (accepted F))) t ∙ ap (refusal 8) (sym (h .count)) in
         record { replies = sym (ap (answers (λ F. tt)) q); leaves = sym (ap (λ a. leftIn formulaBytes a e) q) }
 
-    module _ (w : n ≤ 40) (h : CellsHold c n lost F none) where
+    module _ (w : n ≤ mostNodes) (h : CellsHold c n lost F none) where
       few : withClasses F ≡ unlessFound (highestWithoutClass F) 9 (accepted F)
-      few = ap (λ v. unless v 8 (size F) (unlessFound (highestWithoutClass F) 9 (accepted F))) (le-leb (size F) 40 (omega (arith, h .count)))
+      few = ap (λ v. unless v 8 (size F) (unlessFound (highestWithoutClass F) 9 (accepted F))) (le-leb (size F) mostNodes (omega (arith, h .count)))
 
       classless : (k : ℕ) → some k ≡ highestWithoutClass F → FormulaAnswered (withClasses F) e (NoClass k) e
       classless k q =
@@ -112,10 +113,10 @@ module _ (c : List ℕ) (n lost : ℕ) (e : List ℕ) (F : Formula) where
             leaves = p ∙ ((λ i. b i ++ drop (0 + length (b i)) e) ∙ (ap (λ k. formulaBytes F ++ drop k e) (zero-add (length (formulaBytes F))) ∙ sym (ap (λ a. leftIn formulaBytes a e) r)));
           }
 
-    pub answer-classless : (o : Option ℕ) → CellsHold c n lost F o → n ≤ 40 → (k : ℕ) → some k ≡ highestWithoutClass F → FormulaAnswered (unlessFound o 7 (withClasses F)) e (NoClass k) e
+    pub answer-classless : (o : Option ℕ) → CellsHold c n lost F o → n ≤ mostNodes → (k : ℕ) → some k ≡ highestWithoutClass F → FormulaAnswered (unlessFound o 7 (withClasses F)) e (NoClass k) e
     answer-classless (some a) h w k q = absurd (omega (arith, h .lacks))
     answer-classless none h w k q = classless w h k q
 
-    pub answer-accepted : (o : Option ℕ) → CellsHold c n lost F o → n ≤ 40 → (x : List ℕ) → none ≡ highestWithoutClass F → x ≡ pasted e 0 (preparedBytes c n) → FormulaAnswered (unlessFound o 7 (withClasses F)) e Accepted x
+    pub answer-accepted : (o : Option ℕ) → CellsHold c n lost F o → n ≤ mostNodes → (x : List ℕ) → none ≡ highestWithoutClass F → x ≡ pasted e 0 (preparedBytes c n) → FormulaAnswered (unlessFound o 7 (withClasses F)) e Accepted x
     answer-accepted (some a) h w x q p = absurd (omega (arith, h .lacks))
     answer-accepted none h w x q p = classed w h x q p

@@ -8,7 +8,7 @@ use native.Mathlib.Omega.{arith}
 use borrow.Author.Tests.{le-leb, lt-leb}
 use lib.Dec.{leb}
 use lib.ListN.{length}
-use Rattle.actl.specs.Sizes.{formulaLength}
+use Rattle.actl.specs.Sizes.{formulaLength, longestText}
 use Rattle.lts.specs.Sizes.{tableLength}
 use Rattle.lts.specs.Reply.{Reply, refusal, unless, leftIn, answers}
 use Rattle.lts.specs.Steps.{Table}
@@ -75,7 +75,7 @@ module _ (b s e : List ℕ) where
         unfolding readFormula
         long-text h = refuses _ e (TooLong (length s)) 5 (length s) (text-read ∙ stops (leb (length s) 512) 5 (length s) (onResult (namesIn b) s (read s)) (lt-leb (length s) 512 h)) refl
 
-        module _ (short : length s ≤ 512) where
+        module _ (short : length s ≤ longestText) where
           result : formulaReading b s e ≡ onResult (namesIn b) s (read s)
           unfolding readFormula
           result = text-read ∙ passes (leb (length s) 512) 5 (length s) (onResult (namesIn b) s (read s)) (le-leb (length s) 512 short)

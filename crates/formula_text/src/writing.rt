@@ -7,7 +7,7 @@ use actl::sizes::NODES;
 ghost use mathlib.Core.Path.{_≡_};
 ghost use Prim.Native.Nat.{_+_, _*_, _-_, _≤_, _<_};
 ghost use lib.ListN.{length, take, replicate};
-ghost use Rattle.actl.specs.Sizes.{formulaLength, cellsLength};
+ghost use Rattle.actl.specs.Sizes.{mostNodes, formulaLength, cellsLength};
 ghost use Rattle.columns.specs.Bytes.{lowFirst};
 ghost use Rattle.columns.specs.Write.{pasted};
 ghost use Rattle.actl.specs.Writing.{nodeBytes, cellBytes, cellKinds, preparedBytes};
@@ -40,7 +40,7 @@ fn put_node(formula: &mut [u8], at: usize, kind: u64, first: u64, second: u64)
 }
 
 fn put_nodes(cells: &[u64; CELLS], n: usize, formula: &mut [u8])
-    requires { ⌜ (length (now cells) ≡ cellsLength) × (n ≤ 40) × (formulaLength ≤ length (now formula)) ⌝ }
+    requires { ⌜ (length (now cells) ≡ cellsLength) × (n ≤ mostNodes) × (formulaLength ≤ length (now formula)) ⌝ }
     ensures { λ r. ⌜ now (formula .exit) ≡ pasted (now (formula .entry)) 1 (cellBytes (now (cells .entry)) n) ⌝ }
 {
     let mut k = 0;
@@ -70,7 +70,7 @@ fn put_zeros(formula: &mut [u8], from: usize)
 }
 
 fn write_bytes(cells: &[u64; CELLS], n: usize, formula: &mut [u8])
-    requires { ⌜ (length (now cells) ≡ cellsLength) × (n ≤ 40) × (formulaLength ≤ length (now formula)) ⌝ }
+    requires { ⌜ (length (now cells) ≡ cellsLength) × (n ≤ mostNodes) × (formulaLength ≤ length (now formula)) ⌝ }
     ensures { λ r. ⌜ now (formula .exit) ≡ pasted (now (formula .entry)) 0 (preparedBytes (now (cells .entry)) n) ⌝ }
 {
     formula[0] = n as u8;
@@ -79,7 +79,7 @@ fn write_bytes(cells: &[u64; CELLS], n: usize, formula: &mut [u8])
 }
 
 fn kinds_of(cells: &[u64; CELLS], n: usize) -> [u8; NODES]
-    requires { ⌜ (length (now cells) ≡ cellsLength) × (n ≤ 40) ⌝ }
+    requires { ⌜ (length (now cells) ≡ cellsLength) × (n ≤ mostNodes) ⌝ }
     ensures { λ r. ⌜ take n r ≡ cellKinds (now (cells .entry)) n ⌝ }
 {
     let mut kinds = [0u8; NODES];

@@ -4,7 +4,7 @@ ghost use mathlib.Core.Path.{_≡_};
 ghost use mathlib.Core.Bool.{true};
 ghost use Prim.Native.Nat.{_+_, _*_, _<_, _≤_};
 ghost use lib.ListN.{length, getD, drop};
-ghost use Rattle.actl.specs.Sizes.{formulaLength};
+ghost use Rattle.actl.specs.Sizes.{mostNodes, formulaLength};
 ghost use Rattle.actl.specs.Prepared.{number, slotAt};
 ghost use Rattle.formulas.specs.Access.{slotOfNode};
 ghost use Rattle.actl.specs.Shaped.{shaped};
@@ -62,7 +62,7 @@ pub fn node_count(formula: &[u8]) -> usize
 // Node k of a formula. `shaped` holds of every node's slot (proofs/Laws/Prepared.antt).
 pub fn node_at(formula: &[u8], k: usize) -> Node
     requires { ⌜ formulaLength ≤ length (now formula) ⌝ }
-    requires { ⌜ k < 40 ⌝ }
+    requires { ⌜ k < mostNodes ⌝ }
     requires { ⌜ shaped (slotAt (now formula) k) ≡ true ⌝ }
     ensures { λ r. ⌜ slotOfNode r ≡ slotAt (now (formula .entry)) k ⌝ }
 {

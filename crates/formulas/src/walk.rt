@@ -6,7 +6,7 @@ ghost use mathlib.Core.Path.{_≡_};
 ghost use mathlib.Core.Option.{none};
 ghost use Prim.Native.Nat.{_+_, _*_, _<_, _≤_};
 ghost use lib.ListN.{length, getD, set, take};
-ghost use Rattle.actl.specs.Sizes.{formulaLength};
+ghost use Rattle.actl.specs.Sizes.{mostNodes, formulaLength};
 ghost use Rattle.actl.specs.Formulas.{classOfOr};
 ghost use Rattle.actl.specs.Walk.{classFrom, classOfArm, kindAt, kindsIn, lastNone};
 ghost use Rattle.formulas.specs.WalkReplies.{Walks, classlessNode, IsHighest, IsShape};
@@ -135,7 +135,7 @@ fn last_none(classes: &[u8]) -> Classless
 
 // 01: "a node without class": "the highest-numbered one". Of a formula, by the kinds of its nodes.
 pub fn highest_classless(kinds: &[u8]) -> Classless
-    requires { ⌜ length (now kinds) ≤ 40 ⌝ }
+    requires { ⌜ length (now kinds) ≤ mostNodes ⌝ }
     ensures { λ r. ⌜ IsHighest r (now (kinds .entry)) ⌝ }
 {
     let mut ends = [0u8; NODES];
@@ -147,7 +147,7 @@ pub fn highest_classless(kinds: &[u8]) -> Classless
 
 // The kinds of a prepared formula's first nodes.
 fn kinds_in(formula: &[u8], count: usize) -> [u8; NODES]
-    requires { ⌜ (formulaLength ≤ length (now formula)) × (count ≤ 40) ⌝ }
+    requires { ⌜ (formulaLength ≤ length (now formula)) × (count ≤ mostNodes) ⌝ }
     ensures { λ r. ⌜ take count r ≡ kindsIn (now (formula .entry)) count ⌝ }
 {
     let mut kinds = [0u8; NODES];
@@ -161,7 +161,7 @@ fn kinds_in(formula: &[u8], count: usize) -> [u8; NODES]
 
 // Whether the first nodes of prepared bytes, in order, are those of one formula with a class.
 pub fn spelled(formula: &[u8], count: usize) -> bool
-    requires { ⌜ (formulaLength ≤ length (now formula)) × (count ≤ 40) ⌝ }
+    requires { ⌜ (formulaLength ≤ length (now formula)) × (count ≤ mostNodes) ⌝ }
     ensures { λ r. ⌜ Decides (SpelledClassed (now (formula .entry)) count) r ⌝ }
 {
     let mut ends = [0u8; NODES];
@@ -208,8 +208,8 @@ fn wide(byte: u8) -> usize
 
 // The right arm of node k, if it has one: it stands behind the whole left arm.
 pub fn right_arm(ends: &[u8; NODES], k: usize) -> usize
-    requires { ⌜ k < 40 ⌝ }
-    ensures { λ r. ⌜ (k + 1 < 40 → r ≡ getD (now (ends .entry)) (k + 1) 0) ⌝ }
+    requires { ⌜ k < mostNodes ⌝ }
+    ensures { λ r. ⌜ (k + 1 < mostNodes → r ≡ getD (now (ends .entry)) (k + 1) 0) ⌝ }
 {
     if k + 1 < NODES {
         wide(ends[k + 1])

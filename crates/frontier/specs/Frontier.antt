@@ -6,11 +6,12 @@ use mathlib.Core.List.{List}
 use Prim.Native.Nat.{ℕ, zero, suc, _+_, _/_, _%_, _^_, _≤_, _<_}
 use lib.Bits.{bitOr}
 use lib.ListN.{getD, set, replicate}
-use Rattle.lts.specs.Sizes.{firstsLength}
+use Rattle.frontier.specs.Sizes.{frontierLength}
+use Rattle.lts.specs.Sizes.{mostStates}
 use Rattle.target_masks.specs.Masks.{bitAt}
 
 abbrev pub marksAt : List ℕ → ℕ → ℕ
-marksAt frontier s = getD frontier (256 + s / 64) 0
+marksAt frontier s = getD frontier (mostStates + s / 64) 0
 
 abbrev pub hasState : List ℕ → ℕ → Bool
 hasState frontier s = bitAt (marksAt frontier s) (s % 64)
@@ -19,15 +20,15 @@ abbrev pub placesAt : List ℕ → ℕ → ℕ
 placesAt frontier s = cond (hasState frontier s) (getD frontier s 0) 0
 
 abbrev pub nowhere : List ℕ
-nowhere = replicate 260 0
+nowhere = replicate frontierLength 0
 
 -- No state has places any more.
 abbrev pub emptied : List ℕ → List ℕ
-emptied frontier = set (set (set (set frontier 256 0) firstsLength 0) 258 0) 259 0
+emptied frontier = set (set (set (set frontier mostStates 0) (mostStates + 1) 0) (mostStates + 2) 0) (mostStates + 3) 0
 
 -- Places brought to a state.
 unfoldable pub brought : ℕ → ℕ → List ℕ → List ℕ
-brought s places frontier = set (set frontier s (bitOr (placesAt frontier s) places)) (256 + s / 64) (bitOr (marksAt frontier s) (2 ^ (s % 64)))
+brought s places frontier = set (set frontier s (bitOr (placesAt frontier s) places)) (mostStates + s / 64) (bitOr (marksAt frontier s) (2 ^ (s % 64)))
 
 -- What n numbers from k on make of a, one after the other.
 unfoldable pub through : {A : Type 0} → (ℕ → A → A) → ℕ → ℕ → A → A
@@ -39,7 +40,7 @@ abbrev pub placesAdded : List ℕ → ℕ → ℕ → ℕ
 placesAdded frontier s found = cond (hasState frontier s) (bitOr found (getD frontier s 0)) found
 
 abbrev pub allPlaces : List ℕ → ℕ
-allPlaces frontier = through (placesAdded frontier) 256 0 0
+allPlaces frontier = through (placesAdded frontier) mostStates 0 0
 
 -- The first number from k on that passes a test; n or more, if there is none below n.
 pub record FirstFrom (p : ℕ → Bool) (k n r : ℕ) : Type 0 where

@@ -1,2 +1,3 @@
 pub mod Frontier
 pub mod Reached
+pub mod Sizes

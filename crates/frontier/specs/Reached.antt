@@ -8,6 +8,7 @@ use lib.Bits.{bitOr}
 use lib.Dec.{eqb}
 use lib.ListN.{length, getD}
 use Rattle.automaton.specs.Sizes.{placeCount, columnCount}
+use Rattle.lts.specs.Sizes.{mostStates, mostLabels}
 use Rattle.lts.specs.Lists.{upFrom, anyOf as any}
 use Rattle.lts.specs.Steps.{Step, labels}
 use Rattle.lts.specs.Prepared.{tableIn}
@@ -46,7 +47,7 @@ abbrev pub stateRead : (ℕ → List Step) → List ℕ → List ℕ → ℕ →
 stateRead from masks reached l s next = cond (hasState reached s) (placesRead (from s) masks (getD reached s 0) l next) next
 
 abbrev pub letterRead : (ℕ → List Step) → List ℕ → ℕ → List ℕ → List ℕ → List ℕ
-letterRead from masks l reached next = through (stateRead from masks reached l) 256 0 (emptied next)
+letterRead from masks l reached next = through (stateRead from masks reached l) mostStates 0 (emptied next)
 
 -- Two frontiers take turns.
 unfoldable pub wordRead : (ℕ → List Step) → List ℕ → List ℕ → List ℕ → List ℕ → List ℕ
@@ -66,7 +67,7 @@ someFinal finals places = any (finalPlace finals places) (upFrom 0 placeCount)
 
 -- Letters that have a mask.
 pub record Letters (w : List ℕ) : Type 0 where
-  pub few : (i : ℕ) → i < length w → getD w i 0 ≤ 40
+  pub few : (i : ℕ) → i < length w → getD w i 0 ≤ mostLabels
 
 -- The answer for the table and the formula in bytes.
 pub record AcceptsAnswer (table formula w : List ℕ) (r : Bool) : Type 0 where

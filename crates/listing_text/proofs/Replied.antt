@@ -6,7 +6,7 @@ use native.Mathlib.Omega.{arith}
 use lib.ListN.{length, take, drop, replicate, length-append, length-drop}
 use lib.Seq.{length-take-le}
 use Rattle.actl.specs.Sizes.{formulaLength}
-use Rattle.explanations.specs.Sizes.{rowsLength, edgesLength, keptLength}
+use Rattle.explanations.specs.Sizes.{rowsLent, edgesLent, rowsLength, edgesLength, keptLength}
 use Rattle.lts.specs.Sizes.{tableLength}
 use Rattle.lts.specs.Reply.{Reply, accepted, refusal}
 use Rattle.lts.proofs.Laws.Texts.{text-of-read}
@@ -61,11 +61,11 @@ module _ (tableText text table formula rows edges : List ℕ) (long : tableLengt
       by (accepted x) d = listing-printed x rows edges (small x d)
 
 pub files-text : (tablefile text table formula : List ℕ) (n : ℕ) → Begins tablefile table → text ≡ take keptLength (withoutEnd formula) → n ≡ length (withoutEnd formula)
-    → printed (withLength n (explanation tablefile text (replicate (1024 * rowLength) 0) (replicate (4096 * edgeLength) 0))) ≡ explainText table formula
+    → printed (withLength n (explanation tablefile text (replicate (rowsLent * rowLength) 0) (replicate (edgesLent * edgeLength) 0))) ≡ explainText table formula
 unfolding explainText
 files-text tablefile text table formula n (m, h, b) t e =
-    let rows : List ℕ = replicate (1024 * rowLength) 0 in
-    let edges : List ℕ = replicate (4096 * edgeLength) 0 in
+    let rows : List ℕ = replicate (rowsLent * rowLength) 0 in
+    let edges : List ℕ = replicate (edgesLent * edgeLength) 0 in
     (λ i. printed (withLength (e i) (explanation (b i) (t i) rows edges))) ∙ ap printed (explanation-begun rows edges m table (withoutEnd formula) h)
 
 -- A text that was written into a buffer has no more bytes than the buffer.

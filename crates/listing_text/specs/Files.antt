@@ -5,7 +5,7 @@ use mathlib.Core.List.{List, _++_}
 use Prim.Native.Nat.{ℕ, _+_, _-_, _≤_}
 use lib.Dec.{eqb}
 use lib.ListN.{length, getD, take, drop}
-use Rattle.explanations.specs.Sizes.{keptLength}
+use Rattle.explanations.specs.Sizes.{rowsLent, edgesLent, keptLength}
 use Rattle.lts.specs.Sizes.{enoughTableText}
 use Rattle.lts.specs.Reply.{Reply, accepted, refusal}
 use Rattle.explanations.specs.Explanation.{Summary}
@@ -38,7 +38,7 @@ replyText (refusal number figure) n rows edges = refusalLine number (cond (eqb n
 
 -- Counts that the program's places hold: 1,024 rows and 4,096 edges.
 abbrev pub Few : Reply Summary → Type 0
-Few (accepted s) = (s .rows ≤ 1024) × (s .edges ≤ 4096)
+Few (accepted s) = (s .rows ≤ rowsLent) × (s .edges ≤ edgesLent)
 Few (refusal number figure) = Unit {0}
 
 -- n counts bytes at the start of a buffer. The second part follows from the first; with both, a caller lends the n bytes without a proof.

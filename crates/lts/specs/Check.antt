@@ -4,7 +4,7 @@ use mathlib.Core.Bool.{true}
 use mathlib.Core.List.{List}
 use Prim.Native.Nat.{ℕ, suc, _+_, _*_, _≤_, _<_}
 use lib.ListN.{length}
-use Rattle.lts.specs.Sizes.{transitionsAt, tableLength}
+use Rattle.lts.specs.Sizes.{mostStates, mostLabels, mostTransitions, transitionsAt, tableLength}
 use Rattle.lts.specs.Names.{isName}
 use Rattle.lts.specs.Steps.{Table, labels}
 use Rattle.lts.specs.Range.{Below, Differ}
@@ -17,9 +17,9 @@ ZerosFrom b i j = (k : ℕ) → i ≤ k → k < j → byteAt b k ≡ 0
 -- 01: "states (1 to 256), labels (0 to 40), transitions (0 to 1,024), start (below states)"
 pub record CountsHeld (t : Table) : Type 0 where
   pub some-state : 1 ≤ t .states
-  pub few-states : t .states ≤ 256
-  pub few-labels : labels t ≤ 40
-  pub few-transitions : length (t .transitions) ≤ 1024
+  pub few-states : t .states ≤ mostStates
+  pub few-labels : labels t ≤ mostLabels
+  pub few-transitions : length (t .transitions) ≤ mostTransitions
   pub starts : t .start < t .states
 
 -- A name stands in slot k, with zeros behind it; and it is none of the names before it.

@@ -5,6 +5,7 @@ use mathlib.Core.Bool.{true}
 use mathlib.Core.List.{List, List·Memᴰ}
 use Prim.Native.Nat.{ℕ, _≤_, _<_}
 use lib.ListN.{length}
+use Rattle.lts.specs.Sizes.{mostStates, mostLabels, mostTransitions}
 use Rattle.lts.specs.Lists.{Rising}
 use Rattle.lts.specs.Steps.{Step, Table, labels}
 use Rattle.lts.specs.Names.{isName}
@@ -25,9 +26,9 @@ pub record StepInRange (t : Table) (st : Step) : Type 0 where
 -- 01: "states (1 to 256), labels (0 to 40), transitions (0 to 1,024), start (below states)"
 pub record InRange (t : Table) : Type 0 where
   pub some-state : 1 ≤ t .states
-  pub few-states : t .states ≤ 256
-  pub few-labels : labels t ≤ 40
-  pub few-transitions : length (t .transitions) ≤ 1024
+  pub few-states : t .states ≤ mostStates
+  pub few-labels : labels t ≤ mostLabels
+  pub few-transitions : length (t .transitions) ≤ mostTransitions
   pub starts : t .start < t .states
   pub named : (n : List ℕ) → List·Memᴰ n (t .names) → isName n ≡ true
   pub names-differ : Rising Differ (t .names)

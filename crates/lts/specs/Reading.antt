@@ -4,6 +4,7 @@ use mathlib.Core.List.{List, [], _∷_, _++_}
 use Prim.Native.Nat.{ℕ, zero, suc, _+_}
 use lib.Dec.{leb, ltb, eqb}
 use lib.ListN.{length, drop}
+use Rattle.lts.specs.Sizes.{mostStates, mostLabels, mostTransitions}
 use Rattle.columns.specs.Bytes.{sameBytes}
 use Rattle.columns.specs.Columns.{valueAt}
 use Rattle.lts.specs.Reply.{Reply, accepted, refusal, unless}
@@ -45,7 +46,7 @@ headerLaidOut h l = sameBytes l (headerLine (h .states) (h .labels) (h .transiti
 
 -- 01: "states (1 to 256), labels (0 to 40), transitions (0 to 1,024), start (below states)"
 abbrev pub headerInRange : Header → Bool
-headerInRange h = leb 1 (h .states) && leb (h .states) 256 && leb (h .labels) 40 && leb (h .transitions) 1024 && ltb (h .start) (h .states)
+headerInRange h = leb 1 (h .states) && leb (h .states) mostStates && leb (h .labels) mostLabels && leb (h .transitions) mostTransitions && ltb (h .start) (h .states)
 
 -- A label's line: its number and its name.
 abbrev pub labelLaidOut : List ℕ → Bool

@@ -22,7 +22,7 @@ use tables::prepared::transition_count;
 ghost use mathlib.Core.Path.{_≡_};
 ghost use Prim.Native.Nat.{_+_, _*_, _≤_, _<_};
 ghost use lib.ListN.{length};
-ghost use Rattle.lts.specs.Sizes.{tableLength};
+ghost use Rattle.lts.specs.Sizes.{mostLabels, mostTransitions, tableLength};
 ghost use Rattle.lts.specs.Steps.{labels};
 ghost use Rattle.lts.specs.Names.{longestName};
 ghost use Rattle.lts.specs.Prepared.{tableIn, byteAt, preparedTable};
@@ -92,7 +92,7 @@ fn counts_held(table: &[u8]) -> bool
 }
 
 fn names_held(table: &[u8]) -> bool
-    requires { ⌜ (tableLength ≤ length (now table)) × (labels (tableIn (now table)) ≤ 40) ⌝ }
+    requires { ⌜ (tableLength ≤ length (now table)) × (labels (tableIn (now table)) ≤ mostLabels) ⌝ }
     ensures { λ r. ⌜ Decides (NamesHeld (now (table .entry))) r ⌝ }
 {
     let n = label_count(table);
@@ -110,7 +110,7 @@ fn names_held(table: &[u8]) -> bool
 }
 
 fn name_held(table: &[u8], k: usize) -> bool
-    requires { ⌜ (tableLength ≤ length (now table)) × (k < 40) ⌝ }
+    requires { ⌜ (tableLength ≤ length (now table)) × (k < mostLabels) ⌝ }
     ensures { λ r. ⌜ Decides (NameHeld (now (table .entry)) k) r ⌝ }
 {
     let at = NAME_BYTES_AT + k * NAME_SLOT;
@@ -125,7 +125,7 @@ fn name_held(table: &[u8], k: usize) -> bool
 }
 
 fn new_name(table: &[u8], k: usize) -> bool
-    requires { ⌜ (tableLength ≤ length (now table)) × ((k < 40) × (byteAt (now table) (6 + k * 16) ≤ longestName)) ⌝ }
+    requires { ⌜ (tableLength ≤ length (now table)) × ((k < mostLabels) × (byteAt (now table) (6 + k * 16) ≤ longestName)) ⌝ }
     ensures { λ r. ⌜ Decides (NewName (now (table .entry)) k) r ⌝ }
 {
     let at = NAME_BYTES_AT + k * NAME_SLOT;
@@ -138,7 +138,7 @@ fn new_name(table: &[u8], k: usize) -> bool
 }
 
 fn transitions_held(table: &[u8]) -> bool
-    requires { ⌜ (tableLength ≤ length (now table)) × (length (tableIn (now table) .transitions) ≤ 1024) ⌝ }
+    requires { ⌜ (tableLength ≤ length (now table)) × (length (tableIn (now table) .transitions) ≤ mostTransitions) ⌝ }
     ensures { λ r. ⌜ Decides (TransitionsHeld (now (table .entry))) r ⌝ }
 {
     let n = transition_count(table);
@@ -155,7 +155,7 @@ fn transitions_held(table: &[u8]) -> bool
 }
 
 fn transition_held(table: &[u8], states: usize, most: usize, k: usize) -> bool
-    requires { ⌜ (tableLength ≤ length (now table)) × (k < 1024) ⌝ }
+    requires { ⌜ (tableLength ≤ length (now table)) × (k < mostTransitions) ⌝ }
     ensures { λ r. ⌜ Decides (TransitionHeld (now (table .entry)) states most k) r ⌝ }
 {
     let here = transition_at(table, k);

@@ -4,7 +4,7 @@ use lts::sizes::TRANSITION;
 ghost use mathlib.Core.Path.{_≡_};
 ghost use Prim.Native.Nat.{_+_, _*_, _<_, _≤_};
 ghost use lib.ListN.{length};
-ghost use Rattle.lts.specs.Sizes.{transitionsLength};
+ghost use Rattle.lts.specs.Sizes.{mostTransitions, transitionsLength};
 ghost use Rattle.columns.specs.Write.{pasted};
 ghost use Rattle.lts.specs.Names.{longestName};
 ghost use Rattle.lts.specs.Prepared.{transitionSlot};
@@ -15,7 +15,7 @@ use tables::prepared::below;
 
 // Whether a transition is above the last of the first `count` in the transition slots.
 pub fn rises(slots: &[u8], count: usize, t: Transition) -> bool
-    requires { ⌜ (length (now slots) ≡ transitionsLength) × (count ≤ 1024) ⌝ }
+    requires { ⌜ (length (now slots) ≡ transitionsLength) × (count ≤ mostTransitions) ⌝ }
     ensures { λ r. ⌜ r ≡ risesAfter (now (slots .entry)) count (stepIn t) ⌝ }
 {
     if count == 0 {

@@ -8,7 +8,7 @@ use lts::sizes::TRANSITIONS_LENGTH;
 ghost use mathlib.Core.Path.{_≡_};
 ghost use Prim.Native.Nat.{_+_, _<_, _≤_};
 ghost use lib.ListN.{length, replicate};
-ghost use Rattle.lts.specs.Sizes.{namesLength, transitionsLength, tableLength};
+ghost use Rattle.lts.specs.Sizes.{mostStates, mostLabels, mostTransitions, namesLength, transitionsLength, tableLength};
 ghost use Rattle.table_text.specs.Replies.{tableReply};
 ghost use Rattle.lts.specs.TableReading.{tableReplied, tableLeft};
 ghost use Rattle.lts.specs.Slots.{headBytes};
@@ -50,7 +50,7 @@ pub enum Progress {
 
 // The line of the label after `count` names.
 fn read_label(text: &[u8], at: usize, names: &mut [u8], count: usize) -> Progress
-    requires { ⌜ (at ≤ length (now text)) × ((length (now names) ≡ namesLength) × (count < 40)) ⌝ }
+    requires { ⌜ (at ≤ length (now text)) × ((length (now names) ≡ namesLength) × (count < mostLabels)) ⌝ }
     ensures { λ r. ⌜ LabelProgress (now (text .entry)) at count (now (names .entry)) (now (names .exit)) r ⌝ }
 {
     let line = count + 2;
@@ -71,7 +71,7 @@ fn read_label(text: &[u8], at: usize, names: &mut [u8], count: usize) -> Progres
 
 // The lines of all labels, from `from`.
 fn read_labels(text: &[u8], from: usize, counts: HeaderFields, names: &mut [u8]) -> Progress
-    requires { ⌜ (from ≤ length (now text)) × ((now names ≡ replicate namesLength 0) × (counts .labels ≤ 40)) ⌝ }
+    requires { ⌜ (from ≤ length (now text)) × ((now names ≡ replicate namesLength 0) × (counts .labels ≤ mostLabels)) ⌝ }
     ensures { λ r. ⌜ LabelsRead (header counts) (now (text .entry)) from (now (names .exit)) r ⌝ }
 {
     let mut at = from;
@@ -95,8 +95,8 @@ fn read_transition(
     slots: &mut [u8],
     count: usize,
 ) -> Progress
-    requires { ⌜ (at ≤ length (now text)) × ((length (now slots) ≡ transitionsLength) × (count < 1024)) ⌝ }
-    requires { ⌜ (counts .states ≤ 256) × (counts .labels ≤ 40) ⌝ }
+    requires { ⌜ (at ≤ length (now text)) × ((length (now slots) ≡ transitionsLength) × (count < mostTransitions)) ⌝ }
+    requires { ⌜ (counts .states ≤ mostStates) × (counts .labels ≤ mostLabels) ⌝ }
     ensures { λ r. ⌜ TransitionProgress (header counts) (now (text .entry)) at count (now (slots .entry)) (now (slots .exit)) r ⌝ }
 {
     let line = counts.labels + count + 2;
@@ -116,7 +116,7 @@ fn read_transition(
 // The lines of all transitions, from `from`, and the end of the text.
 fn read_transitions(text: &[u8], from: usize, counts: HeaderFields, slots: &mut [u8]) -> Progress
     requires { ⌜ (from ≤ length (now text)) × (now slots ≡ replicate transitionsLength 0) ⌝ }
-    requires { ⌜ (counts .states ≤ 256) × ((counts .labels ≤ 40) × (counts .transitions ≤ 1024)) ⌝ }
+    requires { ⌜ (counts .states ≤ mostStates) × ((counts .labels ≤ mostLabels) × (counts .transitions ≤ mostTransitions)) ⌝ }
     ensures { λ r. ⌜ TransitionsRead (header counts) (now (text .entry)) from (now (slots .exit)) r ⌝ }
 {
     let mut at = from;
@@ -137,7 +137,7 @@ fn read_transitions(text: &[u8], from: usize, counts: HeaderFields, slots: &mut 
 
 fn write_table(table: &mut [u8], counts: HeaderFields, names: &[u8], slots: &[u8])
     requires { ⌜ (tableLength ≤ length (now table)) × ((length (now names) ≡ namesLength) × (length (now slots) ≡ transitionsLength)) ⌝ }
-    requires { ⌜ (counts .states ≤ 256) × ((counts .labels ≤ 40) × ((counts .transitions ≤ 1024) × (counts .start < 256))) ⌝ }
+    requires { ⌜ (counts .states ≤ mostStates) × ((counts .labels ≤ mostLabels) × ((counts .transitions ≤ mostTransitions) × (counts .start < 256))) ⌝ }
     ensures { λ _. ⌜ now (table .exit) ≡ overwritten (headBytes (header counts) ++ (now (names .entry) ++ now (slots .entry))) (now (table .entry)) ⌝ }
 {
     let mut head = [0u8; HEAD];

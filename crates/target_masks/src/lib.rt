@@ -19,15 +19,16 @@ ghost use mathlib.Core.Path.{_≡_};
 ghost use Prim.Native.Nat.{_+_, _<_, _≤_};
 ghost use lib.Dec.{eqb};
 ghost use lib.ListN.{length, getD};
-ghost use Rattle.actl.specs.Sizes.{formulaLength};
+ghost use Rattle.actl.specs.Sizes.{mostNodes, formulaLength};
 ghost use Rattle.automaton.specs.Sizes.{placeCount, columnCount};
+ghost use Rattle.lts.specs.Sizes.{mostLabels};
 ghost use Rattle.actl.specs.Formulas.{Formula};
 ghost use Rattle.actl.specs.Prepared.{slotAt};
 ghost use Rattle.target_masks.specs.Masks.{bitIf, columnOf, maskOfNode, finalOfNode, Spells, MasksFit, MasksOf, MasksOn, FinalsOf};
 
 // Bit k, if it is wanted.
 fn bit_if(wanted: bool, k: usize) -> u64
-    requires { ⌜ k ≤ 40 ⌝ }
+    requires { ⌜ k ≤ mostNodes ⌝ }
     ensures { λ r. ⌜ r ≡ bitIf wanted k ⌝ }
 {
     if wanted { 1 << k } else { 0 }
@@ -43,7 +44,7 @@ fn node_mask(
     arm: u64,
     other: u64,
 ) -> u64
-    requires { ⌜ (k < 40) × ((end ≤ 40) × (label ≤ 40)) ⌝ }
+    requires { ⌜ (k < mostNodes) × ((end ≤ mostNodes) × (label ≤ mostLabels)) ⌝ }
     ensures { λ r. ⌜ r ≡ maskOfNode node end k label last arm other ⌝ }
 {
     match node {
@@ -80,18 +81,18 @@ fn node_final(node: Node, arm: bool, other: bool) -> bool
 
 // The right arm of node k, if it has one and the number is a place.
 fn other_arm(ends: &[u8; NODES], k: usize) -> usize
-    requires { ⌜ k < 40 ⌝ }
-    ensures { λ r. ⌜ r ≤ 40 ⌝ }
-    ensures { λ r. ⌜ (k + 1 < 40 → getD (now (ends .entry)) (k + 1) 0 ≤ 40 → r ≡ getD (now (ends .entry)) (k + 1) 0) ⌝ }
+    requires { ⌜ k < mostNodes ⌝ }
+    ensures { λ r. ⌜ r ≤ mostNodes ⌝ }
+    ensures { λ r. ⌜ (k + 1 < mostNodes → getD (now (ends .entry)) (k + 1) 0 ≤ 40 → r ≡ getD (now (ends .entry)) (k + 1) 0) ⌝ }
 {
     let r = right_arm(ends, k);
-    if r <= 40 { r } else { NODES }
+    if r <= NODES { r } else { NODES }
 }
 
 // Whether node k is T.
 fn is_true(formula: &[u8], k: usize) -> bool
     requires { ⌜ formulaLength ≤ length (now formula) ⌝ }
-    ensures { λ r. ⌜ (k < 40 → r ≡ eqb (slotAt (now (formula .entry)) k .kind) 1) ⌝ }
+    ensures { λ r. ⌜ (k < mostNodes → r ≡ eqb (slotAt (now (formula .entry)) k .kind) 1) ⌝ }
 {
     if k < NODES {
         formula[1 + k * NODE_SLOT] == 1
@@ -102,7 +103,7 @@ fn is_true(formula: &[u8], k: usize) -> bool
 
 // The column of a label among the masks of a place.
 pub fn column(label: usize) -> usize
-    requires { ⌜ label ≤ 40 ⌝ }
+    requires { ⌜ label ≤ mostLabels ⌝ }
     ensures { λ r. ⌜ (r ≡ columnOf label) × (r < placeCount) ⌝ }
 {
     label

@@ -11,7 +11,7 @@ use lib.ListN.{length}
 use lib.Pow.{pow-pos}
 use lib.Seq.{take-at}
 use borrow.Author.Tests.{leb-true, lt-ltb}
-use Rattle.actl.specs.Sizes.{formulaLength}
+use Rattle.actl.specs.Sizes.{mostNodes, formulaLength, longestText}
 use Rattle.lts.specs.Reply.{Reply, accepted, refusal, unless}
 use Rattle.lts.proofs.Lists.{and-true-to}
 use Rattle.actl.specs.Actions.{Mask, Cond, silent, labels, maskOf}
@@ -95,7 +95,7 @@ found-accepts none number then e = (refl, e)
 found-accepts (some x) number then e = let z : _≡_ {A = ℕ} 0 1 = cc in absurd (omega arith)
 
 pub record Accepts (n : ℕ) (F : Formula) : Type 0 where
-  pub few : size F ≤ 40
+  pub few : size F ≤ mostNodes
   pub no-classless : highestWithoutClass F ≡ none
   pub within : Within n F
 
@@ -111,7 +111,7 @@ result-accepts names text (whole f) {F} e =
 
 pub reading-accepts : (names : List (List ℕ)) (text : List ℕ) {F : Formula} → readFormula names text ≡ accepted F → Accepts (length names) F
 unfolding readFormula
-reading-accepts names text e = result-accepts names text (read text) (unless-accepts (leb (length text) 512) 5 (length text) (onResult names text (read text)) e .1)
+reading-accepts names text e = result-accepts names text (read text) (unless-accepts (leb (length text) longestText) 5 (length text) (onResult names text (read text)) e .1)
 
 pub accepted-form : (n : ℕ) (F : Formula) (rest : List ℕ) → Accepts n F → IsForm n (formulaBytes F ++ rest) F
 accepted-form n F rest a = record {

@@ -5,7 +5,7 @@ use Prim.Native.Nat.{ℕ, zero, suc, _+_, _*_, _-_, _/_, _%_, _^_, _≤_, _<_}
 use native.Mathlib.Omega.{arith}
 use lib.ListN.{length, getD, take, drop, replicate, length-append, length-replicate}
 use lib.Seq.{drop-drop, getD-drop, getD-take, getD-append-add}
-use Rattle.actl.specs.Sizes.{formulaLength}
+use Rattle.actl.specs.Sizes.{mostNodes, formulaLength}
 use Rattle.columns.specs.Bytes.{padded, lowFirst}
 use Rattle.lts.specs.Lists.{bind}
 use Rattle.actl.specs.Formulas.{Formula, tru, size, nodes}
@@ -28,7 +28,7 @@ length-slot s =
 pub length-padded : (n : ℕ) (l : List ℕ) → length l ≤ n → length (padded n l) ≡ n
 length-padded n l h = omega (arith, length-append l (replicate (n - length l) 0), length-replicate {A = ℕ} (n - length l) 0)
 
-pub length-form : (F : Formula) → size F ≤ 40 → length (formulaBytes F) ≡ formulaLength
+pub length-form : (F : Formula) → size F ≤ mostNodes → length (formulaBytes F) ≡ formulaLength
 unfolding formulaBytes
 length-form F h =
     let e = length-parts nodeBytes 17 (λ f. length-slot (slotOf f)) (nodes F) in
@@ -73,7 +73,7 @@ slot-of-form F k h =
     subst (StandsFor (slotOf f)) (sym (slot-from (formulaBytes F) k ∙ ap slotFrom d)) (slot-front (slotOf f) more)
 
 -- Only the first bytes count.
-pub slot-of-front : (b : List ℕ) (k : ℕ) → k < 40 → slotAt (take formulaLength b) k ≡ slotAt b k
+pub slot-of-front : (b : List ℕ) (k : ℕ) → k < mostNodes → slotAt (take formulaLength b) k ≡ slotAt b k
 slot-of-front b k h =
     let e = getD-take formulaLength b (1 + k * 17) 0 (omega arith) in
     let f = number-take 8 (2 + k * 17) formulaLength b (omega arith) in
@@ -110,7 +110,7 @@ bytes-nodes : (l : List Formula) → Bytes (bind nodeBytes l)
 bytes-nodes [] = λ i. omega arith
 bytes-nodes (f ∷ l) = bytes-append (nodeBytes f) (bind nodeBytes l) (bytes-node f) (bytes-nodes l)
 
-pub form-bytes : (F : Formula) → size F ≤ 40 → (i : ℕ) → getD (formulaBytes F) i 0 < 256
+pub form-bytes : (F : Formula) → size F ≤ mostNodes → (i : ℕ) → getD (formulaBytes F) i 0 < 256
 unfolding formulaBytes
 form-bytes F h =
     let all = bind nodeBytes (nodes F) in

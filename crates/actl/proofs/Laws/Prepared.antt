@@ -11,7 +11,7 @@ use lib.Pow.{pow-mono}
 use lib.ListN.{length, getD, take, length-map, List·getD-map}
 use lib.Seq.{getD-take, ext-getD}
 use borrow.Author.Tests.{leb-true, le-leb, eqb-false, ne-eqb, not-true}
-use Rattle.actl.specs.Sizes.{formulaLength}
+use Rattle.actl.specs.Sizes.{mostNodes, formulaLength}
 use Rattle.columns.specs.Bytes.{sameBytes}
 use Rattle.lts.specs.Lists.{upFrom, bind, every}
 use Rattle.lts.proofs.Lists.{and-true-of, and-true-to, every-of, every-to, getD-mem}
@@ -40,7 +40,7 @@ is-form-of : (n : ℕ) (b : List ℕ) (F : Formula) → isForm n b F ≡ true �
 is-form-of n b F e =
     let (r, w) = and-true-of _ (every (λ f. slotWithin n (slotOf f)) (nodes F)) e in
     let (s, c) = and-true-of _ (every _ (nodes F)) r in
-    let (f, m) = and-true-of (sameBytes (take formulaLength b) (formulaBytes F)) (leb (size F) 40) s in
+    let (f, m) = and-true-of (sameBytes (take formulaLength b) (formulaBytes F)) (leb (size F) mostNodes) s in
     record {
       form = same-bytes-of (take formulaLength b) (formulaBytes F) f;
       few = leb-true (size F) 40 m;
@@ -65,7 +65,7 @@ module _ (n : ℕ) (b : List ℕ) {F : Formula} (e : preparedFormula n b ≡ som
   unfolding preparedFormula slots
   prepared-slots = trees-of slots (formed-of n b (treesIn slots) e .0) ∙ ap (map slotOf) (append-nil (nodes F))
 
-  pub prepared-few : size F ≤ 40
+  pub prepared-few : size F ≤ mostNodes
   prepared-few = prepared-of .few
 
   pub prepared-count : getD b 0 0 ≡ size F
@@ -93,9 +93,9 @@ pub is-form-to : (n : ℕ) (b : List ℕ) (F : Formula) → IsForm n b F → isF
 is-form-to n b F h =
     and-true-to _ (every (λ f. slotWithin n (slotOf f)) (nodes F))
     (and-true-to _ (every (λ f. not (eqb (classOf f) 0)) (nodes F))
-    (and-true-to (sameBytes (take formulaLength b) (formulaBytes F)) (leb (size F) 40)
+    (and-true-to (sameBytes (take formulaLength b) (formulaBytes F)) (leb (size F) mostNodes)
     (rw (h .form) (same-bytes-refl (formulaBytes F)))
-    (le-leb (size F) 40 (h .few)))
+    (le-leb (size F) mostNodes (h .few)))
     (every-to (λ f. not (eqb (classOf f) 0)) (nodes F) (λ f m. ap not (ne-eqb (classOf f) 0 (h .classed f m)))))
     (every-to (λ f. slotWithin n (slotOf f)) (nodes F) (h .within))
 

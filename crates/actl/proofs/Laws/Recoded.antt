@@ -9,7 +9,7 @@ use lib.Dec.{eqb}
 use lib.ListN.{length, getD, take, drop, replicate, length-append, length-drop, length-map, length-replicate, getD-replicate}
 use lib.Seq.{drop-cons, drop-drop, take-add, take-nil, length-take-le, getD-take, getD-drop, ext-getD}
 use borrow.Author.Tests.{eqb-true}
-use Rattle.actl.specs.Sizes.{formulaLength}
+use Rattle.actl.specs.Sizes.{mostNodes, formulaLength}
 use Rattle.columns.specs.Bytes.{padded, lowFirst}
 use Rattle.lts.specs.Lists.{upFrom, bind, every}
 use Rattle.lts.proofs.Lists.{upFrom-to, upFrom-snoc, every-of, bind-append}
@@ -42,7 +42,7 @@ bind-map g h [] = refl
 bind-map g h (x ∷ l) = ap (λ z. g (h x) ++ z) (bind-map g h l)
 
 module _ (b : List ℕ) (long : formulaLength ≤ length b) (bytes : Bytes b) where
-  slot-bytes : (k : ℕ) → k < 40 → slotBytes (slotAt b k) ≡ take 17 (drop (1 + k * 17) b)
+  slot-bytes : (k : ℕ) → k < mostNodes → slotBytes (slotAt b k) ≡ take 17 (drop (1 + k * 17) b)
   slot-bytes k h =
       let Z = drop (2 + k * 17) b in
       let up : suc (1 + k * 17) ≡ 2 + k * 17 = omega arith in
@@ -75,7 +75,7 @@ module _ (b : List ℕ) (long : formulaLength ≤ length b) (bytes : Bytes b) wh
       eqb-true (getD b (1 + c * 17 + i) 0) 0 (every-of (λ j. eqb (getD b j 0) 0) (upFrom (1 + c * 17) (formulaLength - (1 + c * 17))) e (1 + c * 17 + i) (upFrom-to (1 + c * 17) (formulaLength - (1 + c * 17)) (1 + c * 17 + i) (omega arith) (omega arith))) in
       getD-take n l i 0 near ∙ (getD-drop (c * 17) (drop 1 b) i 0 ∙ (getD-drop 1 b (c * 17 + i) 0 ∙ (ap (λ j. getD b j 0) place ∙ (zero-there ∙ sym (getD-replicate n i 0 0 near))))))
 
-  pub form-of-bytes : (F : Formula) → getD b 0 0 ≡ size F → size F ≤ 40 → zerosFrom b (1 + getD b 0 0 * 17) ≡ true
+  pub form-of-bytes : (F : Formula) → getD b 0 0 ≡ size F → size F ≤ mostNodes → zerosFrom b (1 + getD b 0 0 * 17) ≡ true
       → map (slotAt b) (upFrom 0 (getD b 0 0)) ≡ map slotOf (nodes F) → take formulaLength b ≡ formulaBytes F
   unfolding formulaBytes
   form-of-bytes F count few zeros same =

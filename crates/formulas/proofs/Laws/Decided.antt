@@ -9,7 +9,7 @@ use lib.Dec.{eqb}
 use lib.ListN.{length, getD, take, drop, replicate, length-take, length-map, length-append, List·getD-map}
 use lib.Seq.{getD-take, getD-append-add, ext-getD}
 use borrow.Author.Tests.{eqb-true, eq-eqb}
-use Rattle.actl.specs.Sizes.{formulaLength}
+use Rattle.actl.specs.Sizes.{mostNodes, formulaLength}
 use Rattle.lts.specs.Lists.{upFrom, bind, every}
 use Rattle.lts.specs.Answers.{isSome, Decides}
 use Rattle.lts.proofs.Lists.{upFrom-of, every-of, every-to, and-true-of, and-true-to, getD-mem, map-of, map-to}
@@ -70,7 +70,7 @@ module _ (n : ℕ) (b : List ℕ) where
   spelled-prepared {F} e = (F, sym (kinds-prepared n b e), prepared-of n b e .classed F (root-among-nodes F))
 
   -- All tests passed.
-  module _ (long : formulaLength ≤ length b) (bytes : Bytes b) (few : getD b 0 0 ≤ 40)
+  module _ (long : formulaLength ≤ length b) (bytes : Bytes b) (few : getD b 0 0 ≤ mostNodes)
       (fit : slotsFit n b (getD b 0 0) ≡ true) (zeros : zerosFrom b (1 + getD b 0 0 * 17) ≡ true) where
     slots : List Slot
     slots = map (slotAt b) (upFrom 0 (getD b 0 0))

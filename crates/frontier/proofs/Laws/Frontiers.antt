@@ -10,7 +10,6 @@ use lib.Dec.{eqb}
 use lib.ListN.{length, getD, set, length-set}
 use lib.Seq.{getD-set-same, getD-set-other}
 use borrow.Author.Tests.{eq-eqb, ne-eqb}
-use Rattle.lts.specs.Sizes.{firstsLength}
 use Rattle.lts.proofs.Lists.{or-true-right}
 use Rattle.target_masks.specs.Masks.{bitAt}
 use Rattle.target_masks.proofs.Laws.MasksFound.{bit-or, bit-zero, bit-pow}
@@ -65,14 +64,14 @@ module _ (frontier : List ℕ) where
   one = set frontier 256 0
 
   abbrev two : List ℕ
-  two = set one firstsLength 0
+  two = set one 257 0
 
   abbrev three : List ℕ
   three = set two 258 0
 
   marks-emptied : (w : ℕ) → w < 4 → getD (emptied frontier) (256 + w) 0 ≡ 0
-  marks-emptied zero h = zero-kept three 259 256 (zero-kept two 258 256 (zero-kept one firstsLength 256 (zero-here frontier 256)))
-  marks-emptied (suc zero) h = zero-kept three 259 firstsLength (zero-kept two 258 firstsLength (zero-here one firstsLength))
+  marks-emptied zero h = zero-kept three 259 256 (zero-kept two 258 256 (zero-kept one 257 256 (zero-here frontier 256)))
+  marks-emptied (suc zero) h = zero-kept three 259 257 (zero-kept two 258 257 (zero-here one 257))
   marks-emptied (suc (suc zero)) h = zero-kept three 259 258 (zero-here two 258)
   marks-emptied (suc (suc (suc zero))) h = zero-here three 259
   marks-emptied (suc (suc (suc (suc w)))) h = absurd (omega arith)

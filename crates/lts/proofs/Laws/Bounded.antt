@@ -8,7 +8,7 @@ use native.Mathlib.Omega.{arith}
 use lib.Dec.{eqb}
 use lib.ListN.{length, take, drop, length-append, length-drop}
 use lib.Seq.{drop-drop}
-use Rattle.lts.specs.Sizes.{enoughTableText}
+use Rattle.lts.specs.Sizes.{mostTransitions, enoughTableText}
 use Rattle.columns.specs.Columns.{column, valueAt}
 use Rattle.columns.specs.Bytes.{sameBytes}
 use Rattle.columns.proofs.Laws.Bytes.{same-of}
@@ -150,7 +150,7 @@ transitions-bounded h names (suc left) steps m text g =
     (transitions-bounded h names left (steps ++ (stepOf l ∷ [])) (m - suc (length l)) rest (omega (arith, step-narrow l e))))
     text
 
-labels-bounded : (h : Header) → h .transitions ≤ 1024 → (left : ℕ) (names : List (List ℕ)) (m : ℕ) (text : List ℕ) → 20 * left + 19457 ≤ m
+labels-bounded : (h : Header) → h .transitions ≤ mostTransitions → (left : ℕ) (names : List (List ℕ)) (m : ℕ) (text : List ℕ) → 20 * left + 19457 ≤ m
     → readLabels h left names (take m text) ≡ readLabels h left names text
 unfolding readLabels
 labels-bounded h few zero names m text g = transitions-bounded h names (h .transitions) [] m text (omega arith)

@@ -7,7 +7,7 @@ use native.Mathlib.Nat.{add-zero, zero-add}
 use native.Mathlib.Omega.{arith}
 use lib.ListN.{length, getD, take, drop, replicate, length-append, length-replicate, replicate-append-replicate}
 use lib.Seq.{take-append-seam, drop-append-add, take-at, drop-at, drop-drop, getD-drop}
-use Rattle.lts.specs.Sizes.{namesLength, transitionsLength}
+use Rattle.lts.specs.Sizes.{mostLabels, mostTransitions, namesLength, transitionsLength}
 use Rattle.columns.specs.Bytes.{padded}
 use Rattle.columns.specs.Write.{pasted}
 use Rattle.lts.specs.Lists.{upFrom, bind, every}
@@ -55,7 +55,7 @@ names-length (n ∷ names) e =
     let d = and-true-of (isName n) (every isName names) e in
     length-append (nameSlot n) (bind nameSlot names) ∙ omega (arith, slot-length n (name-short n (d .0) .1), names-length names (d .1))
 
-pub name-written : (names : List (List ℕ)) (name : List ℕ) (k : ℕ) → length names ≡ k → k < 40 → every isName names ≡ true → length name ≤ 12
+pub name-written : (names : List (List ℕ)) (name : List ℕ) (k : ℕ) → length names ≡ k → k < mostLabels → every isName names ≡ true → length name ≤ 12
     → pasted (nameBytes names) (k * 16) (counted name) ≡ nameBytes (names ++ (name ∷ []))
 name-written names name k c h e s =
     let long : length (bind nameSlot names) ≡ k * 16 = names-length names e ∙ ap (λ n. n * 16) c in
@@ -99,7 +99,7 @@ steps-length : (steps : List Step) → length (bind transitionSlot steps) ≡ le
 steps-length [] = refl
 steps-length (x ∷ steps) = let d = steps-length steps in omega arith
 
-pub step-written : (steps : List Step) (st : Step) (k : ℕ) → length steps ≡ k → k < 1024 → pasted (stepBytes steps) (k * 3) (transitionSlot st) ≡ stepBytes (steps ++ (st ∷ []))
+pub step-written : (steps : List Step) (st : Step) (k : ℕ) → length steps ≡ k → k < mostTransitions → pasted (stepBytes steps) (k * 3) (transitionSlot st) ≡ stepBytes (steps ++ (st ∷ []))
 step-written steps st k c h =
     let long : length (bind transitionSlot steps) ≡ k * 3 = steps-length steps ∙ ap (λ n. n * 3) c in
     ap (λ i. pasted (stepBytes steps) i (transitionSlot st)) (sym long)

@@ -9,7 +9,7 @@ use borrow.Author.Tests.{leb-true, leb-false}
 use lib.Dec.{leb}
 use lib.ListN.{length, getD, take, drop, length-take, length-drop, take-append-drop}
 use lib.Seq.{length-take-le, getD-take, getD-drop, ext-getD, drop-cons, drop-drop}
-use Rattle.lts.specs.Sizes.{namesLength, tableLength}
+use Rattle.lts.specs.Sizes.{mostLabels, namesLength, tableLength}
 use Rattle.columns.specs.Bytes.{sameBytes}
 use Rattle.columns.proofs.Laws.Compared.{same-of-unequal}
 use Rattle.lts.specs.Lists.{upFrom}
@@ -33,7 +33,7 @@ prefix-same n a c p q h =
     (λ i k. let few : i < n = omega (arith, length-take-le n a p) in getD-take n a i 0 few ∙ (h i few ∙ sym (getD-take n c i 0 few)))
 
 module _ (b : List ℕ) (long : tableLength ≤ length b) where
-  module _ (k : ℕ) (few : k < 40) where
+  module _ (k : ℕ) (few : k < mostLabels) where
     abbrev at : ℕ
     at = 7 + k * 16
 
@@ -73,7 +73,7 @@ module _ (b : List ℕ) (long : tableLength ≤ length b) where
   slot-byte i h = getD-take namesLength (drop 6 b) i 0 h ∙ getD-drop 6 b i 0
 
   module _ (name : List ℕ) (short : length name ≤ longestName) where
-    same-stored : (k : ℕ) → k < 40 → sameBytes (storedName slots k) name ≡ sameBytes (nameAt b k) name
+    same-stored : (k : ℕ) → k < mostLabels → sameBytes (storedName slots k) name ≡ sameBytes (nameAt b k) name
     same-stored k few = case (leb (size k few) longestName) refl
       where
         first : getD slots (k * 16) 0 ≡ size k few
@@ -104,7 +104,7 @@ module _ (b : List ℕ) (long : tableLength ≤ length b) where
     table-lookup n e h = found-stored 1 0 n (omega arith) ∙ ap (λ m. lookup (map (nameAt b) (upFrom 0 m)) name) (e ∙ labels-in b)
 
   -- None of the names before it is the name in slot k.
-  module _ (k : ℕ) (few : k < 40) (small : byteAt b (6 + k * 16) ≤ longestName) where
+  module _ (k : ℕ) (few : k < mostLabels) (small : byteAt b (6 + k * 16) ≤ longestName) where
     short : length (nameAt b k) ≤ longestName
     short = omega (arith, name-length k few (omega arith))
 

@@ -8,6 +8,7 @@ use native.Mathlib.Omega.{arith}
 use lib.Dec.{leb, ltb, eqb}
 use lib.ListN.{length}
 use borrow.Author.Tests.{ltb-true, leb-true, eqb-true, lt-ltb, le-leb, eq-eqb}
+use Rattle.lts.specs.Sizes.{mostStates, mostLabels, mostTransitions}
 use Rattle.columns.specs.Bytes.{sameBytes}
 use Rattle.columns.proofs.Laws.Bytes.{same-of, same-to}
 use Rattle.lts.specs.Lists.{Rising}
@@ -83,16 +84,16 @@ step-range-to h st a b c =
 -- Ranges of the counts.
 pub record CountsInRange (h : Header) : Type 0 where
   pub some-state : 1 ≤ h .states
-  pub few-states : h .states ≤ 256
-  pub few-labels : h .labels ≤ 40
-  pub few-transitions : h .transitions ≤ 1024
+  pub few-states : h .states ≤ mostStates
+  pub few-labels : h .labels ≤ mostLabels
+  pub few-transitions : h .transitions ≤ mostTransitions
   pub starts : h .start < h .states
 
 pub counts-of : (h : Header) → headerInRange h ≡ true → CountsInRange h
 counts-of h e =
-    let p = and-true-of (leb 1 (h .states) && leb (h .states) 256 && leb (h .labels) 40 && leb (h .transitions) 1024) _ e in
-    let q = and-true-of (leb 1 (h .states) && leb (h .states) 256 && leb (h .labels) 40) _ (p .0) in
-    let r = and-true-of (leb 1 (h .states) && leb (h .states) 256) _ (q .0) in
+    let p = and-true-of (leb 1 (h .states) && leb (h .states) mostStates && leb (h .labels) mostLabels && leb (h .transitions) mostTransitions) _ e in
+    let q = and-true-of (leb 1 (h .states) && leb (h .states) mostStates && leb (h .labels) mostLabels) _ (p .0) in
+    let r = and-true-of (leb 1 (h .states) && leb (h .states) mostStates) _ (q .0) in
     let s = and-true-of (leb 1 (h .states)) _ (r .0) in
     record {
       some-state = leb-true _ _ (s .0);
@@ -104,9 +105,9 @@ counts-of h e =
 
 pub counts-to : (h : Header) → CountsInRange h → headerInRange h ≡ true
 counts-to h c =
-    and-true-to (leb 1 (h .states) && leb (h .states) 256 && leb (h .labels) 40 && leb (h .transitions) 1024) _
-    (and-true-to (leb 1 (h .states) && leb (h .states) 256 && leb (h .labels) 40) _
-    (and-true-to (leb 1 (h .states) && leb (h .states) 256) _
+    and-true-to (leb 1 (h .states) && leb (h .states) mostStates && leb (h .labels) mostLabels && leb (h .transitions) mostTransitions) _
+    (and-true-to (leb 1 (h .states) && leb (h .states) mostStates && leb (h .labels) mostLabels) _
+    (and-true-to (leb 1 (h .states) && leb (h .states) mostStates) _
     (and-true-to (leb 1 (h .states)) _ (le-leb _ _ (c .some-state)) (le-leb _ _ (c .few-states)))
     (le-leb _ _ (c .few-labels)))
     (le-leb _ _ (c .few-transitions)))

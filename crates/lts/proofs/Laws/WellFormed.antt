@@ -8,7 +8,7 @@ use native.Mathlib.Nat.{add-zero}
 use native.Mathlib.Omega.{arith}
 use lib.ListN.{length, getD, take, drop, replicate, length-drop}
 use lib.Seq.{take-add, drop-drop, drop-cons, getD-drop}
-use Rattle.lts.specs.Sizes.{namesLength, transitionsAt, transitionsLength, tableLength}
+use Rattle.lts.specs.Sizes.{mostLabels, mostTransitions, namesLength, transitionsAt, transitionsLength, tableLength}
 use Rattle.columns.specs.Bytes.{lowFirst}
 use Rattle.columns.proofs.Laws.Bytes.{pair-bytes}
 use Rattle.lts.specs.Lists.{upFrom}
@@ -69,7 +69,7 @@ module _ (b : List ℕ) (w : WellFormed b) where
     -- A name's slot.
     name-slot-is : (k : ℕ) → k < labels (tableIn b) → take 16 (drop (k * 16) (drop 6 b)) ≡ nameSlot (nameAt b k)
     name-slot-is k h =
-        let few : k < 40 = omega (arith, w .counts .few-labels) in
+        let few : k < mostLabels = omega (arith, w .counts .few-labels) in
         let held = w .names k h .0 in
         let size : ℕ = byteAt b (6 + k * 16) in
         let sized : length (nameAt b k) ≡ size = name-length b (w .long) k few (bytes (6 + k * 16)) in
@@ -89,7 +89,7 @@ module _ (b : List ℕ) (w : WellFormed b) where
 
     transition-slot-is : (k : ℕ) → k < length (tableIn b .transitions) → take 3 (drop (k * 3) (drop transitionsAt b)) ≡ transitionSlot (transitionAt b k)
     transition-slot-is k h =
-        let few : k < 1024 = omega (arith, w .counts .few-transitions) in
+        let few : k < mostTransitions = omega (arith, w .counts .few-transitions) in
         let at : ℕ = transitionsAt + k * 3 in
         let second : at + 1 ≡ (transitionsAt + 1) + k * 3 = omega arith in
         let third : at + 2 ≡ (transitionsAt + 2) + k * 3 = omega arith in

@@ -7,7 +7,7 @@ use native.Mathlib.Omega.{arith}
 use borrow.Author.Tests.{ltb-true, leb-true, le-leb, lt-leb}
 use lib.Dec.{leb, ltb}
 use lib.ListN.{length, drop}
-use Rattle.lts.specs.Sizes.{tableLength}
+use Rattle.lts.specs.Sizes.{mostStates, mostLabels, mostTransitions, tableLength}
 use Rattle.lts.specs.Reply.{accepted, refusal, unless, overwritten, leftIn, answers}
 use Rattle.lts.specs.Steps.{Step, Table}
 use Rattle.lts.specs.Reading.{Header, firstLine, headerOf, headerLaidOut, headerInRange, readLabels, readTable}
@@ -45,17 +45,17 @@ module _ (s : List ℕ) where
     header-accepted d = header-opened ∙ passed (headerInRange h) 2 1 (readLabels h (h .labels) [] (drop 25 s)) d
 
 pub record HeaderBounds (h : Header) : Type 0 where
-  pub states : h .states ≤ 256
-  pub labels : h .labels ≤ 40
-  pub transitions : h .transitions ≤ 1024
+  pub states : h .states ≤ mostStates
+  pub labels : h .labels ≤ mostLabels
+  pub transitions : h .transitions ≤ mostTransitions
   pub start : h .start < 256
 
 pub header-bounds : (h : Header) → headerInRange h ≡ true → HeaderBounds h
 header-bounds h e =
-    let a = and-true-of (leb 1 (h .states) && leb (h .states) 256 && leb (h .labels) 40 && leb (h .transitions) 1024) (ltb (h .start) (h .states)) e in
-    let b = and-true-of (leb 1 (h .states) && leb (h .states) 256 && leb (h .labels) 40) (leb (h .transitions) 1024) (a .0) in
-    let c = and-true-of (leb 1 (h .states) && leb (h .states) 256) (leb (h .labels) 40) (b .0) in
-    let d = and-true-of (leb 1 (h .states)) (leb (h .states) 256) (c .0) in
+    let a = and-true-of (leb 1 (h .states) && leb (h .states) mostStates && leb (h .labels) mostLabels && leb (h .transitions) mostTransitions) (ltb (h .start) (h .states)) e in
+    let b = and-true-of (leb 1 (h .states) && leb (h .states) mostStates && leb (h .labels) mostLabels) (leb (h .transitions) mostTransitions) (a .0) in
+    let c = and-true-of (leb 1 (h .states) && leb (h .states) mostStates) (leb (h .labels) mostLabels) (b .0) in
+    let d = and-true-of (leb 1 (h .states)) (leb (h .states) mostStates) (c .0) in
     let states = leb-true (h .states) 256 (d .1) in
     record { states = states; labels = leb-true (h .labels) 40 (c .1); transitions = leb-true (h .transitions) 1024 (b .1); start = omega (arith, ltb-true (h .start) (h .states) (a .1)) }
 

@@ -10,7 +10,9 @@ use native.Mathlib.Omega.{arith}
 use lib.Dec.{eqb}
 use lib.ListN.{length, getD, set, length-set, replicate}
 use lib.Seq.{getD-set-same, getD-set-other}
+use Rattle.actl.specs.Sizes.{mostNodes}
 use Rattle.automaton.specs.Sizes.{placeCount, columnCount, masksLength}
+use Rattle.lts.specs.Sizes.{mostLabels}
 use Rattle.actl.specs.Actions.{silent, labels}
 use Rattle.actl.specs.Formulas.{Formula, tru, not, or, ex, ax, eu, euThen, size, isT, At}
 use Rattle.actl.specs.Prepared.{slotOf, slotAt, preparedFormula}
@@ -54,19 +56,19 @@ module _ {b ends : List ℕ} {F : Formula} (p : Spells b ends F) (k : ℕ) (h : 
   below : k < size F
   below = omega (arith, p .count)
 
-  pub place-few : k < 40
+  pub place-few : k < mostNodes
   place-few = omega (arith, p .count, p .few)
 
   pub place-shaped : shaped (slotAt b k) ≡ true
   place-shaped = ap shaped (p .slot k below) ∙ node-shaped (nodeAt F k)
 
   -- The arms as the code finds them.
-  module _ (right : ℕ) (r : k + 1 < 40 → getD ends (k + 1) 0 ≤ 40 → right ≡ getD ends (k + 1) 0) where
+  module _ (right : ℕ) (r : k + 1 < mostNodes → getD ends (k + 1) 0 ≤ 40 → right ≡ getD ends (k + 1) 0) where
     right-is : k + 1 < size F → k + 1 + size (nodeAt F (k + 1)) < size F → right ≡ k + 1 + size (nodeAt F (k + 1))
     right-is x y = let e = p .end (k + 1) x in r (omega (arith, p .few)) (omega (arith, p .few)) ∙ e
 
     module _ (masks : List ℕ) (l : ℕ) (m : MasksOn F k l masks) (c : l < placeCount) (node : Node) (s : slotOfNode node ≡ slotAt b k) (end : ℕ) (e : end ≡ getD b 0 0)
-        (last : Bool) (t : k + 1 < 40 → last ≡ eqb (slotAt b (k + 1) .kind) 1) where
+        (last : Bool) (t : k + 1 < mostNodes → last ≡ eqb (slotAt b (k + 1) .kind) 1) where
       abbrev arm : ℕ
       arm = getD masks ((k + 1) * columnCount + l) 0
 
@@ -129,7 +131,7 @@ module _ {b ends : List ℕ} {F : Formula} (p : Spells b ends F) (k : ℕ) (h : 
 pub masks-next : {F : Formula} {k : ℕ} {masks : List ℕ} → MasksOn F k columnCount masks → MasksOf F k masks
 masks-next {F} {k} {masks} m = record { mask = λ j l x y z. pick j l x y z (ℕ-discrete j k) }
   where
-    pick : (j l : ℕ) → k ≤ j → j ≤ size F → l ≤ 40 → Dec (j ≡ k) → getD masks (j * columnCount + l) 0 ≡ targetMask F j l
+    pick : (j l : ℕ) → k ≤ j → j ≤ size F → l ≤ mostLabels → Dec (j ≡ k) → getD masks (j * columnCount + l) 0 ≡ targetMask F j l
     pick j l x y z (yes d) = ap (λ n. getD masks (n * columnCount + l) 0) d ∙ (m .here l (omega arith) ∙ ap (λ n. targetMask F n l) (sym d))
     pick j l x y z (no d) = m .behind .mask j l (omega arith) y z
 
@@ -139,7 +141,7 @@ masks-before k e f m = record { long = e; behind = m; here = λ i x. absurd (ome
 pub masks-end : (F : Formula) (masks : List ℕ) → ((i : ℕ) → getD masks i 0 ≡ 0) → MasksOf F (size F) masks
 masks-end F masks h = record { mask = λ j l x y z. h (j * columnCount + l) ∙ sym (mask-past F j l x) }
 
-pub finals-end : (F : Formula) (finals : List Bool) → length finals ≡ placeCount → ((i : ℕ) → i < placeCount → getD finals i false ≡ true) → size F ≤ 40 → FinalsOf F (size F) finals
+pub finals-end : (F : Formula) (finals : List Bool) → length finals ≡ placeCount → ((i : ℕ) → i < placeCount → getD finals i false ≡ true) → size F ≤ mostNodes → FinalsOf F (size F) finals
 finals-end F finals e h few = record { long = e; flag = λ j x y. h j (omega arith) ∙ sym (final-past F j x) }
 
 -- Fresh arrays.

@@ -2,6 +2,7 @@
 use mathlib.Core.Path.{_≡_, refl, sym, ap, _∙_, subst}
 use Prim.Native.Nat.{_+_, _-_, _≤_, _<_}
 use native.Mathlib.Omega.{arith}
+use Rattle.actl.specs.Sizes.{mostNodes}
 use Rattle.automaton.specs.Sizes.{placeCount}
 use Rattle.actl.specs.Formulas.{Formula}
 use Rattle.target_masks.specs.Masks.{Spells, MasksOn}
@@ -16,10 +17,10 @@ abbrev μ-loop : tie.MeasureT-loop
 μ-loop formula ends masks₀ k end node last right l₀ masks l = placeCount - l
 
 -- The place is one of 40, and in the loop the other arm's is one of 41, and the column one of 41.
-few : (c : tie.Start Inv-loop μ-loop) → c .args .k < 40
+few : (c : tie.Start Inv-loop μ-loop) → c .args .k < mostNodes
 few c = place-few (c .pre .1 .0 .1) (c .args .k) (c .pre .0 .1)
 
-few-here : (c : tie.After-column Inv-loop μ-loop) → (c .before .before .before .before .before .before .before .before .args .k < 40) × (c .column .result < placeCount)
+few-here : (c : tie.After-column Inv-loop μ-loop) → (c .before .before .before .before .before .before .before .before .args .k < mostNodes) × (c .column .result < placeCount)
 few-here c = (few (c .before .before .before .before .before .before .before .before), c .column .ensures .1)
 
 few-other : (c : tie.After-column Inv-loop μ-loop) → (c .before .before .before .other-arm .result ≤ 40) × (c .column .result < placeCount)
