@@ -27,14 +27,14 @@ pub record RowPut (k : ℕ) (row flags flags′ : List Bool) : Type 0 where
 
 -- The rows of the nodes from k on.
 pub record LabelledFrom (t : Table) (F : Formula) (k : ℕ) (flags : List Bool) : Type 0 where
-  pub flag : (j s : ℕ) → k ≤ j → j < size F → s < 256 → flagAt flags (j * 256 + s) ≡ holds t (getD (nodes F) j tru) s
+  pub flag : (j s : ℕ) → k ≤ j → j < size F → s < t .states → flagAt flags (j * 256 + s) ≡ holds t (getD (nodes F) j tru) s
 
 -- The same of the formula in bytes, over the table in bytes.
 pub record RowsFrom (table formula : List ℕ) (k : ℕ) (flags : List Bool) : Type 0 where
   pub places : length flags ≡ nodePositions
   pub rows : (F : Formula) → preparedFormula (labels (tableIn table)) formula ≡ some F → LabelledFrom (tableIn table) F k flags
 
--- 01: what holds at every node of the prepared formula, at every state.
+-- 01: what holds at every node of the prepared formula, at every state of the table.
 pub record NodesLabelled (table formula : List ℕ) (flags : List Bool) : Type 0 where
   pub labelled : (F : Formula) → preparedFormula (labels (tableIn table)) formula ≡ some F → NodeFlags (tableIn table) F flags
 

@@ -31,11 +31,9 @@ fn holds_at_start(table: &[u8], formula: &[u8]) -> bool
     ensures { λ r. ⌜ AtStart (now (table .entry)) (now (formula .entry)) r ⌝ }
 {
     let all = steps_of(table);
-    let steps = all.steps;
-    let firsts = all.firsts;
     let shape = shape_of(formula);
     let ends = shape.ends;
-    let flags = nodes::label_nodes(table, &steps, &firsts, formula, &ends);
+    let flags = nodes::label_nodes(table, &all.steps, &all.firsts, formula, &ends);
     let start = start_state(table);
     flags[start]
 }

@@ -9,6 +9,7 @@ use formulas::walk::right_arm;
 use lts::sizes::FIRSTS;
 use lts::sizes::STATES;
 use lts::sizes::STEPS;
+use tables::prepared::state_count;
 use until_search::links::entering;
 use until_search::until;
 ghost use mathlib.Core.Path.{_≡_};
@@ -37,9 +38,9 @@ fn label_node(
     requires { ⌜ HoldsTable (now table) ⌝ }
     requires { ⌜ StepsOf (tableIn (now table)) (now steps) (now firsts) ⌝ }
     requires { ⌜ Linked (tableIn (now table)) (now links) ⌝ }
-    ensures { λ r. ⌜ Flags (nodeHolds (tableIn (now (table .entry))) node (flagAt (now (arm .entry))) (flagAt (now (other .entry)))) r ⌝ }
+    ensures { λ r. ⌜ Flags (tableIn (now (table .entry)) .states) (nodeHolds (tableIn (now (table .entry))) node (flagAt (now (arm .entry))) (flagAt (now (other .entry)))) r ⌝ }
 {
-    let flags = label_at_once(steps, firsts, node, arm, other);
+    let flags = label_at_once(steps, firsts, state_count(table), node, arm, other);
     match node {
         Node::True => flags,
         Node::Not => flags,
@@ -105,11 +106,11 @@ fn label_row(
     put_row(flags, k, &found);
 }
 
-// Node k and state s at k * 256 + s.
-pub fn label_nodes(
+// Node k and state s at k * 256 + s. The two arrays of steps may be fields of one value.
+pub fn label_nodes<'a>(
     table: &[u8],
-    steps: &[u16; STEPS],
-    firsts: &[u16; FIRSTS],
+    steps: &'a [u16; STEPS],
+    firsts: &'a [u16; FIRSTS],
     formula: &[u8],
     ends: &[u8; NODES],
 ) -> [bool; NODE_POSITIONS]

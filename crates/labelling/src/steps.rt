@@ -9,7 +9,8 @@ use tables::steps::leaving;
 use tables::steps::state_of;
 ghost use mathlib.Core.Path.{_≡_};
 ghost use mathlib.Core.Bool.{_&&_};
-ghost use Prim.Native.Nat.{_<_};
+ghost use Prim.Native.Nat.{_<_, _≤_};
+ghost use Rattle.lts.specs.Sizes.{mostStates};
 ghost use Rattle.tables.specs.StepArray.{stepsIn, StepsFit};
 ghost use Rattle.actl.specs.Actions as actions;
 ghost use Rattle.formulas.specs.Access.{condIn};
@@ -77,19 +78,22 @@ pub fn at_once(
     }
 }
 
+// The same of every state of a table that has so many.
 pub fn label_at_once(
     steps: &[u16; STEPS],
     firsts: &[u16; FIRSTS],
+    states: usize,
     node: Node,
     arm: &[bool; STATES],
     other: &[bool; STATES],
 ) -> [bool; STATES]
     requires { ⌜ StepsFit (now steps) (now firsts) ⌝ }
-    ensures { λ r. ⌜ Flags (λ s. atOnce node (flagAt (now (arm .entry))) (flagAt (now (other .entry))) s (stepsIn (now (steps .entry)) (now (firsts .entry)) s)) r ⌝ }
+    requires { ⌜ states ≤ mostStates ⌝ }
+    ensures { λ r. ⌜ Flags states (λ s. atOnce node (flagAt (now (arm .entry))) (flagAt (now (other .entry))) s (stepsIn (now (steps .entry)) (now (firsts .entry)) s)) r ⌝ }
 {
     let mut flags = [false; STATES];
     let mut s = 0;
-    while s < STATES {
+    while s < states {
         flags[s] = at_once(steps, firsts, node, arm, other, s);
         s += 1;
     }

@@ -53,12 +53,12 @@ nodeHolds t (Ax c) p q s = every (leadsTo (condIn c) p) (stepsFrom t s)
 nodeHolds t (Until a) p q s = within t a p (length (t .transitions)) s
 nodeHolds t (UntilThen a b) p q s = within t a (enters t b p) (length (t .transitions)) s
 
--- Flags that say of each state whether p holds there.
-pub record Flags (p : ℕ → Bool) (flags : List Bool) : Type 0 where
+-- Flags that say of each state below n whether p holds there.
+pub record Flags (n : ℕ) (p : ℕ → Bool) (flags : List Bool) : Type 0 where
   pub places : length flags ≡ 256
-  pub flag : (s : ℕ) → s < 256 → flagAt flags s ≡ p s
+  pub flag : (s : ℕ) → s < n → flagAt flags s ≡ p s
 
--- Flags of every node of F at every state: node k and state s at k * 256 + s.
+-- Flags of every node of F at every state of the table: node k and state s at k * 256 + s.
 pub record NodeFlags (t : Table) (F : Formula) (flags : List Bool) : Type 0 where
   pub places : length flags ≡ nodePositions
-  pub flag : (k s : ℕ) → k < size F → s < 256 → flagAt flags (k * 256 + s) ≡ holds t (getD (nodes F) k tru) s
+  pub flag : (k s : ℕ) → k < size F → s < t .states → flagAt flags (k * 256 + s) ≡ holds t (getD (nodes F) k tru) s

@@ -83,14 +83,15 @@ fn is_accepted(table: &[u8], formula: &[u8], word: &[u8]) -> bool
     ensures { λ r. ⌜ AcceptsAnswer (now (table .entry)) (now (formula .entry)) (now (word .entry)) r ⌝ }
 {
     let all = steps_of(table);
-    let steps = all.steps;
-    let firsts = all.firsts;
     let shape = shape_of(formula);
     let ends = shape.ends;
     let masks = target_masks(formula, &ends);
     let finals = final_places(formula, &ends);
     let start = start_state(table);
-    some_final(&finals, read_word(&steps, &firsts, &masks, start, word))
+    some_final(
+        &finals,
+        read_word(&all.steps, &all.firsts, &masks, start, word),
+    )
 }
 
 fn answer_of(found: bool) -> WordReply

@@ -119,10 +119,10 @@ fn read_letter(
     }
 }
 
-// The places to which the word leads from the root at a start state. Two frontiers take turns.
-pub fn read_word(
-    steps: &[u16; STEPS],
-    firsts: &[u16; FIRSTS],
+// The places to which the word leads from the root at a start state. Two frontiers take turns. The two arrays may be fields of one value.
+pub fn read_word<'a>(
+    steps: &'a [u16; STEPS],
+    firsts: &'a [u16; FIRSTS],
     masks: &[u64; MASKS_LENGTH],
     start: usize,
     word: &[u8],

@@ -141,7 +141,8 @@ module _ (t : Table) (w : InRange t) (masks : List ℕ) (l : ℕ) where
 
     letter-reached : (reached next : List ℕ) → length next ≡ 260 → reachedAt (letterRead (stepsFrom t) masks l reached next) v q ≡ anyOf (brings reached) (upFrom 0 256)
     letter-reached reached next e =
-        through-adds (stateRead (stepsFrom t) masks reached l) (λ x. reachedAt x v q) (brings reached) (λ x. length x ≡ 260) 256 (λ s x h i. length-state reached s x ∙ i) (λ s x h i. state-adds reached s x h i)
+        through-adds (stateRead (stepsFrom t) masks reached l) (λ x. reachedAt x v q) (brings reached) (λ x. length x ≡ 260) 256
+        (λ s x h i. length-state reached s x ∙ i) (λ s x h i. state-adds reached s x h i)
         256 0 (emptied next) (omega arith) (length-emptied next ∙ e)
         ∙ ap (λ b. b || anyOf (brings reached) (upFrom 0 256)) (emptied-reached next v q few)
 

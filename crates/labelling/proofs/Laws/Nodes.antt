@@ -9,6 +9,7 @@ use native.Mathlib.Decide.{ℕ-discrete}
 use native.Mathlib.Omega.{arith}
 use lib.Dec.{eqb}
 use lib.ListN.{length, getD}
+use Rattle.lts.specs.Sizes.{mostStates}
 use Rattle.lts.specs.Steps.{Table}
 use Rattle.lts.specs.Range.{InRange}
 use Rattle.actl.specs.Actions.{Mask, inSet, Cond, silent, labels, meets}
@@ -29,15 +30,15 @@ use Rattle.until_search.proofs.Laws.Agree.{Agree, some-agree, every-agree, with
 -- The rows of f's arms say where they hold.
 abbrev pub ArmsAgree : Table → Formula → (ℕ → Bool) → (ℕ → Bool) → Type 0
 ArmsAgree t tru p q = Unit {0}
-ArmsAgree t (not f) p q = Agree p (holds t f)
-ArmsAgree t (or f g) p q = Agree p (holds t f) × Agree q (holds t g)
-ArmsAgree t (ex c f) p q = Agree p (holds t f)
-ArmsAgree t (ax c f) p q = Agree p (holds t f)
-ArmsAgree t (eu a f) p q = Agree p (holds t f)
-ArmsAgree t (euThen a b f) p q = Agree p (holds t f)
+ArmsAgree t (not f) p q = Agree t p (holds t f)
+ArmsAgree t (or f g) p q = Agree t p (holds t f) × Agree t q (holds t g)
+ArmsAgree t (ex c f) p q = Agree t p (holds t f)
+ArmsAgree t (ax c f) p q = Agree t p (holds t f)
+ArmsAgree t (eu a f) p q = Agree t p (holds t f)
+ArmsAgree t (euThen a b f) p q = Agree t p (holds t f)
 
 module _ (t : Table) (r : InRange t) (p q : ℕ → Bool) where
-  holds-in : (f : Formula) → ArmsAgree t f p q → Agree (nodeHolds t (nodeIn (slotOf f)) p q) (holds t f)
+  holds-in : (f : Formula) → ArmsAgree t f p q → Agree t (nodeHolds t (nodeIn (slotOf f)) p q) (holds t f)
   unfolding nodeIn holds
   holds-in tru a s h = refl
   holds-in (not f) a s h = ap negate (a s h)
@@ -50,7 +51,7 @@ module _ (t : Table) (r : InRange t) (p q : ℕ → Bool) where
   holds-in (euThen m b f) a s h =
       within-agree t r (enters t b p) (enters t b (holds t f)) (some-agree t r p (holds t f) a (inSet b)) m (length (t .transitions)) s h
 
-  pub node-holds : (n : Node) (f : Formula) → slotOfNode n ≡ slotOf f → ArmsAgree t f p q → Agree (nodeHolds t n p q) (holds t f)
+  pub node-holds : (n : Node) (f : Formula) → slotOfNode n ≡ slotOf f → ArmsAgree t f p q → Agree t (nodeHolds t n p q) (holds t f)
   node-holds n f e a s h =
       ap (λ m. nodeHolds t m p q s) (sym (node-in-slot n) ∙ ap nodeIn e) ∙ holds-in f a s h
 
@@ -59,16 +60,16 @@ module _ (t : Table) (r : InRange t) (F : Formula) (few : size F ≤ 40) (k : �
   here = getD (nodes F) k tru
 
   -- A row read at an arm's number says where the arm holds.
-  row-of : (j : ℕ) (g : Formula) (row : List Bool) → k < j → At F j g → RowRead j flags row → Agree (flagAt row) (holds t g)
+  row-of : (j : ℕ) (g : Formula) (row : List Bool) → k < j → At F j g → RowRead j flags row → Agree t (flagAt row) (holds t g)
   row-of j g row b a d s h =
-      d .flag s (omega (arith, at-lt a)) h ∙ (l .flag j s (omega arith) (at-lt a) h ∙ ap (λ (f : Formula). holds t f s) (node-at a))
+      d .flag s (omega (arith, at-lt a)) (omega (arith, r .few-states)) ∙ (l .flag j s (omega arith) (at-lt a) h ∙ ap (λ (f : Formula). holds t f s) (node-at a))
 
   module _ (arm other : List Bool) (d : RowRead (k + 1) flags arm) (right : ℕ)
       (stands : k + 1 < size F → right ≡ k + 1 + size (getD (nodes F) (k + 1) tru)) (w : RowRead right flags other) where
-    next : (g : Formula) → At F (suc k) g → Agree (flagAt arm) (holds t g)
+    next : (g : Formula) → At F (suc k) g → Agree t (flagAt arm) (holds t g)
     next g a = row-of (k + 1) g arm (omega arith) (subst (λ (j : ℕ). At F j g) (omega arith) a) d
 
-    behind : (g h : Formula) → At F (suc k) g → At F (suc (k + size g)) h → Agree (flagAt other) (holds t h)
+    behind : (g h : Formula) → At F (suc k) g → At F (suc (k + size g)) h → Agree t (flagAt other) (holds t h)
     behind g h a b =
         let same : k + 1 ≡ suc k = omega arith in
         let first : getD (nodes F) (k + 1) tru ≡ g = ap (λ j. getD (nodes F) j tru) same ∙ node-at a in
@@ -85,19 +86,20 @@ module _ (t : Table) (r : InRange t) (F : Formula) (few : size F ≤ 40) (k : �
     arms (euThen m b f) a = next f (in-euThen a)
 
     pub labelled-on : (n : Node) → slotOfNode n ≡ slotOf (getD (nodes F) k tru) → (row flags′ : List Bool)
-        → Flags (nodeHolds t n (flagAt arm) (flagAt other)) row → RowPut k row flags flags′ → LabelledFrom t F k flags′
+        → Flags (t .states) (nodeHolds t n (flagAt arm) (flagAt other)) row → RowPut k row flags flags′ → LabelledFrom t F k flags′
     labelled-on n e row flags′ f z = record { flag = λ j s b m h. go j s b m h (ℕ-discrete j k) }
       where
-        go : (j s : ℕ) → k ≤ j → j < size F → s < 256 → Dec (j ≡ k) → flagAt flags′ (j * 256 + s) ≡ holds t (getD (nodes F) j tru) s
+        go : (j s : ℕ) → k ≤ j → j < size F → s < t .states → Dec (j ≡ k) → flagAt flags′ (j * 256 + s) ≡ holds t (getD (nodes F) j tru) s
         go j s b m h (yes c) =
             ap (λ x. flagAt flags′ (x * 256 + s)) c
-            ∙ (z .inside s h ∙ (f .flag s h ∙ (node-holds t r (flagAt arm) (flagAt other) n here e (arms here (at-node F k below)) s h ∙ ap (λ x. holds t (getD (nodes F) x tru) s) (sym c))))
-        go j s b m h (no c) = z .outside (j * 256 + s) (inr (omega arith)) ∙ l .flag j s (omega arith) m h
+            ∙ (z .inside s (omega (arith, r .few-states))
+            ∙ (f .flag s h ∙ (node-holds t r (flagAt arm) (flagAt other) n here e (arms here (at-node F k below)) s h ∙ ap (λ x. holds t (getD (nodes F) x tru) s) (sym c))))
+        go j s b m h (no c) = z .outside (j * 256 + s) (inr (omega (arith, r .few-states))) ∙ l .flag j s (omega arith) m h
 
 -- The search of an until from the flags of its goal.
-pub until-flags : (t : Table) → InRange t → (m : Mask) (g : ℕ → Bool) (goal flags : List Bool) → Flags g goal
-    → Flags (within t m (flagAt goal) (length (t .transitions))) flags → Flags (within t m g (length (t .transitions))) flags
+pub until-flags : (t : Table) → InRange t → (m : Mask) (g : ℕ → Bool) (goal flags : List Bool) → Flags (t .states) g goal
+    → Flags mostStates (within t m (flagAt goal) (length (t .transitions))) flags → Flags (t .states) (within t m g (length (t .transitions))) flags
 until-flags t r m g goal flags d w = record {
   places = w .places;
-  flag = λ s h. w .flag s h ∙ within-agree t r (flagAt goal) g (d .flag) m (length (t .transitions)) s h;
+  flag = λ s h. w .flag s (omega (arith, r .few-states)) ∙ within-agree t r (flagAt goal) g (d .flag) m (length (t .transitions)) s h;
 }

@@ -52,7 +52,7 @@ pub root-at-start : (table formula : List ℕ) → HoldsTable table → (flags :
     → AtStart table formula (getD flags start false)
 root-at-start table formula h flags d start e = record {
   answered = λ F f.
-      let state : tableIn table .start < 256 = omega (arith, h .in-range .starts, h .in-range .few-states) in
       ap (λ s. getD flags s false) (e ∙ sym (zero-add (tableIn table .start)))
-      ∙ (d .labelled F f .flag 0 (tableIn table .start) (size-pos F) state ∙ ap (λ (g : Formula). holds (tableIn table) g (tableIn table .start)) (node-at {F = F} {k = 0} {f = F} root));
+      ∙ (d .labelled F f .flag 0 (tableIn table .start) (size-pos F) (h .in-range .starts)
+      ∙ ap (λ (g : Formula). holds (tableIn table) g (tableIn table .start)) (node-at {F = F} {k = 0} {f = F} root));
 }

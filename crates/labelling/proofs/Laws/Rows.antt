@@ -9,15 +9,14 @@ use native.Mathlib.Omega.{arith}
 use lib.ListN.{length, getD, set, replicate, length-set, length-replicate}
 use lib.Seq.{getD-set-same, getD-set-other}
 use Rattle.actl.specs.Sizes.{nodePositions}
-use Rattle.until_search.specs.Flags.{flagAt}
+use Rattle.until_search.specs.Flags.{flagAt, Flags}
 use Rattle.labelling.specs.Nodes.{RowRead, RowPut}
-use Rattle.until_search.proofs.Laws.Flags.{FlagsBelow}
 
 -- A row that is not there is empty.
 pub row-none : (k : ℕ) (flags : List Bool) → 40 ≤ k → RowRead k flags (replicate 256 false)
 row-none k flags h = record { places = length-replicate 256 false; flag = λ s l m. absurd (omega arith) }
 
-pub row-all : (k s : ℕ) {flags row : List Bool} → 256 ≤ s → FlagsBelow (λ x. flagAt flags (k * 256 + x)) s row → RowRead k flags row
+pub row-all : (k s : ℕ) {flags row : List Bool} → 256 ≤ s → Flags s (λ x. flagAt flags (k * 256 + x)) row → RowRead k flags row
 row-all k s h d = record { places = d .places; flag = λ x l m. d .flag x (omega arith) }
 
 -- The first `end` flags of a row are put in.

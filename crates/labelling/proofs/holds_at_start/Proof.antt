@@ -9,12 +9,12 @@ steps-of-requires : tie.Need-steps-of-requires
 steps-of-requires c κs = search needs
 
 shape-of-requires : tie.Need-shape-of-requires
-shape-of-requires c κs = formula-long _ _ (c .before .before .before .before .before .pre .1)
+shape-of-requires c κs = formula-long _ _ (c .before .before .before .pre .1)
 
 label-nodes-requires : tie.Need-label-nodes-requires
 label-nodes-requires c κs =
-    let shaped = c .before .before .before .before in
-    let stepped = shaped .before .before .before in
+    let shaped = c .before .before .before .before .before in
+    let stepped = shaped .before in
     let start = stepped .before .before .before in
     (start .pre .0, (stepped .steps-of .ensures, (start .pre .1, record { arms-end = λ F e k h. shaped .shape-of .ensures _ F e .ends k h })))
 
@@ -26,7 +26,7 @@ array-read-result c = search needs
 
 returns : tie.Need-returns
 returns c =
-    let stepped = c .before .before .before .before .before .before .before .before .before in
+    let stepped = c .before .before .before .before .before .before .before .before in
     root-at-start _ _ (stepped .before .before .before .pre .0) _ (c .before .label-nodes .ensures) _ (c .start-state .ensures .count)
 
 pub holds-at-start-spec : {M : Type 1} → statement M

@@ -117,3 +117,9 @@ pub steps-slice : (t : Table) → InRange t → (s : ℕ)
     → stepsFrom t s ≡ orElse (slice (exitsBelow (t .transitions) s) (exitsBelow (t .transitions) (suc s)) (t .transitions)) (idleAt s ∷ [])
 unfolding stepsFrom
 steps-slice t r s = ap (λ l. orElse l (idleAt s ∷ [])) (leaves-slice (t .transitions) (no-fall t r) s)
+
+-- Every transition leaves a state of the table.
+pub exits-all : (t : Table) → InRange t → (s : ℕ) → t .states ≤ s → exitsBelow (t .transitions) s ≡ length (t .transitions)
+exits-all t r s h =
+    exits-are (t .transitions) (length (t .transitions)) s (idleAt 0) (omega arith)
+    (λ i u. omega (arith, r .steps-in-range (getD (t .transitions) i (idleAt 0)) (getD-mem (t .transitions) i (idleAt 0) u) .leaves)) (λ i u v. absurd (omega arith))

@@ -1,4 +1,4 @@
--- Tests that agree at every state below 256 agree along the steps of a table: steps lead from such a state to such a state.
+-- Tests that agree at every state of a table agree along its steps: they lead from such a state to such a state.
 use mathlib.Core.Path.{_≡_, refl, sym, ap, _∙_, subst}
 use mathlib.Core.Logic.{_⊎_, inl, inr}
 use mathlib.Core.Bool.{Bool, true, false, not, _&&_, _||_}
@@ -7,9 +7,9 @@ use Prim.Native.Nat.{ℕ, zero, suc, _≤_, _<_}
 use native.Mathlib.Omega.{arith}
 use lib.ListN.{length}
 use Rattle.lts.specs.Lists.{anyOf, every}
-use Rattle.lts.specs.Steps.{Step, Table, stepsFrom}
+use Rattle.lts.specs.Steps.{Step, Table, IsStep, stepsFrom}
 use Rattle.lts.specs.Range.{InRange}
-use Rattle.lts.proofs.StepsFrom.{step-below}
+use Rattle.lts.proofs.StepsFrom.{steps-are}
 use Rattle.actl.specs.Actions.{Mask, inSet, Cond, meets, passes}
 use Rattle.satisfaction.specs.Holds.{within, enters}
 use Rattle.until_search.specs.Flags.{leadsTo}
@@ -24,11 +24,18 @@ module _ {A : Type 0} (p q : A → Bool) where
   every-same (x ∷ l) h = rw (h x (List·Memᴰ·head refl), every-same l (λ y m. h y (List·Memᴰ·tail m)))
 
 -- Two tests agree at every state.
-abbrev pub Agree : (ℕ → Bool) → (ℕ → Bool) → Type 0
-Agree p q = (s : ℕ) → s < 256 → p s ≡ q s
+abbrev pub Agree : Table → (ℕ → Bool) → (ℕ → Bool) → Type 0
+Agree t p q = (s : ℕ) → s < t .states → p s ≡ q s
 
 module _ (t : Table) (r : InRange t) where
-  module _ (p q : ℕ → Bool) (a : Agree p q) where
+  step-inside : (s : ℕ) → s < t .states → (st : Step) → List·Memᴰ st (stepsFrom t s) → st .to < t .states
+  step-inside s h st m = let (e, i) = steps-are t s st .0 m in go e i
+    where
+      go : st .from ≡ s → IsStep t st → st .to < t .states
+      go e (inl n) = r .steps-in-range st n .enters
+      go e (inr (d, n)) = omega (arith, ap (λ (x : Step). x .to) d, e)
+
+  module _ (p q : ℕ → Bool) (a : Agree t p q) where
     -- Steps whose labels pass a test, and that lead to where p, or q, holds.
     abbrev to-p : (ℕ → Bool) → Step → Bool
     to-p m st = m (st .label) && p (st .to)
@@ -36,13 +43,13 @@ module _ (t : Table) (r : InRange t) where
     abbrev to-q : (ℕ → Bool) → Step → Bool
     to-q m st = m (st .label) && q (st .to)
 
-    pub some-agree : (m : ℕ → Bool) → Agree (λ s. anyOf (to-p m) (stepsFrom t s)) (λ s. anyOf (to-q m) (stepsFrom t s))
-    some-agree m s h = some-same (to-p m) (to-q m) (stepsFrom t s) (λ st n. ap (λ b. m (st .label) && b) (a (st .to) (step-below t r s h st n)))
+    pub some-agree : (m : ℕ → Bool) → Agree t (λ s. anyOf (to-p m) (stepsFrom t s)) (λ s. anyOf (to-q m) (stepsFrom t s))
+    some-agree m s h = some-same (to-p m) (to-q m) (stepsFrom t s) (λ st n. ap (λ b. m (st .label) && b) (a (st .to) (step-inside s h st n)))
 
-    pub every-agree : (m : ℕ → Bool) → Agree (λ s. every (to-p m) (stepsFrom t s)) (λ s. every (to-q m) (stepsFrom t s))
-    every-agree m s h = every-same (to-p m) (to-q m) (stepsFrom t s) (λ st n. ap (λ b. m (st .label) && b) (a (st .to) (step-below t r s h st n)))
+    pub every-agree : (m : ℕ → Bool) → Agree t (λ s. every (to-p m) (stepsFrom t s)) (λ s. every (to-q m) (stepsFrom t s))
+    every-agree m s h = every-same (to-p m) (to-q m) (stepsFrom t s) (λ st n. ap (λ b. m (st .label) && b) (a (st .to) (step-inside s h st n)))
 
-  pub within-agree : (p q : ℕ → Bool) → Agree p q → (m : Mask) (n : ℕ) → Agree (within t m p n) (within t m q n)
+  pub within-agree : (p q : ℕ → Bool) → Agree t p q → (m : Mask) (n : ℕ) → Agree t (within t m p n) (within t m q n)
   unfolding within
   within-agree p q a m zero s h = a s h
   within-agree p q a m (suc n) s h =

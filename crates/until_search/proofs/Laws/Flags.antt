@@ -59,16 +59,12 @@ module _ (p : Step → Bool) (steps : List ℕ) (s k end : ℕ) where
   pub some-none : end ≤ k → anyOf p (stepsBetween steps s k end) ≡ false
   some-none h = ap (anyOf p) (between-over steps s k end h)
 
--- Flags of the states below `end`, set a state at a time.
-pub record FlagsBelow (p : ℕ → Bool) (end : ℕ) (flags : List Bool) : Type 0 where
-  pub places : length flags ≡ 256
-  pub flag : (s : ℕ) → s < end → flagAt flags s ≡ p s
-
+-- Flags set a state at a time.
 module _ (p : ℕ → Bool) where
-  pub flags-none : FlagsBelow p 0 (replicate 256 false)
+  pub flags-none : Flags 0 p (replicate 256 false)
   flags-none = record { places = length-replicate 256 false; flag = λ s h. absurd (omega arith) }
 
-  pub flags-on : (end : ℕ) {flags : List Bool} (b : Bool) → end < 256 → b ≡ p end → FlagsBelow p end flags → FlagsBelow p (end + 1) (set flags end b)
+  pub flags-on : (end : ℕ) {flags : List Bool} (b : Bool) → end < 256 → b ≡ p end → Flags end p flags → Flags (end + 1) p (set flags end b)
   flags-on end {flags} b h e d = record {
     places = length-set flags end b ∙ d .places;
     flag = λ s l. here s l (ℕ-discrete s end);
@@ -79,9 +75,9 @@ module _ (p : ℕ → Bool) where
           ap (flagAt (set flags end b)) c ∙ (getD-set-same flags end b false (omega (arith, d .places)) ∙ (e ∙ ap p (sym c)))
       here s l (no c) = getD-set-other flags end s b false c ∙ d .flag s (omega arith)
 
-  pub flags-all : (end : ℕ) {flags : List Bool} → 256 ≤ end → FlagsBelow p end flags → Flags p flags
-  flags-all end h d = record { places = d .places; flag = λ s l. d .flag s (omega arith) }
+  pub flags-all : (n end : ℕ) {flags : List Bool} → n ≤ end → Flags end p flags → Flags n p flags
+  flags-all n end h d = record { places = d .places; flag = λ s l. d .flag s (omega arith) }
 
 -- Flags of two tests that agree at every state.
-pub flags-same : {p q : ℕ → Bool} {flags : List Bool} → ((s : ℕ) → s < 256 → p s ≡ q s) → Flags p flags → Flags q flags
+pub flags-same : {n : ℕ} {p q : ℕ → Bool} {flags : List Bool} → ((s : ℕ) → s < n → p s ≡ q s) → Flags n p flags → Flags n q flags
 flags-same h d = record { places = d .places; flag = λ s l. d .flag s l ∙ h s l }

@@ -16,18 +16,18 @@ steps-of-requires : tie.Need-steps-of-requires
 steps-of-requires c κs = search needs
 
 shape-of-requires : tie.Need-shape-of-requires
-shape-of-requires c κs = formula-long _ _ (c .before .before .before .before .before .before .pre .1 .0)
+shape-of-requires c κs = formula-long _ _ (c .before .before .before .before .pre .1 .0)
 
 target-masks-requires : tie.Need-target-masks-requires
 target-masks-requires c κs =
     let shaped = c .before .before in
-    let H = shaped .before .before .before .before .before .before .before .pre .1 .0 in
+    let H = shaped .before .before .before .before .before .pre .1 .0 in
     (formula-long _ _ H, (H .formula, spells _ _ (H .prepared) (shaped .shape-of .result) (shaped .shape-of .ensures _ _ (H .prepared))))
 
 final-places-requires : tie.Need-final-places-requires
 final-places-requires c κs =
     let shaped = c .before .before .before .before in
-    let H = shaped .before .before .before .before .before .before .before .pre .1 .0 in
+    let H = shaped .before .before .before .before .before .pre .1 .0 in
     (formula-long _ _ H, (H .formula, spells _ _ (H .prepared) (shaped .shape-of .result) (shaped .shape-of .ensures _ _ (H .prepared))))
 
 start-state-requires : tie.Need-start-state-requires
@@ -35,8 +35,8 @@ start-state-requires c κs = search needs
 
 read-word-requires : tie.Need-read-word-requires
 read-word-requires c κs =
-    let started = c .before .before .before .before in
-    let stepped = started .before .before .before .before .before .before .before .before .before in
+    let started = c .before .before .before .before .before in
+    let stepped = started .before .before .before .before .before .before .before in
     (stepped .steps-of .ensures .fit, (started .start-state .ensures .fits, stepped .before .before .before .before .pre .1 .1))
 
 some-final-requires : tie.Need-some-final-requires
@@ -44,13 +44,13 @@ some-final-requires c κs = search needs
 
 returns : tie.Need-returns
 returns c =
-    let started = c .before .before .before .before .before .before in
+    let started = c .before .before .before .before .before .before .before in
     let finals = started .before .final-places in
     let masked = started .before .before .before in
     let masks = masked .target-masks in
     let shaped = masked .before .before .before in
     let shape = shaped .shape-of in
-    let stepped = shaped .before .before .before in
+    let stepped = shaped .before in
     let steps = stepped .steps-of .result .steps in
     let firsts = stepped .steps-of .result .firsts in
     let start = stepped .before .before .before .before in

@@ -3,7 +3,10 @@ use borrow.Author.Needs.{needs}
 use mathlib.Core.Path.{_≡_, refl, sym, ap, _∙_, subst}
 use mathlib.Core.Bool.{Bool}
 use mathlib.Core.List.{List}
+use Prim.Native.Nat.{ℕ}
+use native.Mathlib.Omega.{arith}
 use Rattle.lts.specs.Steps.{stepsFrom}
+use Rattle.tables.specs.StepArray.{stepsIn}
 use Rattle.lts.specs.Prepared.{tableIn}
 use Rattle.formulas.specs.declared.node.Node.{Node}
 use Rattle.until_search.specs.Flags.{flagAt, atOnce, nodeHolds, Flags}
@@ -13,20 +16,28 @@ use Rattle.labelling.proofs.nodes.label_node.Statement.{statement}
 use Rattle.labelling.proofs.nodes.label_node.Tie as tie
 
 abbrev AtOnce : tie.Start → List Bool → Node → Type 0
-AtOnce c flags n = Flags (λ s. atOnce n (flagAt (c .args .arm .now)) (flagAt (c .args .other .now)) s (stepsFrom (tableIn (c .args .table .now)) s)) flags
+AtOnce c flags n = Flags (tableIn (c .args .table .now) .states) (λ s. atOnce n (flagAt (c .args .arm .now)) (flagAt (c .args .other .now)) s (stepsFrom (tableIn (c .args .table .now)) s)) flags
 
 abbrev Wanted : tie.Start → List Bool → Node → Type 0
-Wanted c flags n = Flags (nodeHolds (tableIn (c .args .table .now)) n (flagAt (c .args .arm .now)) (flagAt (c .args .other .now))) flags
+Wanted c flags n = Flags (tableIn (c .args .table .now) .states) (nodeHolds (tableIn (c .args .table .now)) n (flagAt (c .args .arm .now)) (flagAt (c .args .other .now))) flags
 
 -- The steps in the arrays are the table's.
-at-once : (c : tie.After-label-at-once) → AtOnce (c .before .before) (c .label-at-once .result) (c .before .before .args .node)
+at-once : (c : tie.After-label-at-once) → AtOnce (c .before .before .before) (c .label-at-once .result) (c .before .before .before .args .node)
 at-once c =
-    let start = c .before .before in
+    let start = c .before .before .before in
     let a = start .args in
-    flags-same (λ s h. ap (atOnce (a .node) (flagAt (a .arm .now)) (flagAt (a .other .now)) s) (start .pre .1 .0 .leaving s h)) (c .label-at-once .ensures)
+    let t = tableIn (a .table .now) in
+    let once : ℕ → Bool = λ s. atOnce (a .node) (flagAt (a .arm .now)) (flagAt (a .other .now)) s (stepsIn (a .steps .now) (a .firsts .now) s) in
+    let found = subst (λ n. Flags n once (c .label-at-once .result)) (c .before .state-count .ensures .count) (c .label-at-once .ensures) in
+    flags-same (λ s h. ap (atOnce (a .node) (flagAt (a .arm .now)) (flagAt (a .other .now)) s) (start .pre .1 .0 .leaving s (omega (arith, start .pre .0 .in-range .few-states)))) found
+
+state-count-requires : tie.Need-state-count-requires
+state-count-requires c κs = c .before .pre .0 .long
 
 label-at-once-requires : tie.Need-label-at-once-requires
-label-at-once-requires c κs = c .before .pre .1 .0 .fit
+label-at-once-requires c κs =
+    let start = c .before .before in
+    (start .pre .1 .0 .fit, omega (arith, c .state-count .ensures .count, start .pre .0 .in-range .few-states))
 
 enum-told : tie.Need-enum-told
 enum-told c = search needs
@@ -57,42 +68,42 @@ until-requires-2 c κs = search needs
 
 returns : tie.Need-returns
 returns c =
-    let start = c .before .before .before .before in
+    let start = c .before .before .before .before .before in
     let known = c .before .before in
     let found = known .label-at-once in
     subst (Wanted start (found .result)) (sym (c .enum-told .given .1)) (subst (AtOnce start (found .result)) (c .enum-told .given .1) (at-once known))
 
 returns-2 : tie.Need-returns-2
 returns-2 c =
-    let start = c .before .before .before .before in
+    let start = c .before .before .before .before .before in
     let known = c .before .before in
     let found = known .label-at-once in
     subst (Wanted start (found .result)) (sym (c .enum-told2 .given .1)) (subst (AtOnce start (found .result)) (c .enum-told2 .given .1) (at-once known))
 
 returns-3 : tie.Need-returns-3
 returns-3 c =
-    let start = c .before .before .before .before in
+    let start = c .before .before .before .before .before in
     let known = c .before .before in
     let found = known .label-at-once in
     subst (Wanted start (found .result)) (sym (c .enum-told3 .given .1)) (subst (AtOnce start (found .result)) (c .enum-told3 .given .1) (at-once known))
 
 returns-4 : tie.Need-returns-4
 returns-4 c =
-    let start = c .before .before .before .before in
+    let start = c .before .before .before .before .before in
     let known = c .before .before in
     let found = known .label-at-once in
     subst (Wanted start (found .result)) (sym (c .enum-told4 .given .1)) (subst (AtOnce start (found .result)) (c .enum-told4 .given .1) (at-once known))
 
 returns-5 : tie.Need-returns-5
 returns-5 c =
-    let start = c .before .before .before .before in
+    let start = c .before .before .before .before .before in
     let known = c .before .before in
     let found = known .label-at-once in
     subst (Wanted start (found .result)) (sym (c .enum-told5 .given .1)) (subst (AtOnce start (found .result)) (c .enum-told5 .given .1) (at-once known))
 
 returns-6 : tie.Need-returns-6
 returns-6 c =
-    let start = c .before .before .before .before .before .before .before in
+    let start = c .before .before .before .before .before .before .before .before in
     let known = c .before .before .before .before .before in
     let found = known .label-at-once in
     let same = c .before .before .before .node .given .1 in
@@ -101,7 +112,7 @@ returns-6 c =
 
 returns-7 : tie.Need-returns-7
 returns-7 c =
-    let start = c .before .before .before .before .before .before .before in
+    let start = c .before .before .before .before .before .before .before .before in
     let known = c .before .before .before .before .before in
     let found = known .label-at-once in
     let same = c .before .before .before .node2 .given .1 in
@@ -112,6 +123,7 @@ pub label-node-spec : {M : Type 1} → statement M
 label-node-spec =
     tie.close
     (tie.spec
+    state-count-requires
     label-at-once-requires
     enum-told
     enum-told-2

@@ -2,14 +2,14 @@
 use mathlib.Core.Path.{_≡_, refl, sym, ap, _∙_, subst}
 use Prim.Native.Nat.{ℕ, _≤_, _<_, _+_, _-_, _*_}
 use native.Mathlib.Omega.{arith}
-use Rattle.until_search.specs.Flags.{flagAt}
-use Rattle.until_search.proofs.Laws.Flags.{FlagsBelow, flags-none, flags-on}
+use Rattle.until_search.specs.Flags.{flagAt, Flags}
+use Rattle.until_search.proofs.Laws.Flags.{flags-none, flags-on}
 use Rattle.labelling.proofs.Laws.Rows.{row-none, row-all}
 use Rattle.labelling.proofs.nodes.row.Statement.{statement}
 use Rattle.labelling.proofs.nodes.row.Tie as tie
 
 abbrev Inv-loop : tie.InvT-loop
-Inv-loop flags k found₀ s₀ found s = (k < 40) × ((s ≤ 256) × FlagsBelow (λ x. flagAt flags (k * 256 + x)) s found)
+Inv-loop flags k found₀ s₀ found s = (k < 40) × ((s ≤ 256) × Flags s (λ x. flagAt flags (k * 256 + x)) found)
 
 abbrev μ-loop : tie.MeasureT-loop
 μ-loop flags k found₀ s₀ found s = 256 - s

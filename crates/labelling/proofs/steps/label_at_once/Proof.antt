@@ -3,38 +3,43 @@ use mathlib.Core.Path.{_≡_, refl, sym, ap, _∙_, subst}
 use mathlib.Core.Bool.{Bool}
 use Prim.Native.Nat.{ℕ, _≤_, _<_, _+_, _-_}
 use native.Mathlib.Omega.{arith}
+use Rattle.lts.specs.Sizes.{mostStates}
 use Rattle.tables.specs.StepArray.{stepsIn}
-use Rattle.until_search.specs.Flags.{flagAt, atOnce}
-use Rattle.until_search.proofs.Laws.Flags.{FlagsBelow, flags-none, flags-on, flags-all}
+use Rattle.until_search.specs.Flags.{flagAt, atOnce, Flags}
+use Rattle.until_search.proofs.Laws.Flags.{flags-none, flags-on, flags-all}
 use Rattle.labelling.proofs.steps.label_at_once.Statement.{statement}
 use Rattle.labelling.proofs.steps.label_at_once.Tie as tie
 
 abbrev Inv-loop : tie.InvT-loop
-Inv-loop steps firsts node arm other flags₀ s₀ flags s = (s ≤ 256) × FlagsBelow (λ v. atOnce node (flagAt arm) (flagAt other) v (stepsIn steps firsts v)) s flags
+Inv-loop steps firsts states node arm other flags₀ s₀ flags s = (s ≤ states) × Flags s (λ v. atOnce node (flagAt arm) (flagAt other) v (stepsIn steps firsts v)) flags
 
 abbrev μ-loop : tie.MeasureT-loop
-μ-loop steps firsts node arm other flags₀ s₀ flags s = 256 - s
+μ-loop steps firsts states node arm other flags₀ s₀ flags s = states - s
+
+-- The state is one that a table may have.
+state : (c : tie.In-loop Inv-loop μ-loop) → c .before .loop .s < mostStates
+state c = omega (arith, c .loop-test .taken, c .before .before .pre .1)
 
 loop-holds : tie.Need-loop-holds Inv-loop μ-loop
 loop-holds c = (omega arith, flags-none _)
 
 at-once-requires : tie.Need-at-once-requires Inv-loop μ-loop
-at-once-requires c κs = (c .before .before .pre, omega arith)
+at-once-requires c κs = (c .before .before .pre .0, state c)
 
 array-write-flags : tie.Need-array-write-flags Inv-loop μ-loop
-array-write-flags c = omega arith
+array-write-flags c = omega (arith, state (c .before))
 
 add-s : tie.Need-add-s Inv-loop μ-loop
-add-s c = omega arith
+add-s c = omega (arith, state (c .before))
 
 loop-less : tie.Need-loop-less Inv-loop μ-loop
 loop-less c = omega arith
 
 loop-again : tie.Need-loop-again Inv-loop μ-loop
-loop-again c = (omega (arith, c .before .loop-test .taken), flags-on _ (c .before .before .loop .s) (c .at-once .result) (c .before .loop-test .taken) (c .at-once .ensures) (c .before .before .loop .inv .1))
+loop-again c = (omega (arith, c .before .loop-test .taken), flags-on _ (c .before .before .loop .s) (c .at-once .result) (state (c .before)) (c .at-once .ensures) (c .before .before .loop .inv .1))
 
 returns : tie.Need-returns Inv-loop μ-loop
-returns c = flags-all _ (c .before .loop .s) (c .loop-test .left) (c .before .loop .inv .1)
+returns c = flags-all _ _ (c .before .loop .s) (c .loop-test .left) (c .before .loop .inv .1)
 
 pub label-at-once-spec : {M : Type 1} → statement M
 label-at-once-spec =

@@ -31,10 +31,13 @@ placed c =
     let start = c .before .before .before in
     omega (arith, c .loop-test .taken, c .before .loop .inv .1, start .pre .0 .few (start .args .s) (start .pre .1))
 
--- What the call answered of the step at k.
+-- The step at k, as the search has it.
+abbrev searched : tie.At-loop Inv-loop μ-loop → Step
+searched c = stepAt (c .before .before .args .steps .now) (c .before .before .args .s) (c .loop .k)
+
+-- What the call answered of it.
 outcome : (c : tie.After-leads Inv-loop μ-loop)
-    → wanted (c .before .before .before .before .before .before .before .before) (stepAt (c .before .before .before .before .before .before .before .before .args .steps .now) (c .before .before .before .before .before .before .before .before .args .s) (c .before .before .before .before .before .before .loop .k))
-    ≡ c .leads .result
+    → wanted (c .before .before .before .before .before .before .before .before) (searched (c .before .before .before .before .before .before)) ≡ c .leads .result
 outcome c =
     let start = c .before .before .before .before .before .before .before .before in
     let label = c .before .before .label-of .ensures in
@@ -47,9 +50,11 @@ leaving-requires c κs = c .pre .1
 loop-holds : tie.Need-loop-holds Inv-loop μ-loop
 loop-holds c =
     let start = c .before in
-    let span : c .leaving .result ≡ spanOf (start .args .firsts .now) (start .args .s) = c .leaving .ensures in
+    let a = start .args in
+    let span : c .leaving .result ≡ spanOf (a .firsts .now) (a .s) = c .leaving .ensures in
     let from = ap (λ (x : Span). x .from) span in
-    (omega (arith, from), ap (λ (x : Span). x .to) span, ap (λ (x : Span). anyOf (leadsAsWanted (start .args .wanted) (condIn (start .args .condition)) (flagAt (start .args .arm .now))) (stepsBetween (start .args .steps .now) (start .args .s) (x .from) (x .to))) (sym span))
+    let all = ap (λ (x : Span). anyOf (wanted start) (stepsBetween (a .steps .now) (a .s) (x .from) (x .to))) (sym span) in
+    (omega (arith, from), ap (λ (x : Span). x .to) span, all)
 
 mul-step : tie.Need-mul-step Inv-loop μ-loop
 mul-step c = omega (arith, placed c)
@@ -91,7 +96,8 @@ loop-again c =
     let loop = c .before .before .before .before .before .before .before in
     let start = loop .before .before in
     let taken = c .before .before .before .before .before .before .loop-test .taken in
-    (omega (arith, loop .loop .inv .0), loop .loop .inv .1, loop .loop .inv .2 ∙ some-later (wanted start) (start .args .steps .now) (start .args .s) (loop .loop .k) _ taken (outcome (c .before) ∙ c .if1 .left))
+    let later = some-later (wanted start) (start .args .steps .now) (start .args .s) (loop .loop .k) _ taken (outcome (c .before) ∙ c .if1 .left) in
+    (omega (arith, loop .loop .inv .0), loop .loop .inv .1, loop .loop .inv .2 ∙ later)
 
 returns-2 : tie.Need-returns-2 Inv-loop μ-loop
 returns-2 c =

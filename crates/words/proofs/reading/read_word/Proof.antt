@@ -80,7 +80,8 @@ returns c =
     let a = c .before .before .before .before .before .before .before .before .before .before .before .before .args in
     let from = stepsIn (a .steps .now) (a .firsts .now) in
     let loop = c .before .before .before .before .before .before .before .before .loop in
-    let last = word-turn from (a .masks .now) (a .word .now) (loop .i) (loop .reached) (loop .next) (c .before .before .before .before .before .before .if1 .taken) _ (c .before .before .read-letter3 .ensures) in
+    let taken = c .before .before .before .before .before .before .if1 .taken in
+    let last = word-turn from (a .masks .now) (a .word .now) (loop .i) (loop .reached) (loop .next) taken _ (c .before .before .read-letter3 .ensures) in
     let over = word-over from (a .masks .now) (a .word .now) (loop .i + 1) _ (loop .reached) (c .before .before .before .before .before .before .before .loop-test .left) in
     c .all-places .ensures ∙ ap allPlaces (sym (loop .inv .1 ∙ (last ∙ over)))
 
@@ -91,7 +92,8 @@ returns-2 : tie.Need-returns-2 Inv-loop μ-loop
 returns-2 c =
     let a = c .before .before .before .before .before .before .before .before .args in
     let loop = c .before .before .before .before .loop in
-    c .all-places2 .ensures ∙ ap allPlaces (sym (loop .inv .1 ∙ word-over (stepsIn (a .steps .now) (a .firsts .now)) (a .masks .now) (a .word .now) (loop .i) (loop .reached) (loop .next) (c .before .before .if1 .left)))
+    let from = stepsIn (a .steps .now) (a .firsts .now) in
+    c .all-places2 .ensures ∙ ap allPlaces (sym (loop .inv .1 ∙ word-over from (a .masks .now) (a .word .now) (loop .i) (loop .reached) (loop .next) (c .before .before .if1 .left)))
 
 pub read-word-spec : {M : Type 1} → statement M
 read-word-spec =
