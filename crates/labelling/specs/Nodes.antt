@@ -6,7 +6,8 @@ use mathlib.Core.List.{List}
 use mathlib.Core.Option.{some}
 use Prim.Native.Nat.{ℕ, _+_, _*_, _≤_, _<_}
 use lib.ListN.{length, getD}
-use Rattle.actl.specs.Sizes.{nodePositions}
+use Rattle.actl.specs.Sizes.{mostNodes, nodePositions}
+use Rattle.lts.specs.Sizes.{mostStates}
 use Rattle.lts.specs.Steps.{Table, labels}
 use Rattle.lts.specs.Prepared.{tableIn}
 use Rattle.actl.specs.Formulas.{Formula, tru, size, nodes}
@@ -16,18 +17,18 @@ use Rattle.until_search.specs.Flags.{flagAt, NodeFlags}
 
 -- The row of node k, where there is a place for it.
 pub record RowRead (k : ℕ) (flags row : List Bool) : Type 0 where
-  pub places : length row ≡ 256
-  pub flag : (s : ℕ) → k < 40 → s < 256 → flagAt row s ≡ flagAt flags (k * 256 + s)
+  pub places : length row ≡ mostStates
+  pub flag : (s : ℕ) → k < mostNodes → s < mostStates → flagAt row s ≡ flagAt flags (k * mostStates + s)
 
 -- Flags with the row of node k put in.
 pub record RowPut (k : ℕ) (row flags flags′ : List Bool) : Type 0 where
   pub places : length flags′ ≡ nodePositions
-  pub inside : (s : ℕ) → s < 256 → flagAt flags′ (k * 256 + s) ≡ flagAt row s
-  pub outside : (i : ℕ) → (i < k * 256) ⊎ (k * 256 + 256 ≤ i) → flagAt flags′ i ≡ flagAt flags i
+  pub inside : (s : ℕ) → s < mostStates → flagAt flags′ (k * mostStates + s) ≡ flagAt row s
+  pub outside : (i : ℕ) → (i < k * mostStates) ⊎ (k * mostStates + mostStates ≤ i) → flagAt flags′ i ≡ flagAt flags i
 
 -- The rows of the nodes from k on.
 pub record LabelledFrom (t : Table) (F : Formula) (k : ℕ) (flags : List Bool) : Type 0 where
-  pub flag : (j s : ℕ) → k ≤ j → j < size F → s < t .states → flagAt flags (j * 256 + s) ≡ holds t (getD (nodes F) j tru) s
+  pub flag : (j s : ℕ) → k ≤ j → j < size F → s < t .states → flagAt flags (j * mostStates + s) ≡ holds t (getD (nodes F) j tru) s
 
 -- The same of the formula in bytes, over the table in bytes.
 pub record RowsFrom (table formula : List ℕ) (k : ℕ) (flags : List Bool) : Type 0 where

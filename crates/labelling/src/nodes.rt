@@ -15,7 +15,7 @@ use until_search::until;
 ghost use mathlib.Core.Path.{_≡_};
 ghost use Prim.Native.Nat.{_+_, _<_};
 ghost use lib.ListN.{length, getD};
-ghost use Rattle.actl.specs.Sizes.{nodePositions};
+ghost use Rattle.actl.specs.Sizes.{mostNodes, nodePositions};
 ghost use Rattle.lts.specs.Steps.{labels};
 ghost use Rattle.lts.specs.Prepared.{tableIn};
 ghost use Rattle.lts.specs.HoldsTable.{HoldsTable};
@@ -69,7 +69,7 @@ pub fn row(flags: &[bool; NODE_POSITIONS], k: usize) -> [bool; STATES]
 }
 
 fn put_row(flags: &mut [bool; NODE_POSITIONS], k: usize, found: &[bool; STATES])
-    requires { ⌜ k < 40 ⌝ }
+    requires { ⌜ k < mostNodes ⌝ }
     requires { ⌜ length (now flags) ≡ nodePositions ⌝ }
     ensures { λ _. ⌜ RowPut k (now (found .entry)) (now (flags .entry)) (now (flags .exit)) ⌝ }
 {

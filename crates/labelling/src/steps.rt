@@ -37,7 +37,7 @@ pub fn some_step(
     s: usize,
 ) -> bool
     requires { ⌜ StepsFit (now steps) (now firsts) ⌝ }
-    requires { ⌜ s < 256 ⌝ }
+    requires { ⌜ s < mostStates ⌝ }
     ensures { λ r. ⌜ r ≡ someStep wanted (condIn condition) (flagAt (now (arm .entry))) (stepsIn (now (steps .entry)) (now (firsts .entry)) s) ⌝ }
 {
     let span = leaving(firsts, s);
@@ -64,7 +64,7 @@ pub fn at_once(
     s: usize,
 ) -> bool
     requires { ⌜ StepsFit (now steps) (now firsts) ⌝ }
-    requires { ⌜ s < 256 ⌝ }
+    requires { ⌜ s < mostStates ⌝ }
     ensures { λ r. ⌜ r ≡ atOnce node (flagAt (now (arm .entry))) (flagAt (now (other .entry))) s (stepsIn (now (steps .entry)) (now (firsts .entry)) s) ⌝ }
 {
     match node {

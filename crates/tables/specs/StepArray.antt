@@ -5,7 +5,7 @@ use mathlib.Core.List.{List, [], _∷_, _++_, map}
 use Prim.Native.Nat.{ℕ, suc, _+_, _-_, _*_, _/_, _%_, _≤_, _<_}
 use lib.Dec.{ltb}
 use lib.ListN.{length, getD, take}
-use Rattle.lts.specs.Sizes.{mostSteps}
+use Rattle.lts.specs.Sizes.{mostStates, mostLabels, mostSteps}
 use Rattle.lts.specs.Lists.{upFrom}
 use Rattle.lts.specs.Steps.{Step, Table, stepsFrom}
 use Rattle.tables.specs.declared.steps.Span.{Span}
@@ -30,14 +30,14 @@ stepsIn steps firsts s = stepsBetween steps s (spanOf firsts s .from) (spanOf fi
 
 -- Spans in the array, of steps that have a label which masks hold.
 pub record StepsFit (steps firsts : List ℕ) : Type 0 where
-  pub ordered : (s : ℕ) → s < 256 → spanOf firsts s .from ≤ spanOf firsts s .to
-  pub few : (s : ℕ) → s < 256 → spanOf firsts s .to ≤ mostSteps
-  pub labelled : (s j : ℕ) → s < 256 → spanOf firsts s .from ≤ j → j < spanOf firsts s .to → stepAt steps s j .label ≤ 40
+  pub ordered : (s : ℕ) → s < mostStates → spanOf firsts s .from ≤ spanOf firsts s .to
+  pub few : (s : ℕ) → s < mostStates → spanOf firsts s .to ≤ mostSteps
+  pub labelled : (s j : ℕ) → s < mostStates → spanOf firsts s .from ≤ j → j < spanOf firsts s .to → stepAt steps s j .label ≤ mostLabels
 
 -- The arrays of a table: those that stand there for s are the steps that leave s, in the table's order.
 pub record StepsOf (t : Table) (steps firsts : List ℕ) : Type 0 where
   pub fit : StepsFit steps firsts
-  pub leaving : (s : ℕ) → s < 256 → stepsIn steps firsts s ≡ stepsFrom t s
+  pub leaving : (s : ℕ) → s < mostStates → stepsIn steps firsts s ≡ stepsFrom t s
 
 -- How many of the steps leave a state below s.
 abbrev pub exitsBelow : List Step → ℕ → ℕ

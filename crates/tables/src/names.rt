@@ -7,7 +7,7 @@ use lts::sizes::TRANSITIONS_AT;
 ghost use mathlib.Core.Path.{_≡_};
 ghost use Prim.Native.Nat.{_+_, _*_, _≤_};
 ghost use lib.ListN.{length};
-ghost use Rattle.lts.specs.Sizes.{tableLength};
+ghost use Rattle.lts.specs.Sizes.{mostLabels, tableLength};
 ghost use Rattle.columns.specs.Bytes.{sameBytes};
 ghost use Rattle.lts.specs.Steps.{labels};
 ghost use Rattle.lts.specs.Names.{longestName, isLower, isNameByte, nameEnd, lookup};
@@ -99,7 +99,7 @@ pub fn find(slots: &[u8], count: usize, name: &[u8]) -> Lookup
 
 // The number of the label of a prepared table that has a name.
 pub fn find_label(table: &[u8], name: &[u8]) -> Lookup
-    requires { ⌜ (tableLength ≤ length (now table)) × ((labels (tableIn (now table)) ≤ 40) × (length (now name) ≤ longestName)) ⌝ }
+    requires { ⌜ (tableLength ≤ length (now table)) × ((labels (tableIn (now table)) ≤ mostLabels) × (length (now name) ≤ longestName)) ⌝ }
     ensures { λ r. ⌜ foundIn r ≡ lookup (tableIn (now (table .entry)) .names) (now (name .entry)) ⌝ }
 {
     let count = label_count(table);

@@ -7,7 +7,7 @@ use lts::sizes::TRANSITIONS_AT;
 ghost use mathlib.Core.Path.{_≡_};
 ghost use Prim.Native.Nat.{_≤_, _<_};
 ghost use lib.ListN.{length};
-ghost use Rattle.lts.specs.Sizes.{tableLength};
+ghost use Rattle.lts.specs.Sizes.{mostTransitions, tableLength};
 ghost use Rattle.lts.specs.Steps.{labels};
 ghost use Rattle.lts.specs.Prepared.{tableIn, byteAt};
 ghost use Rattle.lts.specs.Reading.{stepBelow};
@@ -56,7 +56,7 @@ pub fn start_state(table: &[u8]) -> usize
 }
 
 pub fn transition_at(table: &[u8], k: usize) -> Transition
-    requires { ⌜ (tableLength ≤ length (now table)) × (k < 1024) ⌝ }
+    requires { ⌜ (tableLength ≤ length (now table)) × (k < mostTransitions) ⌝ }
     ensures { λ r. ⌜ StepRead (now (table .entry)) k r ⌝ }
 {
     let at = k * TRANSITION;

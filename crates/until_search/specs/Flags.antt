@@ -5,6 +5,7 @@ use mathlib.Core.List.{List}
 use Prim.Native.Nat.{ℕ, _+_, _*_, _<_}
 use lib.ListN.{length, getD}
 use Rattle.actl.specs.Sizes.{nodePositions}
+use Rattle.lts.specs.Sizes.{mostStates}
 use Rattle.lts.specs.Lists.{anyOf, every}
 use Rattle.lts.specs.Steps.{Step, Table, stepsFrom}
 use Rattle.actl.specs.Actions.{Cond, inSet, meets}
@@ -55,10 +56,10 @@ nodeHolds t (UntilThen a b) p q s = within t a (enters t b p) (length (t .transi
 
 -- Flags that say of each state below n whether p holds there.
 pub record Flags (n : ℕ) (p : ℕ → Bool) (flags : List Bool) : Type 0 where
-  pub places : length flags ≡ 256
+  pub places : length flags ≡ mostStates
   pub flag : (s : ℕ) → s < n → flagAt flags s ≡ p s
 
 -- Flags of every node of F at every state of the table: node k and state s at k * 256 + s.
 pub record NodeFlags (t : Table) (F : Formula) (flags : List Bool) : Type 0 where
   pub places : length flags ≡ nodePositions
-  pub flag : (k s : ℕ) → k < size F → s < t .states → flagAt flags (k * 256 + s) ≡ holds t (getD (nodes F) k tru) s
+  pub flag : (k s : ℕ) → k < size F → s < t .states → flagAt flags (k * mostStates + s) ≡ holds t (getD (nodes F) k tru) s

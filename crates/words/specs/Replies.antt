@@ -4,6 +4,7 @@ use mathlib.Core.List.{List, [], _∷_}
 use mathlib.Core.Option.{Option, none, some}
 use Prim.Native.Nat.{ℕ, zero, suc}
 use lib.Dec.{ltb}
+use Rattle.automaton.specs.Sizes.{longestWord}
 use Rattle.lts.specs.Reply.{Reply, accepted, refusal}
 use Rattle.lts.specs.Steps.{labels}
 use Rattle.actl.specs.Reading.{unlessFound}
@@ -29,7 +30,7 @@ badFrom zero i labels (l ∷ w) = some i
 badFrom (suc left) i labels (l ∷ w) = cond (ltb labels l) (some i) (badFrom left (suc i) labels w)
 
 unfoldable pub badLetter : ℕ → List ℕ → Option ℕ
-badLetter labels w = badFrom 1024 0 labels w
+badLetter labels w = badFrom longestWord 0 labels w
 
 unfoldable pub wordReplied : List ℕ → List ℕ → List ℕ → Reply ℕ
 wordReplied table formula word = onPrepared table formula (λ t F. unlessFound (badLetter (labels t) word) 13 (accepted (bitOf (accepts t F word))))

@@ -1,10 +1,15 @@
 // What a word has reached: the places of each state as a mask, and in four masks behind these the states that have any, so that a letter
 // goes over no other states and clears no others.
-use lts::sizes::FIRSTS;
+use frontier::sizes::FOURTH_MARKS;
+use frontier::sizes::FRONTIER;
+use frontier::sizes::MARKS_AT;
+use frontier::sizes::SECOND_MARKS;
+use frontier::sizes::THIRD_MARKS;
 use lts::sizes::STATES;
 ghost use mathlib.Core.Path.{_≡_};
 ghost use mathlib.Core.Bool.{cond};
 ghost use Prim.Native.Nat.{_^_, _<_, _≤_};
+ghost use Rattle.lts.specs.Sizes.{mostStates};
 ghost use Rattle.target_masks.specs.Masks.{bitAt};
 ghost use Rattle.frontier.specs.Frontier.{hasState, emptied, brought, allPlaces, FirstFrom};
 
@@ -37,13 +42,13 @@ pub fn next_bit(mask: u64, k: usize) -> usize
 }
 
 // The first state that has places, from s on; 256 or more if there is none.
-pub fn next_state(frontier: &[u64; 260], s: usize) -> usize
-    requires { ⌜ s ≤ 256 ⌝ }
-    ensures { λ r. ⌜ FirstFrom (hasState (now (frontier .entry))) s 256 r ⌝ }
+pub fn next_state(frontier: &[u64; FRONTIER], s: usize) -> usize
+    requires { ⌜ s ≤ mostStates ⌝ }
+    ensures { λ r. ⌜ FirstFrom (hasState (now (frontier .entry))) s mostStates r ⌝ }
 {
     let mut v = s;
     while v < STATES {
-        let k = next_bit(frontier[256 + v / 64], v % 64);
+        let k = next_bit(frontier[MARKS_AT + v / 64], v % 64);
         if k < 64 {
             return v / 64 * 64 + k;
         }
@@ -52,13 +57,13 @@ pub fn next_state(frontier: &[u64; 260], s: usize) -> usize
     v
 }
 
-pub fn clear(frontier: &mut [u64; 260])
+pub fn clear(frontier: &mut [u64; FRONTIER])
     ensures { λ _. ⌜ now (frontier .exit) ≡ emptied (now (frontier .entry)) ⌝ }
 {
-    frontier[256] = 0;
-    frontier[FIRSTS] = 0;
-    frontier[258] = 0;
-    frontier[259] = 0;
+    frontier[MARKS_AT] = 0;
+    frontier[SECOND_MARKS] = 0;
+    frontier[THIRD_MARKS] = 0;
+    frontier[FOURTH_MARKS] = 0;
 }
 
 fn kept(marked: bool, places: u64) -> u64
@@ -68,18 +73,18 @@ fn kept(marked: bool, places: u64) -> u64
 }
 
 // Brings places to state s. What its mask says from an earlier letter is no place of it.
-pub fn bring(frontier: &mut [u64; 260], s: usize, places: u64)
-    requires { ⌜ s < 256 ⌝ }
+pub fn bring(frontier: &mut [u64; FRONTIER], s: usize, places: u64)
+    requires { ⌜ s < mostStates ⌝ }
     ensures { λ _. ⌜ now (frontier .exit) ≡ brought s places (now (frontier .entry)) ⌝ }
 {
-    let marks = frontier[256 + s / 64];
+    let marks = frontier[MARKS_AT + s / 64];
     let had = kept(has(marks, s % 64), frontier[s]);
     frontier[s] = had | places;
-    frontier[256 + s / 64] = marks | bit(s % 64);
+    frontier[MARKS_AT + s / 64] = marks | bit(s % 64);
 }
 
 // The places of all states together.
-pub fn all_places(frontier: &[u64; 260]) -> u64
+pub fn all_places(frontier: &[u64; FRONTIER]) -> u64
     ensures { λ r. ⌜ r ≡ allPlaces (now (frontier .entry)) ⌝ }
 {
     let mut found = 0u64;

@@ -2,6 +2,7 @@
 use crate::frontiers::has;
 use crate::reading::read_word;
 use crate::reading::wide;
+use automaton::sizes::LONGEST_WORD;
 use automaton::sizes::PLACES;
 use formula_check::inputs::Inputs;
 use formula_check::inputs::Unprepared;
@@ -19,6 +20,7 @@ mod reading;
 
 ghost use mathlib.Core.Path.{_≡_};
 ghost use Prim.Native.Nat.{_≤_};
+ghost use Rattle.actl.specs.Sizes.{mostNodes};
 ghost use Rattle.lts.specs.Reply.{accepted};
 ghost use Rattle.lts.specs.Steps.{labels};
 ghost use Rattle.lts.specs.Prepared.{tableIn};
@@ -44,8 +46,8 @@ fn bad_letter(labels: usize, word: &[u8]) -> Lookup
 {
     let mut i = 0;
     while i < word.len() {
-        if i == 1024 {
-            return Lookup::At(1024);
+        if i == LONGEST_WORD {
+            return Lookup::At(LONGEST_WORD);
         }
         if labels < wide(word[i]) {
             return Lookup::At(i);
@@ -56,7 +58,7 @@ fn bad_letter(labels: usize, word: &[u8]) -> Lookup
 }
 
 fn is_final(finals: &[bool; PLACES], places: u64, k: usize) -> bool
-    requires { ⌜ k ≤ 40 ⌝ }
+    requires { ⌜ k ≤ mostNodes ⌝ }
     ensures { λ r. ⌜ r ≡ finalPlace (now (finals .entry)) places k ⌝ }
 {
     if has(places, k) { finals[k] } else { false }

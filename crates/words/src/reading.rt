@@ -7,6 +7,7 @@ use crate::frontiers::next_state;
 use automaton::sizes::COLUMNS;
 use automaton::sizes::MASKS_LENGTH;
 use automaton::sizes::PLACES;
+use frontier::sizes::FRONTIER;
 use lts::sizes::FIRSTS;
 use lts::sizes::STATES;
 use lts::sizes::STEPS;
@@ -16,7 +17,7 @@ use tables::steps::state_of;
 use target_masks::column;
 ghost use mathlib.Core.Path.{_≡_};
 ghost use Prim.Native.Nat.{ℕ, _<_, _≤_};
-ghost use Rattle.lts.specs.Sizes.{mostSteps};
+ghost use Rattle.lts.specs.Sizes.{mostStates, mostLabels, mostSteps};
 ghost use Rattle.tables.specs.StepArray.{stepAt, stepsIn, StepsFit};
 ghost use Rattle.frontier.specs.Frontier.{nowhere, allPlaces};
 ghost use Rattle.frontier.specs.Reached.{targetsOf, stepTaken, stepsTaken, placesRead, letterRead, wordRead, rootReached, Letters};
@@ -29,7 +30,7 @@ pub fn wide(letter: u8) -> usize
 
 // The target places of a set of places on a label.
 fn targets_of(masks: &[u64; MASKS_LENGTH], places: u64, label: usize) -> u64
-    requires { ⌜ label ≤ 40 ⌝ }
+    requires { ⌜ label ≤ mostLabels ⌝ }
     ensures { λ r. ⌜ r ≡ targetsOf (now (masks .entry)) places label ⌝ }
 {
     let at = column(label);
@@ -45,7 +46,7 @@ fn targets_of(masks: &[u64; MASKS_LENGTH], places: u64, label: usize) -> u64
 }
 
 // Brings the places along step k, whichever state it leaves, if it has the label.
-fn take_step(steps: &[u16; STEPS], k: usize, label: usize, places: u64, next: &mut [u64; 260])
+fn take_step(steps: &[u16; STEPS], k: usize, label: usize, places: u64, next: &mut [u64; FRONTIER])
     requires { ⌜ k < mostSteps ⌝ }
     ensures { λ _. ⌜ ((s : ℕ) → now (next .exit) ≡ stepTaken label places (stepAt (now (steps .entry)) s k) (now (next .entry))) ⌝ }
 {
@@ -62,10 +63,10 @@ fn take_steps(
     s: usize,
     label: usize,
     places: u64,
-    next: &mut [u64; 260],
+    next: &mut [u64; FRONTIER],
 )
     requires { ⌜ StepsFit (now steps) (now firsts) ⌝ }
-    requires { ⌜ s < 256 ⌝ }
+    requires { ⌜ s < mostStates ⌝ }
     ensures { λ _. ⌜ now (next .exit) ≡ stepsTaken label places (stepsIn (now (steps .entry)) (now (firsts .entry)) s) (now (next .entry)) ⌝ }
 {
     let span = leaving(firsts, s);
@@ -85,10 +86,10 @@ fn read_places(
     places: u64,
     label: usize,
     s: usize,
-    next: &mut [u64; 260],
+    next: &mut [u64; FRONTIER],
 )
     requires { ⌜ StepsFit (now steps) (now firsts) ⌝ }
-    requires { ⌜ (label ≤ 40) × (s < 256) ⌝ }
+    requires { ⌜ (label ≤ mostLabels) × (s < mostStates) ⌝ }
     ensures { λ _. ⌜ now (next .exit) ≡ placesRead (stepsIn (now (steps .entry)) (now (firsts .entry)) s) (now (masks .entry)) places label (now (next .entry)) ⌝ }
 {
     let targets = targets_of(masks, places, label);
@@ -103,11 +104,11 @@ fn read_letter(
     firsts: &[u16; FIRSTS],
     masks: &[u64; MASKS_LENGTH],
     letter: u8,
-    reached: &[u64; 260],
-    next: &mut [u64; 260],
+    reached: &[u64; FRONTIER],
+    next: &mut [u64; FRONTIER],
 )
     requires { ⌜ StepsFit (now steps) (now firsts) ⌝ }
-    requires { ⌜ letter ≤ 40 ⌝ }
+    requires { ⌜ letter ≤ mostLabels ⌝ }
     ensures { λ _. ⌜ now (next .exit) ≡ letterRead (stepsIn (now (steps .entry)) (now (firsts .entry))) (now (masks .entry)) letter (now (reached .entry)) (now (next .entry)) ⌝ }
 {
     let label = wide(letter);
@@ -128,12 +129,12 @@ pub fn read_word<'a>(
     word: &[u8],
 ) -> u64
     requires { ⌜ StepsFit (now steps) (now firsts) ⌝ }
-    requires { ⌜ start < 256 ⌝ }
+    requires { ⌜ start < mostStates ⌝ }
     requires { ⌜ Letters (now word) ⌝ }
     ensures { λ r. ⌜ r ≡ allPlaces (wordRead (stepsIn (now (steps .entry)) (now (firsts .entry))) (now (masks .entry)) (now (word .entry)) (rootReached start) nowhere) ⌝ }
 {
-    let mut reached = [0u64; 260];
-    let mut next = [0u64; 260];
+    let mut reached = [0u64; FRONTIER];
+    let mut next = [0u64; FRONTIER];
     bring(&mut reached, start, 1);
     let mut i = 0;
     while i + 1 < word.len() {

@@ -9,6 +9,7 @@ use native.Mathlib.Decide.{ℕ-discrete}
 use native.Mathlib.Omega.{arith}
 use lib.Dec.{eqb}
 use lib.ListN.{length, getD}
+use Rattle.actl.specs.Sizes.{mostNodes}
 use Rattle.lts.specs.Sizes.{mostStates}
 use Rattle.lts.specs.Steps.{Table}
 use Rattle.lts.specs.Range.{InRange}
@@ -55,7 +56,7 @@ module _ (t : Table) (r : InRange t) (p q : ℕ → Bool) where
   node-holds n f e a s h =
       ap (λ m. nodeHolds t m p q s) (sym (node-in-slot n) ∙ ap nodeIn e) ∙ holds-in f a s h
 
-module _ (t : Table) (r : InRange t) (F : Formula) (few : size F ≤ 40) (k : ℕ) (below : k < size F) (flags : List Bool) (l : LabelledFrom t F (k + 1) flags) where
+module _ (t : Table) (r : InRange t) (F : Formula) (few : size F ≤ mostNodes) (k : ℕ) (below : k < size F) (flags : List Bool) (l : LabelledFrom t F (k + 1) flags) where
   abbrev here : Formula
   here = getD (nodes F) k tru
 
@@ -89,12 +90,12 @@ module _ (t : Table) (r : InRange t) (F : Formula) (few : size F ≤ 40) (k : �
         → Flags (t .states) (nodeHolds t n (flagAt arm) (flagAt other)) row → RowPut k row flags flags′ → LabelledFrom t F k flags′
     labelled-on n e row flags′ f z = record { flag = λ j s b m h. go j s b m h (ℕ-discrete j k) }
       where
-        go : (j s : ℕ) → k ≤ j → j < size F → s < t .states → Dec (j ≡ k) → flagAt flags′ (j * 256 + s) ≡ holds t (getD (nodes F) j tru) s
+        go : (j s : ℕ) → k ≤ j → j < size F → s < t .states → Dec (j ≡ k) → flagAt flags′ (j * mostStates + s) ≡ holds t (getD (nodes F) j tru) s
         go j s b m h (yes c) =
-            ap (λ x. flagAt flags′ (x * 256 + s)) c
+            ap (λ x. flagAt flags′ (x * mostStates + s)) c
             ∙ (z .inside s (omega (arith, r .few-states))
             ∙ (f .flag s h ∙ (node-holds t r (flagAt arm) (flagAt other) n here e (arms here (at-node F k below)) s h ∙ ap (λ x. holds t (getD (nodes F) x tru) s) (sym c))))
-        go j s b m h (no c) = z .outside (j * 256 + s) (inr (omega (arith, r .few-states))) ∙ l .flag j s (omega arith) m h
+        go j s b m h (no c) = z .outside (j * mostStates + s) (inr (omega (arith, r .few-states))) ∙ l .flag j s (omega arith) m h
 
 -- The search of an until from the flags of its goal.
 pub until-flags : (t : Table) → InRange t → (m : Mask) (g : ℕ → Bool) (goal flags : List Bool) → Flags (t .states) g goal

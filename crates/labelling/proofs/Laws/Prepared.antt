@@ -7,7 +7,7 @@ use Prim.Native.Nat.{ℕ, _+_, _≤_, _<_}
 use native.Mathlib.Nat.{zero-add}
 use native.Mathlib.Omega.{arith}
 use lib.ListN.{length, getD, replicate, length-take, length-replicate}
-use Rattle.actl.specs.Sizes.{formulaLength, nodePositions}
+use Rattle.actl.specs.Sizes.{mostNodes, formulaLength, nodePositions}
 use Rattle.lts.specs.Steps.{labels}
 use Rattle.lts.specs.Prepared.{tableIn}
 use Rattle.lts.specs.HoldsTable.{HoldsTable}
@@ -28,7 +28,7 @@ module _ (n : ℕ) (b : List ℕ) (h : HoldsFormula n b) where
   formula-long =
       omega (arith, ap length (prepared-of n b (h .prepared) .form), length-form (h .formula) (prepared-few n b (h .prepared)), length-take formulaLength b)
 
-  pub formula-few : getD b 0 0 ≤ 40
+  pub formula-few : getD b 0 0 ≤ mostNodes
   formula-few = omega (arith, prepared-count n b (h .prepared), prepared-few n b (h .prepared))
 
   pub formula-shaped : (k : ℕ) → k < getD b 0 0 → shaped (slotAt b k) ≡ true

@@ -8,44 +8,45 @@ use native.Mathlib.Decide.{ℕ-discrete}
 use native.Mathlib.Omega.{arith}
 use lib.ListN.{length, getD, set, replicate, length-set, length-replicate}
 use lib.Seq.{getD-set-same, getD-set-other}
-use Rattle.actl.specs.Sizes.{nodePositions}
+use Rattle.actl.specs.Sizes.{mostNodes, nodePositions}
+use Rattle.lts.specs.Sizes.{mostStates}
 use Rattle.until_search.specs.Flags.{flagAt, Flags}
 use Rattle.labelling.specs.Nodes.{RowRead, RowPut}
 
 -- A row that is not there is empty.
-pub row-none : (k : ℕ) (flags : List Bool) → 40 ≤ k → RowRead k flags (replicate 256 false)
-row-none k flags h = record { places = length-replicate 256 false; flag = λ s l m. absurd (omega arith) }
+pub row-none : (k : ℕ) (flags : List Bool) → 40 ≤ k → RowRead k flags (replicate mostStates false)
+row-none k flags h = record { places = length-replicate mostStates false; flag = λ s l m. absurd (omega arith) }
 
-pub row-all : (k s : ℕ) {flags row : List Bool} → 256 ≤ s → Flags s (λ x. flagAt flags (k * 256 + x)) row → RowRead k flags row
+pub row-all : (k s : ℕ) {flags row : List Bool} → mostStates ≤ s → Flags s (λ x. flagAt flags (k * mostStates + x)) row → RowRead k flags row
 row-all k s h d = record { places = d .places; flag = λ x l m. d .flag x (omega arith) }
 
 -- The first `end` flags of a row are put in.
 pub record RowPutBelow (k end : ℕ) (row flags flags′ : List Bool) : Type 0 where
   pub places : length flags′ ≡ nodePositions
-  pub inside : (s : ℕ) → s < end → flagAt flags′ (k * 256 + s) ≡ flagAt row s
-  pub outside : (i : ℕ) → (i < k * 256) ⊎ (k * 256 + 256 ≤ i) → flagAt flags′ i ≡ flagAt flags i
+  pub inside : (s : ℕ) → s < end → flagAt flags′ (k * mostStates + s) ≡ flagAt row s
+  pub outside : (i : ℕ) → (i < k * mostStates) ⊎ (k * mostStates + mostStates ≤ i) → flagAt flags′ i ≡ flagAt flags i
 
 module _ (k : ℕ) (row flags : List Bool) where
   pub row-put-none : length flags ≡ nodePositions → RowPutBelow k 0 row flags flags
   row-put-none e = record { places = e; inside = λ s h. absurd (omega arith); outside = λ i h. refl }
 
-  pub row-put-on : (end : ℕ) (flags′ : List Bool) → k < 40 → end < 256 → RowPutBelow k end row flags flags′
-      → RowPutBelow k (end + 1) row flags (set flags′ (k * 256 + end) (getD row end false))
+  pub row-put-on : (end : ℕ) (flags′ : List Bool) → k < mostNodes → end < mostStates → RowPutBelow k end row flags flags′
+      → RowPutBelow k (end + 1) row flags (set flags′ (k * mostStates + end) (getD row end false))
   row-put-on end flags′ few h d = record {
-    places = length-set flags′ (k * 256 + end) (getD row end false) ∙ d .places;
+    places = length-set flags′ (k * mostStates + end) (getD row end false) ∙ d .places;
     inside = λ s l. here s l (ℕ-discrete s end);
-    outside = λ i l. getD-set-other flags′ (k * 256 + end) i (getD row end false) false (apart i l) ∙ d .outside i l;
+    outside = λ i l. getD-set-other flags′ (k * mostStates + end) i (getD row end false) false (apart i l) ∙ d .outside i l;
   }
     where
-      apart : (i : ℕ) → (i < k * 256) ⊎ (k * 256 + 256 ≤ i) → i ≡ k * 256 + end → ⊥
+      apart : (i : ℕ) → (i < k * mostStates) ⊎ (k * mostStates + mostStates ≤ i) → i ≡ k * mostStates + end → ⊥
       apart i (inl l) e = omega arith
       apart i (inr l) e = omega arith
 
-      here : (s : ℕ) → s < end + 1 → Dec (s ≡ end) → flagAt (set flags′ (k * 256 + end) (getD row end false)) (k * 256 + s) ≡ flagAt row s
+      here : (s : ℕ) → s < end + 1 → Dec (s ≡ end) → flagAt (set flags′ (k * mostStates + end) (getD row end false)) (k * mostStates + s) ≡ flagAt row s
       here s l (yes e) =
-          ap (λ x. flagAt (set flags′ (k * 256 + end) (getD row end false)) (k * 256 + x)) e
-          ∙ (getD-set-same flags′ (k * 256 + end) (getD row end false) false (omega (arith, d .places)) ∙ ap (flagAt row) (sym e))
-      here s l (no e) = getD-set-other flags′ (k * 256 + end) (k * 256 + s) (getD row end false) false (λ z. e (omega arith)) ∙ d .inside s (omega arith)
+          ap (λ x. flagAt (set flags′ (k * mostStates + end) (getD row end false)) (k * mostStates + x)) e
+          ∙ (getD-set-same flags′ (k * mostStates + end) (getD row end false) false (omega (arith, d .places)) ∙ ap (flagAt row) (sym e))
+      here s l (no e) = getD-set-other flags′ (k * mostStates + end) (k * mostStates + s) (getD row end false) false (λ z. e (omega arith)) ∙ d .inside s (omega arith)
 
-  pub row-put-all : (end : ℕ) {flags′ : List Bool} → 256 ≤ end → RowPutBelow k end row flags flags′ → RowPut k row flags flags′
+  pub row-put-all : (end : ℕ) {flags′ : List Bool} → mostStates ≤ end → RowPutBelow k end row flags flags′ → RowPut k row flags flags′
   row-put-all end h d = record { places = d .places; inside = λ s l. d .inside s (omega arith); outside = d .outside }

@@ -8,7 +8,7 @@ use native.Mathlib.Decide.{decLt, ℕ-discrete}
 use native.Mathlib.Omega.{arith}
 use lib.ListN.{length, getD, set, take, length-set, length-map, length-append, List·getD-append}
 use lib.Seq.{slice, slice-cons, take-suc-set, length-slice, getD-set-same, getD-set-other, getD-append-add, getD-take}
-use Rattle.lts.specs.Sizes.{mostSteps, firstsLength}
+use Rattle.lts.specs.Sizes.{mostStates, mostLabels, mostSteps, firstsLength}
 use Rattle.lts.specs.Lists.{upFrom, orElse, bind}
 use Rattle.lts.specs.Steps.{Step, Table, idleAt, stepsFrom}
 use Rattle.lts.specs.Range.{InRange}
@@ -154,11 +154,11 @@ map-upFrom-is f d (x ∷ l) a h =
 
 -- All states are done.
 record AllDone (t : Table) (steps firsts : List ℕ) : Type 0 where
-  first : (s : ℕ) → s ≤ 256 → getD firsts s 0 ≡ length (stepsBelow t s)
+  first : (s : ℕ) → s ≤ mostStates → getD firsts s 0 ≡ length (stepsBelow t s)
   few : length (stepsBelow t 256) ≤ mostSteps
   codes : take (length (stepsBelow t 256)) steps ≡ map stepCode (stepsBelow t 256)
 
-module _ (t : Table) (w : InRange t) (steps firsts : List ℕ) (h : AllDone t steps firsts) (s : ℕ) (few : s < 256) where
+module _ (t : Table) (w : InRange t) (steps firsts : List ℕ) (h : AllDone t steps firsts) (s : ℕ) (few : s < mostStates) where
   abbrev S : List Step
   S = stepsFrom t s
 
@@ -209,7 +209,7 @@ module _ (t : Table) (w : InRange t) (steps firsts : List ℕ) (h : AllDone t st
       let many : getD firsts (s + 1) 0 - from ≡ length S = omega (arith, next-is) in
       ap (λ n. map (stepAt steps s) (upFrom from n)) many ∙ map-upFrom-is (stepAt steps s) (idleAt 0) S from step-is
 
-  label-few : (j : ℕ) → from ≤ j → j < getD firsts (s + 1) 0 → stepAt steps s j .label ≤ 40
+  label-few : (j : ℕ) → from ≤ j → j < getD firsts (s + 1) 0 → stepAt steps s j .label ≤ mostLabels
   label-few j x y =
       let k : j - from < length S = omega (arith, next-is) in
       let z : from + (j - from) ≡ j = omega arith in
@@ -228,10 +228,10 @@ all-steps t w steps firsts h = record {
 }
 
 module _ (t : Table) (w : InRange t) where
-  pub below-fits : {s at : ℕ} {steps firsts : List ℕ} → s ≤ 256 → BelowDone t s at steps firsts → at ≤ mostSteps
+  pub below-fits : {s at : ℕ} {steps firsts : List ℕ} → s ≤ mostStates → BelowDone t s at steps firsts → at ≤ mostSteps
   below-fits {s} h d = omega (arith, d .few, exits-at-most (t .transitions) s, w .few-transitions)
 
-  pub below-more : {s at : ℕ} {steps firsts : List ℕ} → s < 256 → BelowDone t s at steps firsts → (end : ℕ) (after : List ℕ)
+  pub below-more : {s at : ℕ} {steps firsts : List ℕ} → s < mostStates → BelowDone t s at steps firsts → (end : ℕ) (after : List ℕ)
       → PutBehind (map stepCode (stepsFrom t s)) at steps end after → BelowDone t (s + 1) end after (set firsts s at)
   below-more {s} {at} {steps} {firsts} h d end after r =
       let n : length (stepsBelow t (s + 1)) ≡ length (stepsBelow t s) + length (stepsFrom t s) =

@@ -7,6 +7,7 @@ use native.Mathlib.Decide.{ℕ-discrete}
 use native.Mathlib.Omega.{arith}
 use lib.ListN.{length, set, replicate, length-set, length-replicate}
 use lib.Seq.{getD-set-same, getD-set-other}
+use Rattle.lts.specs.Sizes.{mostStates}
 use Rattle.lts.specs.Lists.{anyOf, every}
 use Rattle.lts.specs.Steps.{Step}
 use Rattle.tables.specs.StepArray.{stepAt, stepsBetween}
@@ -61,10 +62,10 @@ module _ (p : Step → Bool) (steps : List ℕ) (s k end : ℕ) where
 
 -- Flags set a state at a time.
 module _ (p : ℕ → Bool) where
-  pub flags-none : Flags 0 p (replicate 256 false)
-  flags-none = record { places = length-replicate 256 false; flag = λ s h. absurd (omega arith) }
+  pub flags-none : Flags 0 p (replicate mostStates false)
+  flags-none = record { places = length-replicate mostStates false; flag = λ s h. absurd (omega arith) }
 
-  pub flags-on : (end : ℕ) {flags : List Bool} (b : Bool) → end < 256 → b ≡ p end → Flags end p flags → Flags (end + 1) p (set flags end b)
+  pub flags-on : (end : ℕ) {flags : List Bool} (b : Bool) → end < mostStates → b ≡ p end → Flags end p flags → Flags (end + 1) p (set flags end b)
   flags-on end {flags} b h e d = record {
     places = length-set flags end b ∙ d .places;
     flag = λ s l. here s l (ℕ-discrete s end);

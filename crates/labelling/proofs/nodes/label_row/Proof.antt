@@ -4,6 +4,7 @@ use mathlib.Core.Path.{_≡_, refl, sym, ap, _∙_, subst}
 use Prim.Native.Nat.{ℕ, _≤_, _<_, _+_, _-_}
 use native.Mathlib.Omega.{arith}
 use lib.ListN.{length, getD}
+use Rattle.actl.specs.Sizes.{mostNodes}
 use Rattle.lts.specs.Steps.{labels}
 use Rattle.lts.specs.Prepared.{tableIn}
 use Rattle.actl.specs.Formulas.{Formula, tru, size, nodes}
@@ -13,7 +14,7 @@ use Rattle.labelling.proofs.Laws.Prepared.{formula-long, formula-few, f
 use Rattle.labelling.proofs.nodes.label_row.Statement.{statement}
 use Rattle.labelling.proofs.nodes.label_row.Tie as tie
 
-few : (c : tie.Start) → c .args .k < 40
+few : (c : tie.Start) → c .args .k < mostNodes
 few c = omega (arith, c .pre .1 .1 .1 .1 .1 .0, formula-few _ _ (c .pre .1 .1 .1 .0))
 
 node-at-requires : tie.Need-node-at-requires

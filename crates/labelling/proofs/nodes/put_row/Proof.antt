@@ -2,15 +2,16 @@
 use mathlib.Core.Path.{_≡_, refl, sym, ap, _∙_, subst}
 use Prim.Native.Nat.{ℕ, _≤_, _<_, _+_, _-_, _*_}
 use native.Mathlib.Omega.{arith}
+use Rattle.lts.specs.Sizes.{mostStates}
 use Rattle.labelling.proofs.Laws.Rows.{RowPutBelow, row-put-none, row-put-on, row-put-all}
 use Rattle.labelling.proofs.nodes.put_row.Statement.{statement}
 use Rattle.labelling.proofs.nodes.put_row.Tie as tie
 
 abbrev Inv-loop : tie.InvT-loop
-Inv-loop flags₀ k found s₀ flags s = (s ≤ 256) × RowPutBelow k s found flags₀ flags
+Inv-loop flags₀ k found s₀ flags s = (s ≤ mostStates) × RowPutBelow k s found flags₀ flags
 
 abbrev μ-loop : tie.MeasureT-loop
-μ-loop flags₀ k found s₀ flags s = 256 - s
+μ-loop flags₀ k found s₀ flags s = mostStates - s
 
 loop-holds : tie.Need-loop-holds Inv-loop μ-loop
 loop-holds c = (omega arith, row-put-none _ _ _ (c .pre .1))

@@ -2,6 +2,8 @@
 use mathlib.Core.Path.{_≡_, refl, sym, ap, _∙_, subst}
 use Prim.Native.Nat.{ℕ, _≤_, _<_, _+_, _-_, _*_}
 use native.Mathlib.Omega.{arith}
+use Rattle.actl.specs.Sizes.{mostNodes}
+use Rattle.lts.specs.Sizes.{mostStates}
 use Rattle.until_search.specs.Flags.{flagAt, Flags}
 use Rattle.until_search.proofs.Laws.Flags.{flags-none, flags-on}
 use Rattle.labelling.proofs.Laws.Rows.{row-none, row-all}
@@ -9,10 +11,10 @@ use Rattle.labelling.proofs.nodes.row.Statement.{statement}
 use Rattle.labelling.proofs.nodes.row.Tie as tie
 
 abbrev Inv-loop : tie.InvT-loop
-Inv-loop flags k found₀ s₀ found s = (k < 40) × ((s ≤ 256) × Flags s (λ x. flagAt flags (k * 256 + x)) found)
+Inv-loop flags k found₀ s₀ found s = (k < mostNodes) × ((s ≤ mostStates) × Flags s (λ x. flagAt flags (k * mostStates + x)) found)
 
 abbrev μ-loop : tie.MeasureT-loop
-μ-loop flags k found₀ s₀ found s = 256 - s
+μ-loop flags k found₀ s₀ found s = mostStates - s
 
 returns : tie.Need-returns Inv-loop μ-loop
 returns c = row-none _ _ (c .if1 .taken)
