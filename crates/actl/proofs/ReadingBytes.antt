@@ -7,7 +7,7 @@ use native.Mathlib.Numerals.{add-one}
 use native.Mathlib.Omega.{arith}
 use lib.ListN.{length, getD, take, drop, set, replicate, length-append, length-set, length-replicate, length-map, take-append-drop, replicate-append-replicate}
 use lib.Seq.{length-take-le, take-at, drop-append-add, drop-drop, take-suc-set}
-use Rattle.actl.specs.Sizes.{mostNodes, formulaLength}
+use Rattle.actl.specs.Sizes.{mostNodes, nodeSlotLength, formulaLength, cellLength}
 use Rattle.columns.specs.Write.{pasted}
 use Rattle.columns.proofs.Laws.Pasting.{pasted-length, set-pasted}
 use Rattle.columns.specs.Bytes.{lowFirst}
@@ -88,8 +88,8 @@ node-pasted at k f g e x y z h p q r =
     let b : y ≡ pasted e at ((k % 256) ∷ lowFirst 8 f) = pasted-then at (at + 1) ((k % 256) ∷ []) (lowFirst 8 f) e x y a refl (omega arith) q in
     pasted-then at (at + 9) ((k % 256) ∷ lowFirst 8 f) (lowFirst 8 g) e y z b refl (omega arith) r
 
-pub length-cell-bytes : (c : List ℕ) (n : ℕ) → length (cellBytes c n) ≡ n * 17
-length-cell-bytes c n = length-parts (bytesAt c) 17 (λ k. refl) (upFrom 0 n) ∙ ap (λ k. k * 17) (upFrom-length 0 n)
+pub length-cell-bytes : (c : List ℕ) (n : ℕ) → length (cellBytes c n) ≡ n * nodeSlotLength
+length-cell-bytes c n = length-parts (bytesAt c) 17 (λ k. refl) (upFrom 0 n) ∙ ap (λ k. k * nodeSlotLength) (upFrom-length 0 n)
 
 cell-bytes-more : (c : List ℕ) (k : ℕ) → cellBytes c k ++ bytesAt c k ≡ cellBytes c (k + 1)
 cell-bytes-more c k = sym (ap (bind (bytesAt c)) (upFrom-append 0 k 1) ∙ (bind-append (bytesAt c) (upFrom 0 k) (upFrom (0 + k) 1)
@@ -98,18 +98,18 @@ cell-bytes-more c k = sym (ap (bind (bytesAt c)) (upFrom-append 0 k 1) ∙ (bind
 pub nodes-none : (c e : List ℕ) → e ≡ pasted e 1 (cellBytes c 0)
 nodes-none c e = pasted-none 1 e
 
-pub nodes-more : (c e x y : List ℕ) (k : ℕ) → 1 + k * 17 + 17 ≤ length e → x ≡ pasted e 1 (cellBytes c k) → y ≡ pasted x (1 + k * 17) (bytesAt c k) → y ≡ pasted e 1 (cellBytes c (k + 1))
+pub nodes-more : (c e x y : List ℕ) (k : ℕ) → 1 + k * nodeSlotLength + 17 ≤ length e → x ≡ pasted e 1 (cellBytes c k) → y ≡ pasted x (1 + k * nodeSlotLength) (bytesAt c k) → y ≡ pasted e 1 (cellBytes c (k + 1))
 nodes-more c e x y k h p q =
     let l = length-cell-bytes c k in
-    pasted-then 1 (1 + k * 17) (cellBytes c k) (bytesAt c k) e x y p (omega arith) (omega arith) q ∙ ap (λ b. pasted e 1 b) (cell-bytes-more c k)
+    pasted-then 1 (1 + k * nodeSlotLength) (cellBytes c k) (bytesAt c k) e x y p (omega arith) (omega arith) q ∙ ap (λ b. pasted e 1 b) (cell-bytes-more c k)
 
-pub bytes-pasted : (c : List ℕ) (n : ℕ) (e x y z : List ℕ) → n ≤ mostNodes → formulaLength ≤ length e → x ≡ set e 0 n → y ≡ pasted x 1 (cellBytes c n) → z ≡ pasted y (1 + n * 17) (replicate (formulaLength - (1 + n * 17)) 0) → z ≡ pasted e 0 (preparedBytes c n)
+pub bytes-pasted : (c : List ℕ) (n : ℕ) (e x y z : List ℕ) → n ≤ mostNodes → formulaLength ≤ length e → x ≡ set e 0 n → y ≡ pasted x 1 (cellBytes c n) → z ≡ pasted y (1 + n * nodeSlotLength) (replicate (formulaLength - (1 + n * nodeSlotLength)) 0) → z ≡ pasted e 0 (preparedBytes c n)
 bytes-pasted c n e x y z h w p q r =
     let l = length-cell-bytes c n in
     let a : x ≡ pasted e 0 (n ∷ []) = p ∙ set-pasted e 0 n (omega arith) in
     let b : y ≡ pasted e 0 (n ∷ cellBytes c n) = pasted-then 0 1 (n ∷ []) (cellBytes c n) e x y a refl (omega arith) q in
-    let m : formulaLength - (1 + n * 17) ≡ 680 - n * 17 = omega arith in
-    pasted-then 0 (1 + n * 17) (n ∷ cellBytes c n) (replicate (680 - n * 17) 0) e y z b (omega arith) (omega arith) (r ∙ ap (λ k. pasted y (1 + n * 17) (replicate k 0)) m)
+    let m : formulaLength - (1 + n * nodeSlotLength) ≡ (mostNodes * nodeSlotLength) - n * nodeSlotLength = omega arith in
+    pasted-then 0 (1 + n * nodeSlotLength) (n ∷ cellBytes c n) (replicate ((mostNodes * nodeSlotLength) - n * nodeSlotLength) 0) e y z b (omega arith) (omega arith) (r ∙ ap (λ k. pasted y (1 + n * nodeSlotLength) (replicate k 0)) m)
 
 -- Kinds.
 pub record Kinds (c : List ℕ) (n k : ℕ) (x : List ℕ) : Type 0 where
@@ -120,14 +120,14 @@ pub record Kinds (c : List ℕ) (n k : ℕ) (x : List ℕ) : Type 0 where
 pub kinds-none : (c : List ℕ) (n : ℕ) (x : List ℕ) → length x ≡ 40 → Kinds c n 0 x
 kinds-none c n x l = record { few = omega arith; long = l; same = refl }
 
-pub kinds-more : (c : List ℕ) (n k : ℕ) (x : List ℕ) → n ≤ mostNodes → k < n → Kinds c n k x → Kinds c n (k + 1) (set x k (getD c (k * 3) 0 % 256))
+pub kinds-more : (c : List ℕ) (n k : ℕ) (x : List ℕ) → n ≤ mostNodes → k < n → Kinds c n k x → Kinds c n (k + 1) (set x k (getD c (k * cellLength) 0 % 256))
 kinds-more c n k x h w m = record {
   few = omega arith;
-  long = length-set x k (getD c (k * 3) 0 % 256) ∙ m .long;
-  same = rw add-one (take-suc-set x k (getD c (k * 3) 0 % 256) (omega (arith, m .long)) ∙ ap (λ l. l ++ ((getD c (k * 3) 0 % 256) ∷ [])) (m .same))
-      ∙ sym (ap (map (λ i. getD c (i * 3) 0 % 256)) (upFrom-append 0 k 1) ∙ (map-append (λ i. getD c (i * 3) 0 % 256) (upFrom 0 k) (upFrom (0 + k) 1)
-      ∙ ap (λ i. cellKinds c k ++ ((getD c (i * 3) 0 % 256) ∷ [])) (zero-add k)));
+  long = length-set x k (getD c (k * cellLength) 0 % 256) ∙ m .long;
+  same = rw add-one (take-suc-set x k (getD c (k * cellLength) 0 % 256) (omega (arith, m .long)) ∙ ap (λ l. l ++ ((getD c (k * cellLength) 0 % 256) ∷ [])) (m .same))
+      ∙ sym (ap (map (λ i. getD c (i * cellLength) 0 % 256)) (upFrom-append 0 k 1) ∙ (map-append (λ i. getD c (i * cellLength) 0 % 256) (upFrom 0 k) (upFrom (0 + k) 1)
+      ∙ ap (λ i. cellKinds c k ++ ((getD c (i * cellLength) 0 % 256) ∷ [])) (zero-add k)));
 }
 
 pub length-kinds : (c : List ℕ) (n : ℕ) → length (cellKinds c n) ≡ n
-length-kinds c n = length-map (upFrom 0 n) (λ k. getD c (k * 3) 0 % 256) ∙ upFrom-length 0 n
+length-kinds c n = length-map (upFrom 0 n) (λ k. getD c (k * cellLength) 0 % 256) ∙ upFrom-length 0 n

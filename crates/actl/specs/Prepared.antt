@@ -6,7 +6,7 @@ use mathlib.Core.Option.{Option, none, some}
 use Prim.Native.Nat.{ℕ, zero, suc, _+_, _*_, _^_, _%_, _≤_, _<_}
 use lib.Dec.{leb, ltb, eqb}
 use lib.ListN.{length, getD, take, drop}
-use Rattle.actl.specs.Sizes.{mostNodes, formulaLength}
+use Rattle.actl.specs.Sizes.{mostNodes, nodeSlotLength, formulaLength}
 use Rattle.columns.specs.Bytes.{sameBytes, padded, lowFirst}
 use Rattle.lts.specs.Lists.{upFrom, bind, every}
 use Rattle.actl.specs.Actions.{Mask, Cond, silent, labels}
@@ -38,7 +38,7 @@ abbrev pub slotBytes : Slot → List ℕ
 slotBytes s = s .kind ∷ (lowFirst 8 (s .first) ++ lowFirst 8 (s .second))
 
 unfoldable pub formulaBytes : Formula → List ℕ
-formulaBytes F = size F ∷ padded 680 (bind (λ f. slotBytes (slotOf f)) (nodes F))
+formulaBytes F = size F ∷ padded (mostNodes * nodeSlotLength) (bind (λ f. slotBytes (slotOf f)) (nodes F))
 
 -- A mask of labels 1 to n.
 abbrev pub maskWithin : ℕ → Mask → Bool
@@ -60,7 +60,7 @@ number zero b = 0
 number (suc n) b = getD b 0 0 + number n (drop 1 b) * 256
 
 abbrev pub slotAt : List ℕ → ℕ → Slot
-slotAt b k = slot (getD b (1 + k * 17) 0) (number 8 (drop (2 + k * 17) b)) (number 8 (drop (10 + k * 17) b))
+slotAt b k = slot (getD b (1 + k * nodeSlotLength) 0) (number 8 (drop (2 + k * nodeSlotLength) b)) (number 8 (drop (10 + k * nodeSlotLength) b))
 
 abbrev pub one : (Formula → Formula) → List Formula → Option (List Formula)
 one node [] = none

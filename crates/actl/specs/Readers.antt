@@ -6,7 +6,7 @@ use mathlib.Core.List.{List, [], _∷_, _++_}
 use mathlib.Core.Option.{Option, none, some}
 use Prim.Native.Nat.{ℕ, zero, suc, _+_, _*_, _-_, _≤_, _<_}
 use lib.ListN.{length, take, drop}
-use Rattle.actl.specs.Sizes.{longestText, cellsLength}
+use Rattle.actl.specs.Sizes.{longestText, cellLength, cellsLength}
 use Rattle.lts.specs.Lists.{bind}
 use Rattle.lts.specs.Names.{lookup}
 use Rattle.lts.specs.Prepared.{tableIn}
@@ -124,16 +124,16 @@ nodeCells F = bind (λ f. slotCells (slotOf f)) (nodes F)
 
 -- Cells with node n written anew.
 abbrev pub putAt : ℕ → ℕ → Mask → Mask → List ℕ → List ℕ
-putAt n kind first second e = take (n * 3) e ++ (kind ∷ first ∷ second ∷ drop (n * 3 + 3) e)
+putAt n kind first second e = take (n * cellLength) e ++ (kind ∷ first ∷ second ∷ drop (n * cellLength + cellLength) e)
 
 -- Cells with `|` written before the nodes from `start` up to n, which move up by one.
 abbrev pub joinedAt : ℕ → ℕ → List ℕ → List ℕ
-joinedAt start n e = take (start * 3) e ++ (3 ∷ 0 ∷ 0 ∷ (drop (start * 3) (take (n * 3) e) ++ drop (n * 3 + 3) e))
+joinedAt start n e = take (start * cellLength) e ++ (3 ∷ 0 ∷ 0 ∷ (drop (start * cellLength) (take (n * cellLength) e) ++ drop (n * cellLength + cellLength) e))
 
 -- The cells x are the cells e up to node n, and then l up to node m.
 pub record CellsWritten (n m : ℕ) (e x l : List ℕ) : Type 0 where
   pub long : length x ≡ length e
-  pub cells : take (m * 3) x ≡ take (n * 3) e ++ l
+  pub cells : take (m * cellLength) x ≡ take (n * cellLength) e ++ l
 
 -- Room for the nodes of what is left of the text: there are no more nodes than bytes.
 pub record NodeRoom (e : List ℕ) (at n : ℕ) : Type 0 where
@@ -182,7 +182,7 @@ pub record WholeRead (N : List (List ℕ)) (s x : List ℕ) (n left : ℕ) : Typ
   pub reads : read s ≡ whole value
   pub count : n ≡ size (formulaOf N value)
   pub long : length x ≡ cellsLength
-  pub cells : take (n * 3) x ≡ nodeCells (formulaOf N value)
+  pub cells : take (n * cellLength) x ≡ nodeCells (formulaOf N value)
   pub lacks : left ≡ earlier 0 (firstUnknown N value (namesF value []))
 
 -- 01: "length of the longest beginning that some grammatical text, of any length, has"

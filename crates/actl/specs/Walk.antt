@@ -7,6 +7,7 @@ use Prim.Native.Nat.{ℕ, suc, _+_, _*_}
 use lib.Dec.{leb, eqb}
 use lib.ListN.{drop, getD}
 use lib.Seq.{sets}
+use Rattle.actl.specs.Sizes.{nodeSlotLength}
 use Rattle.lts.specs.Lists.{upFrom}
 use Rattle.actl.specs.Formulas.{Formula, tru, not, or, ex, ax, eu, euThen, size, nodes, isT, classOf, classOfNot, classOfSome, classOfAll}
 use Rattle.actl.specs.Prepared.{slotOf}
@@ -20,7 +21,7 @@ kindsOf f = map kindOf (nodes f)
 
 -- The kinds of the first n nodes, in a prepared formula's bytes.
 abbrev pub kindsIn : List ℕ → ℕ → List ℕ
-kindsIn b n = map (λ k. getD b (1 + k * 17) 0) (upFrom 0 n)
+kindsIn b n = map (λ k. getD b (1 + k * nodeSlotLength) 0) (upFrom 0 n)
 
 -- The kind of node k; 0 if there is none.
 abbrev pub kindAt : List ℕ → ℕ → ℕ

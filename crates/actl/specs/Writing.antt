@@ -4,6 +4,7 @@ use mathlib.Core.List.{List, _∷_, _++_, map}
 use mathlib.Core.Option.{Option}
 use Prim.Native.Nat.{ℕ, _+_, _*_, _-_, _%_}
 use lib.ListN.{getD, take, replicate}
+use Rattle.actl.specs.Sizes.{mostNodes, nodeSlotLength, cellLength}
 use Rattle.columns.specs.Bytes.{lowFirst}
 use Rattle.lts.specs.Lists.{upFrom, bind}
 use Rattle.actl.specs.Formulas.{Formula, size}
@@ -15,20 +16,20 @@ nodeBytes kind first second = (kind % 256) ∷ (lowFirst 8 first ++ lowFirst 8 s
 
 -- The bytes of node k in the cells c, and of the first n nodes.
 abbrev pub bytesAt : List ℕ → ℕ → List ℕ
-bytesAt c k = nodeBytes (getD c (k * 3) 0) (getD c (k * 3 + 1) 0) (getD c (k * 3 + 2) 0)
+bytesAt c k = nodeBytes (getD c (k * cellLength) 0) (getD c (k * cellLength + 1) 0) (getD c (k * cellLength + 2) 0)
 
 abbrev pub cellBytes : List ℕ → ℕ → List ℕ
 cellBytes c n = bind (bytesAt c) (upFrom 0 n)
 
 abbrev pub cellKinds : List ℕ → ℕ → List ℕ
-cellKinds c n = map (λ k. getD c (k * 3) 0 % 256) (upFrom 0 n)
+cellKinds c n = map (λ k. getD c (k * cellLength) 0 % 256) (upFrom 0 n)
 
 -- The prepared bytes of the first n nodes, with zeros behind them.
 abbrev pub preparedBytes : List ℕ → ℕ → List ℕ
-preparedBytes c n = n ∷ (cellBytes c n ++ replicate (680 - n * 17) 0)
+preparedBytes c n = n ∷ (cellBytes c n ++ replicate ((mostNodes * nodeSlotLength) - n * nodeSlotLength) 0)
 
 -- The cells c hold the n nodes of F, and `lost` the offset o of a name that the table lacks.
 pub record CellsHold (c : List ℕ) (n lost : ℕ) (F : Formula) (o : Option ℕ) : Type 0 where
   pub count : n ≡ size F
-  pub cells : take (n * 3) c ≡ nodeCells F
+  pub cells : take (n * cellLength) c ≡ nodeCells F
   pub lacks : lost ≡ earlier 0 o

@@ -6,12 +6,12 @@ use Prim.Native.Nat.{ℕ, suc, _+_, _*_, _<_}
 use native.Mathlib.Nat.{zero-add, add-zero}
 use native.Mathlib.Omega.{arith}
 use lib.ListN.{length, getD, drop}
+use Rattle.automaton.specs.Bytes.{rowLength, bitOf, rowsBytes, edgesBytes}
 use Rattle.columns.specs.Columns.{numbersLine}
 use Rattle.lts.specs.Lists.{upFrom, bind}
 use Rattle.lts.specs.Reply.{accepted, overwritten}
 use Rattle.automaton.specs.Listing.{Row, Edge, Listing}
 use Rattle.automaton.specs.Listed.{rowAt}
-use Rattle.automaton.specs.Bytes.{bitOf, rowsBytes, edgesBytes}
 use Rattle.explanations.specs.Explanation.{Explanation, summary}
 use Rattle.explanations.specs.Printed.{rowLines, edgeLine, summaryLine, printed, rowText, edgeText, rowsText, edgesText, listingText}
 use Rattle.explanations.proofs.Traced.{noEdge, row-byte, edge-in}
@@ -35,7 +35,7 @@ rowLine i r = numbersLine (i ∷ r .place ∷ r .state ∷ bitOf (r .final) ∷ 
 module _ (L : Listing) (x y : List ℕ) where
   rows-printed : rowsText (rowsBytes L ++ x) (length (L .rows)) ≡ rowLines 0 (L .rows)
   rows-printed = lines-are (record { place = 0; state = 0; final = false }) rowLines (rowText (rowsBytes L ++ x)) rowLine (λ k. refl) (λ k r l. refl) (L .rows) (λ i b.
-      let place : getD (rowsBytes L ++ x) (i * 3) 0 ≡ rowAt L i .place = ap (λ k. getD (rowsBytes L ++ x) k 0) (sym (add-zero (i * 3))) ∙ row-byte L x y i 0 b (omega arith) in
+      let place : getD (rowsBytes L ++ x) (i * rowLength) 0 ≡ rowAt L i .place = ap (λ k. getD (rowsBytes L ++ x) k 0) (sym (add-zero (i * rowLength))) ∙ row-byte L x y i 0 b (omega arith) in
       λ k. numbersLine (i ∷ place k ∷ row-byte L x y i 1 b (omega arith) k ∷ row-byte L x y i 2 b (omega arith) k ∷ []))
 
   edges-printed : ((e : Edge) → List·Memᴰ e (L .edges) → (e .row < 65536) × (e .target < 65536)) → edgesText (edgesBytes L ++ y) (length (L .edges)) ≡ bind edgeLine (L .edges)

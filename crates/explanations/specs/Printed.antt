@@ -5,12 +5,12 @@ use mathlib.Core.List.{List, [], _∷_, _++_}
 use Prim.Native.Nat.{ℕ, zero, suc, _+_, _*_}
 use lib.Dec.{eqb}
 use lib.ListN.{length, getD, replicate}
+use Rattle.automaton.specs.Bytes.{rowLength, edgeLength, bitOf}
 use Rattle.explanations.specs.Sizes.{rowsLent, edgesLent}
 use Rattle.columns.specs.Columns.{numbersLine}
 use Rattle.lts.specs.Lists.{upFrom, bind}
 use Rattle.lts.specs.Reply.{Reply, accepted, refusal, overwritten}
 use Rattle.automaton.specs.Listing.{Row, Edge, Listing}
-use Rattle.automaton.specs.Bytes.{rowLength, edgeLength, bitOf}
 use Rattle.explanations.specs.Traces.{edgeAt}
 use Rattle.explanations.specs.Explanation.{Summary, Explanation, summary, explanation}
 
@@ -37,7 +37,7 @@ printed (refusal number figure) = refusalLine number figure
 
 -- The same from the bytes in the lent places.
 abbrev pub rowText : List ℕ → ℕ → List ℕ
-rowText rows i = numbersLine (i ∷ getD rows (i * 3) 0 ∷ getD rows (i * 3 + 1) 0 ∷ getD rows (i * 3 + 2) 0 ∷ [])
+rowText rows i = numbersLine (i ∷ getD rows (i * rowLength) 0 ∷ getD rows (i * rowLength + 1) 0 ∷ getD rows (i * rowLength + 2) 0 ∷ [])
 
 abbrev pub edgeText : List ℕ → ℕ → List ℕ
 edgeText edges j = edgeLine (edgeAt edges j)

@@ -3,22 +3,23 @@ use mathlib.Core.Path.{_≡_}
 use mathlib.Core.List.{List}
 use Prim.Native.Nat.{ℕ, suc, _+_, _*_, _≤_, _<_}
 use lib.ListN.{getD}
+use Rattle.automaton.specs.Bytes.{rowLength, edgeLength}
 use Rattle.lts.specs.Steps.{Step}
 use Rattle.automaton.specs.Listing.{Edge}
 use Rattle.automaton.specs.Build.{Counts}
 
 -- What stands in the lent places: row i's state and final mark, edge j.
 abbrev pub rowState : List ℕ → ℕ → ℕ
-rowState rows i = getD rows (i * 3 + 1) 0
+rowState rows i = getD rows (i * rowLength + 1) 0
 
 abbrev pub rowFinal : List ℕ → ℕ → ℕ
-rowFinal rows i = getD rows (i * 3 + 2) 0
+rowFinal rows i = getD rows (i * rowLength + 2) 0
 
 abbrev pub edgeAt : List ℕ → ℕ → Edge
 edgeAt edges j = record {
-  row = getD edges (j * 5) 0 + getD edges (j * 5 + 1) 0 * 256;
-  label = getD edges (j * 5 + 2) 0;
-  target = getD edges (j * 5 + 3) 0 + getD edges (j * 5 + 4) 0 * 256;
+  row = getD edges (j * edgeLength) 0 + getD edges (j * edgeLength + 1) 0 * 256;
+  label = getD edges (j * edgeLength + 2) 0;
+  target = getD edges (j * edgeLength + 3) 0 + getD edges (j * edgeLength + 4) 0 * 256;
 }
 
 -- "if there are n + 1 listed rows, counted from 0, the same row allowed again": row k is the k-th, for k up to n.

@@ -2,7 +2,7 @@
 ghost use Prim.Native.Nat.{_≤_};
 ghost use lib.ListN.{length};
 ghost use Rattle.actl.specs.Cursor.{Skipped};
-ghost use Rattle.formula_cursor.specs.CursorReplies.{MarkSays, TokenSays, KeywordSays, NameSays};
+ghost use Rattle.formula_cursor.specs.CursorReplies.{MarkAnswer, TokenAnswer, KeywordAnswer, NameAnswer};
 
 pub struct Cursor {
     pub at: usize,
@@ -31,7 +31,7 @@ impl Cursor {
     }
 
     pub fn mark(self, text: &[u8], mark: u8) -> Match
-        ensures { λ r. ⌜ MarkSays (now (text .entry)) (self .at) mark r ⌝ }
+        ensures { λ r. ⌜ MarkAnswer (now (text .entry)) (self .at) mark r ⌝ }
     {
         let at = self.at;
         if at < text.len() {
@@ -44,7 +44,7 @@ impl Cursor {
 
     // A mark, and the blanks behind it.
     pub fn token(self, text: &[u8], mark: u8) -> Match
-        ensures { λ r. ⌜ TokenSays (now (text .entry)) (self .at) mark r ⌝ }
+        ensures { λ r. ⌜ TokenAnswer (now (text .entry)) (self .at) mark r ⌝ }
     {
         let Match::Past(d) = self.mark(text, mark) else {
             return Match::Missing;
@@ -54,7 +54,7 @@ impl Cursor {
 
     // 01: "Tokens are the keywords EX, AX and EU"
     pub fn keyword(self, text: &[u8], word: &[u8; 2]) -> Match
-        ensures { λ r. ⌜ KeywordSays (now (text .entry)) (self .at) (now (word .entry)) r ⌝ }
+        ensures { λ r. ⌜ KeywordAnswer (now (text .entry)) (self .at) (now (word .entry)) r ⌝ }
     {
         let Match::Past(d) = self.mark(text, word[0]) else {
             return Match::Missing;
@@ -65,7 +65,7 @@ impl Cursor {
     // The longest name that stands here.
     pub fn name(self, text: &[u8]) -> Match
         requires { ⌜ self .at ≤ length (now text) ⌝ }
-        ensures { λ r. ⌜ NameSays (now (text .entry)) (self .at) r ⌝ }
+        ensures { λ r. ⌜ NameAnswer (now (text .entry)) (self .at) r ⌝ }
     {
         let at = self.at;
         let end = tables::names::name_end(text, at);

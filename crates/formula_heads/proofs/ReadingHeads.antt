@@ -14,7 +14,7 @@ use Rattle.actl.specs.Mentions.{namesS}
 use Rattle.actl.specs.Prepared.{slot, slotOf}
 use Rattle.actl.specs.Cursor.{peek, Token, Skipped, Moves, Fails, Marked, Tokened, Keyword}
 use Rattle.actl.specs.Readers.{unknownIn, earlier, SetRead, EnclosedRead, Unclosed, nextKind, NextRead, UntilRead, NoMark, NoKeyword}
-use Rattle.formula_heads.specs.HeadReplies.{NextSays, UntilSays, HeadSays}
+use Rattle.formula_heads.specs.HeadReplies.{NextAnswer, UntilAnswer, HeadAnswer}
 use Rattle.formula_heads.specs.declared.Heading.{Heading}
 use Rattle.formula_heads.specs.declared.Heading.the-variants.{Read, Refused}
 use Rattle.formula_cursor.proofs.ReadingMoves.{on-other, then, fail, at-only, fail-only, written-as, skip, stops, alike, marked, tokened}
@@ -163,7 +163,7 @@ module _ (N : List (List ℕ)) (s : List ℕ) (at lost : ℕ) where
   the-EU : {d : ℕ} → Keyword s at 69 85 d → Moves s at d (λ r. 69 ∷ 85 ∷ r) termAt (λ k. afterUntil k 0)
   the-EU h = then (marked {y = afterE} (h .one) (omega arith) (λ k. refl)) (marked (h .two) (omega arith) (λ k. refl))
 
-  head-next : (q : Quantifier) (d : ℕ) → Moves s at d (showQ q) termAt (λ k. afterNext q k 0) → at < d → (r : Heading) → NextSays N s d (nextKind q) lost r → HeadSays N s at lost r
+  head-next : (q : Quantifier) (d : ℕ) → Moves s at d (showQ q) termAt (λ k. afterNext q k 0) → at < d → (r : Heading) → NextAnswer N s d (nextKind q) lost r → HeadAnswer N s at lost r
   head-next q d m u (Read c k a b l) h = record {
     value = next q (h .before) (h .inside) (h .condition) (h .behind);
     up = let w = h .moves .up in omega arith;
@@ -173,13 +173,13 @@ module _ (N : List (List ℕ)) (s : List ℕ) (at lost : ℕ) where
   }
   head-next q d m u (Refused c) h = fail m (fail-only (λ k. (q, k)) h)
 
-  pub head-EX : {d : ℕ} → Keyword s at 69 88 d → (r : Heading) → NextSays N s d 4 lost r → HeadSays N s at lost r
+  pub head-EX : {d : ℕ} → Keyword s at 69 88 d → (r : Heading) → NextAnswer N s d 4 lost r → HeadAnswer N s at lost r
   head-EX {d} h r n = head-next existential d (the-EX h) (let z = h .two .next in omega arith) r n
 
-  pub head-AX : {d : ℕ} → Keyword s at 65 88 d → (r : Heading) → NextSays N s d 6 lost r → HeadSays N s at lost r
+  pub head-AX : {d : ℕ} → Keyword s at 65 88 d → (r : Heading) → NextAnswer N s d 6 lost r → HeadAnswer N s at lost r
   head-AX {d} h r n = head-next universal d (the-AX h) (let z = h .two .next in omega arith) r n
 
-  pub head-EU : {d : ℕ} → Keyword s at 69 85 d → (r : Heading) → UntilSays N s d lost r → HeadSays N s at lost r
+  pub head-EU : {d : ℕ} → Keyword s at 69 85 d → (r : Heading) → UntilAnswer N s d lost r → HeadAnswer N s at lost r
   head-EU {d} h (Read c k a b l) n =
       let z = h .two .next in
       let w = n .moves .up in

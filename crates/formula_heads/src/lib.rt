@@ -4,7 +4,7 @@ ghost use lib.ListN.{length};
 ghost use Rattle.actl.specs.Sizes.{longestText};
 ghost use Rattle.lts.specs.HoldsTable.{HoldsTable};
 ghost use Rattle.actl.specs.Readers.{namesIn, ReaderStart, NoMark, NoKeyword};
-ghost use Rattle.formula_heads.specs.HeadReplies.{NextSays, UntilSays, HeadSays};
+ghost use Rattle.formula_heads.specs.HeadReplies.{NextAnswer, UntilAnswer, HeadAnswer};
 use formula_cursor::Cursor;
 use formula_cursor::Match;
 use formula_sets::Labels;
@@ -20,7 +20,7 @@ pub enum Heading {
 // The bracket of EX or AX, whose node has the kind `base` for the silent step, and one more for a set.
 fn next_head(table: &[u8], text: &[u8], c: Cursor, base: u64, lost: usize) -> Heading
     requires { ⌜ HoldsTable (now table) × (length (now text) ≤ longestText) × (c .at ≤ length (now text)) × (base < 8) ⌝ }
-    ensures { λ r. ⌜ NextSays (namesIn (now (table .entry))) (now (text .entry)) (c .at) base lost r ⌝ }
+    ensures { λ r. ⌜ NextAnswer (namesIn (now (table .entry))) (now (text .entry)) (c .at) base lost r ⌝ }
 {
     let o = c.skip_blanks(text);
     let Match::Past(d) = o.token(text, b'[') else {
@@ -42,7 +42,7 @@ fn next_head(table: &[u8], text: &[u8], c: Cursor, base: u64, lost: usize) -> He
 // The bracket of EU, with one set or two.
 fn until_head(table: &[u8], text: &[u8], c: Cursor, lost: usize) -> Heading
     requires { ⌜ HoldsTable (now table) × (length (now text) ≤ longestText) × (c .at ≤ length (now text)) ⌝ }
-    ensures { λ r. ⌜ UntilSays (namesIn (now (table .entry))) (now (text .entry)) (c .at) lost r ⌝ }
+    ensures { λ r. ⌜ UntilAnswer (namesIn (now (table .entry))) (now (text .entry)) (c .at) lost r ⌝ }
 {
     let o = c.skip_blanks(text);
     let Match::Past(d) = o.token(text, b'[') else {
@@ -83,7 +83,7 @@ fn no_keyword(text: &[u8], c: Cursor) -> Cursor
 // A keyword with its square bracket.
 pub fn head(table: &[u8], text: &[u8], c: Cursor, lost: usize) -> Heading
     requires { ⌜ ReaderStart (now table) (now text) (c .at) × NoMark (now text) (c .at) ⌝ }
-    ensures { λ r. ⌜ HeadSays (namesIn (now (table .entry))) (now (text .entry)) (c .at) lost r ⌝ }
+    ensures { λ r. ⌜ HeadAnswer (namesIn (now (table .entry))) (now (text .entry)) (c .at) lost r ⌝ }
 {
     if let Match::Past(d) = c.keyword(text, b"EX") {
         return next_head(table, text, d, 4, lost);

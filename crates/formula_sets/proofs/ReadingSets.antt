@@ -15,7 +15,7 @@ use Rattle.actl.specs.Meaning.{actionOfSet, actionOfOperand, maskIn}
 use Rattle.actl.specs.Mentions.{namesS, namesO}
 use Rattle.actl.specs.Cursor.{peek, Token, Skipped, Moves, Fails, Marked, Tokened}
 use Rattle.actl.specs.Readers.{unknownIn, earlier, OperandRead, SetRead, EnclosedRead, Unclosed}
-use Rattle.formula_sets.specs.SetReplies.{OperandSays, EnclosedSays}
+use Rattle.formula_sets.specs.SetReplies.{OperandAnswer, EnclosedAnswer}
 use Rattle.formula_sets.specs.declared.Labels.{Labels}
 use Rattle.formula_sets.specs.declared.Labels.the-variants.{Read, Refused}
 use Rattle.actl.proofs.ReadingMasks.{mask-complement, mask-union}
@@ -79,7 +79,7 @@ module _ (N : List (List ℕ)) (s : List ℕ) (at lost : ℕ) where
           lacks = c .lacks ∙ ap (λ r. earlier lost (unknownIn N (length s) (namesS (c .value) (gap (c .blanks) r)))) (v .text);
         }
 
-    pub group-says : (r : Labels) → EnclosedSays N s d 41 lost r → OperandSays N s at lost r
+    pub group-says : (r : Labels) → EnclosedAnswer N s d 41 lost r → OperandAnswer N s at lost r
     group-says (Read c m l) h = group-read h
     group-says (Refused c) (inl h) = fail opened (fail-only (λ i. sParen i (d - (at + 1))) h)
     group-says (Refused c) (inr h) = fail opened (set-stops h (λ i. sParen i (d - (at + 1))) (λ v g i e. on-other _ 41 _ _ e))

@@ -8,14 +8,14 @@ use Rattle.formula_sets.specs.declared.Labels.{Labels}
 use Rattle.formula_sets.specs.declared.Labels.the-variants as labels
 use Rattle.actl.specs.Readers.{OperandRead, SetRead, EnclosedRead, Unclosed}
 
-abbrev pub OperandSays : List (List ℕ) → List ℕ → ℕ → ℕ → Labels → Type 0
-OperandSays N s at lost (labels.Read c m l) = OperandRead N s at lost (c .at) m l
-OperandSays N s at lost (labels.Refused c) = Fails s at (c .at) operandAt
+abbrev pub OperandAnswer : List (List ℕ) → List ℕ → ℕ → ℕ → Labels → Type 0
+OperandAnswer N s at lost (labels.Read c m l) = OperandRead N s at lost (c .at) m l
+OperandAnswer N s at lost (labels.Refused c) = Fails s at (c .at) operandAt
 
-abbrev pub SetSays : List (List ℕ) → List ℕ → ℕ → ℕ → Labels → Type 0
-SetSays N s at lost (labels.Read c m l) = SetRead N s at lost (c .at) m l
-SetSays N s at lost (labels.Refused c) = Fails s at (c .at) (λ k. operandAt (oFirst k))
+abbrev pub SetAnswer : List (List ℕ) → List ℕ → ℕ → ℕ → Labels → Type 0
+SetAnswer N s at lost (labels.Read c m l) = SetRead N s at lost (c .at) m l
+SetAnswer N s at lost (labels.Refused c) = Fails s at (c .at) (λ k. operandAt (oFirst k))
 
-abbrev pub EnclosedSays : List (List ℕ) → List ℕ → ℕ → ℕ → ℕ → Labels → Type 0
-EnclosedSays N s at mark lost (labels.Read c m l) = EnclosedRead N s at mark lost (c .at) m l
-EnclosedSays N s at mark lost (labels.Refused c) = Fails s at (c .at) (λ k. operandAt (oFirst k)) ⊎ Unclosed N s at mark lost (c .at)
+abbrev pub EnclosedAnswer : List (List ℕ) → List ℕ → ℕ → ℕ → ℕ → Labels → Type 0
+EnclosedAnswer N s at mark lost (labels.Read c m l) = EnclosedRead N s at mark lost (c .at) m l
+EnclosedAnswer N s at mark lost (labels.Refused c) = Fails s at (c .at) (λ k. operandAt (oFirst k)) ⊎ Unclosed N s at mark lost (c .at)

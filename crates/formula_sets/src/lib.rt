@@ -8,7 +8,7 @@ ghost use Rattle.lts.specs.HoldsTable.{HoldsTable};
 ghost use Rattle.actl.specs.Actions.{Action, maskOf};
 ghost use Rattle.actl.specs.Cursor.{Named};
 ghost use Rattle.actl.specs.Readers.{namesIn, ReaderStart, earlier};
-ghost use Rattle.formula_sets.specs.SetReplies.{OperandSays, EnclosedSays, SetSays};
+ghost use Rattle.formula_sets.specs.SetReplies.{OperandAnswer, EnclosedAnswer, SetAnswer};
 use formula_cursor::Cursor;
 use formula_cursor::Match;
 use tables::names::Lookup;
@@ -39,7 +39,7 @@ fn earlier_of(lost: usize, at: usize) -> usize
 // A name's label, where the table has one.
 fn label(table: &[u8], text: &[u8], c: Cursor, d: Cursor, lost: usize) -> Labels
     requires { ⌜ ReaderStart (now table) (now text) (c .at) × Named (now text) (c .at) (d .at) ⌝ }
-    ensures { λ r. ⌜ OperandSays (namesIn (now (table .entry))) (now (text .entry)) (c .at) lost r ⌝ }
+    ensures { λ r. ⌜ OperandAnswer (namesIn (now (table .entry))) (now (text .entry)) (c .at) lost r ⌝ }
 {
     let at = c.at;
     let to = d.at;
@@ -53,7 +53,7 @@ fn label(table: &[u8], text: &[u8], c: Cursor, d: Cursor, lost: usize) -> Labels
 // 01: "an operand is a name, `*` (all labels), `~` and an operand, or a set in round brackets"
 fn operand(table: &[u8], text: &[u8], c: Cursor, lost: usize) -> Labels
     requires { ⌜ ReaderStart (now table) (now text) (c .at) ⌝ }
-    ensures { λ r. ⌜ OperandSays (namesIn (now (table .entry))) (now (text .entry)) (c .at) lost r ⌝ }
+    ensures { λ r. ⌜ OperandAnswer (namesIn (now (table .entry))) (now (text .entry)) (c .at) lost r ⌝ }
 {
     if let Match::Past(d) = c.mark(text, b'*') {
         return Labels::Read(d, all_labels(table), lost);
@@ -77,7 +77,7 @@ fn operand(table: &[u8], text: &[u8], c: Cursor, lost: usize) -> Labels
 // A set, and the mark that ends its bracket.
 pub fn enclosed(table: &[u8], text: &[u8], c: Cursor, mark: u8, lost: usize) -> Labels
     requires { ⌜ ReaderStart (now table) (now text) (c .at) ⌝ }
-    ensures { λ r. ⌜ EnclosedSays (namesIn (now (table .entry))) (now (text .entry)) (c .at) mark lost r ⌝ }
+    ensures { λ r. ⌜ EnclosedAnswer (namesIn (now (table .entry))) (now (text .entry)) (c .at) mark lost r ⌝ }
 {
     let x = set(table, text, c, lost);
     match x {
@@ -94,7 +94,7 @@ pub fn enclosed(table: &[u8], text: &[u8], c: Cursor, mark: u8, lost: usize) -> 
 // 01: "A set is one or more operands joined by `|`". It is read with the blanks behind it.
 pub fn set(table: &[u8], text: &[u8], c: Cursor, lost: usize) -> Labels
     requires { ⌜ ReaderStart (now table) (now text) (c .at) ⌝ }
-    ensures { λ r. ⌜ SetSays (namesIn (now (table .entry))) (now (text .entry)) (c .at) lost r ⌝ }
+    ensures { λ r. ⌜ SetAnswer (namesIn (now (table .entry))) (now (text .entry)) (c .at) lost r ⌝ }
 {
     let mut d = c;
     let mut mask = 0u64;

@@ -14,7 +14,7 @@ use Rattle.actl.specs.Mentions.{namesF, namesT, namesH}
 use Rattle.actl.specs.Prepared.{slotOf}
 use Rattle.actl.specs.Cursor.{peek, Skipped, Moves, Fails, Marked, Tokened}
 use Rattle.actl.specs.Readers.{unknownIn, earlier, HeadRead, slotCells, nodeCells, putAt, CellsWritten, NodeRoom, TermRead, BracketRead, Unbracketed}
-use Rattle.formula_terms.specs.TermReplies.{TermSays, BracketSays}
+use Rattle.formula_terms.specs.TermReplies.{TermAnswer, BracketAnswer}
 use Rattle.formula_terms.specs.declared.Nodes.{Nodes}
 use Rattle.formula_terms.specs.declared.Nodes.the-variants.{Read, Refused}
 use Rattle.formula_cursor.proofs.ReadingMoves.{on-other, then, fail, at-only, fail-only, skip, stops, marked, tokened}
@@ -78,7 +78,7 @@ module _ (N : List (List ℕ)) (s : List ℕ) (at n lost : ℕ) (e : List ℕ) (
       lacks = h .lacks;
     }
 
-    pub term-not : (y : List ℕ) (r : Nodes) → TermSays N s d (n + 1) lost x y r → TermSays N s at n lost e y r
+    pub term-not : (y : List ℕ) (r : Nodes) → TermAnswer N s d (n + 1) lost x y r → TermAnswer N s at n lost e y r
     term-not y (Read c m l) h = not-read h
     term-not y (Refused c) h = fail negated (fail-only (λ i. tNot i (d - (at + 1))) h)
 
@@ -107,7 +107,7 @@ module _ (N : List (List ℕ)) (s : List ℕ) (at n lost : ℕ) (e : List ℕ) (
         fail (then opened (at-only (λ i. fParen i (d - (at + 1))) (c .moves))) (stops (c .token .within) (λ i. refl)
         (λ i. on-other (peek s to) 32 _ _ (c .token .past) ∙ (on-other (peek s to) 124 _ _ (c .last) ∙ on-other (peek s to) 41 _ _ (h .other))))
 
-    pub term-paren : (y : List ℕ) (r : Nodes) → BracketSays N s d n lost e y r → TermSays N s at n lost e y r
+    pub term-paren : (y : List ℕ) (r : Nodes) → BracketAnswer N s d n lost e y r → TermAnswer N s at n lost e y r
     term-paren y (Read c m l) h = paren-read h
     term-paren y (Refused c) (inl h) = fail opened (fail-only (λ i. fParen i (d - (at + 1))) h)
     term-paren y (Refused c) (inr h) = unclosed h
@@ -138,6 +138,6 @@ module _ (N : List (List ℕ)) (s : List ℕ) (at n lost : ℕ) (e : List ℕ) (
                 ∙ sym (earlier-append N (length s) lost (namesH (h .value) (gap (d - a) (showT (t .value) (drop to s)))) (namesT (t .value) (drop to s))));
           }
 
-      pub term-modal : (y : List ℕ) (r : Nodes) → TermSays N s d (n + 1) l x y r → TermSays N s at n lost e y r
+      pub term-modal : (y : List ℕ) (r : Nodes) → TermAnswer N s d (n + 1) l x y r → TermAnswer N s at n lost e y r
       term-modal y (Read c m k) t = modal-read t
       term-modal y (Refused c) t = fail headed (fail-only (λ i. tModal (h .value) i (d - a)) t)

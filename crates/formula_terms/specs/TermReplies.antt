@@ -12,18 +12,18 @@ use Rattle.formula_terms.specs.declared.Reading.{Reading}
 use Rattle.formula_terms.specs.declared.Reading.the-variants as reading
 use Rattle.actl.specs.Readers.{TermRead, FormulaRead, BracketRead, Unbracketed, WholeRead, RefusedAt}
 
-abbrev pub TermSays : List (List ℕ) → List ℕ → ℕ → ℕ → ℕ → List ℕ → List ℕ → Nodes → Type 0
-TermSays N s at n lost e x (written.Read c m l) = TermRead N s at n lost e (c .at) m l x
-TermSays N s at n lost e x (written.Refused c) = Fails s at (c .at) termAt
+abbrev pub TermAnswer : List (List ℕ) → List ℕ → ℕ → ℕ → ℕ → List ℕ → List ℕ → Nodes → Type 0
+TermAnswer N s at n lost e x (written.Read c m l) = TermRead N s at n lost e (c .at) m l x
+TermAnswer N s at n lost e x (written.Refused c) = Fails s at (c .at) termAt
 
-abbrev pub FormulaSays : List (List ℕ) → List ℕ → ℕ → ℕ → ℕ → List ℕ → List ℕ → Chain → Type 0
-FormulaSays N s at n lost e x (chain.Read c d m l) = FormulaRead N s at n lost e (c .at) (d .at) m l x
-FormulaSays N s at n lost e x (chain.Refused c) = Fails s at (c .at) (λ k. termAt (tFirst k))
+abbrev pub FormulaAnswer : List (List ℕ) → List ℕ → ℕ → ℕ → ℕ → List ℕ → List ℕ → Chain → Type 0
+FormulaAnswer N s at n lost e x (chain.Read c d m l) = FormulaRead N s at n lost e (c .at) (d .at) m l x
+FormulaAnswer N s at n lost e x (chain.Refused c) = Fails s at (c .at) (λ k. termAt (tFirst k))
 
-abbrev pub BracketSays : List (List ℕ) → List ℕ → ℕ → ℕ → ℕ → List ℕ → List ℕ → Nodes → Type 0
-BracketSays N s at n lost e x (written.Read c m l) = BracketRead N s at n lost e (c .at) m l x
-BracketSays N s at n lost e x (written.Refused c) = Fails s at (c .at) (λ k. termAt (tFirst k)) ⊎ Unbracketed N s at n lost e (c .at) x
+abbrev pub BracketAnswer : List (List ℕ) → List ℕ → ℕ → ℕ → ℕ → List ℕ → List ℕ → Nodes → Type 0
+BracketAnswer N s at n lost e x (written.Read c m l) = BracketRead N s at n lost e (c .at) m l x
+BracketAnswer N s at n lost e x (written.Refused c) = Fails s at (c .at) (λ k. termAt (tFirst k)) ⊎ Unbracketed N s at n lost e (c .at) x
 
-abbrev pub ReadingSays : List (List ℕ) → List ℕ → List ℕ → Reading → Type 0
-ReadingSays N s x (reading.Whole n left) = WholeRead N s x n left
-ReadingSays N s x (reading.Refused n) = RefusedAt s n
+abbrev pub ReadingAnswer : List (List ℕ) → List ℕ → List ℕ → Reading → Type 0
+ReadingAnswer N s x (reading.Whole n left) = WholeRead N s x n left
+ReadingAnswer N s x (reading.Refused n) = RefusedAt s n

@@ -8,7 +8,7 @@ ghost use lib.ListN.{length};
 ghost use Rattle.actl.specs.Sizes.{longestText, cellsLength};
 ghost use Rattle.lts.specs.HoldsTable.{HoldsTable};
 ghost use Rattle.actl.specs.Readers.{namesIn, ReaderStart, putAt, joinedAt, NodeRoom};
-ghost use Rattle.formula_terms.specs.TermReplies.{TermSays, BracketSays, FormulaSays, ReadingSays};
+ghost use Rattle.formula_terms.specs.TermReplies.{TermAnswer, BracketAnswer, FormulaAnswer, ReadingAnswer};
 use formula_cursor::Cursor;
 use formula_cursor::Match;
 use formula_heads::Heading;
@@ -67,7 +67,7 @@ fn term(
     lost: usize,
 ) -> Nodes
     requires { ⌜ ReaderStart (now table) (now text) (c .at) × NodeRoom (now cells) (c .at) n ⌝ }
-    ensures { λ r. ⌜ TermSays (namesIn (now (table .entry))) (now (text .entry)) (c .at) n lost (now (cells .entry)) (now (cells .exit)) r ⌝ }
+    ensures { λ r. ⌜ TermAnswer (namesIn (now (table .entry))) (now (text .entry)) (c .at) n lost (now (cells .entry)) (now (cells .exit)) r ⌝ }
 {
     if let Match::Past(d) = c.mark(text, b'T') {
         put(cells, n, 1, 0, 0);
@@ -101,7 +101,7 @@ fn bracket(
     lost: usize,
 ) -> Nodes
     requires { ⌜ ReaderStart (now table) (now text) (c .at) × NodeRoom (now cells) (c .at) n ⌝ }
-    ensures { λ r. ⌜ BracketSays (namesIn (now (table .entry))) (now (text .entry)) (c .at) n lost (now (cells .entry)) (now (cells .exit)) r ⌝ }
+    ensures { λ r. ⌜ BracketAnswer (namesIn (now (table .entry))) (now (text .entry)) (c .at) n lost (now (cells .entry)) (now (cells .exit)) r ⌝ }
 {
     let x = formula(table, text, cells, c, n, lost);
     match x {
@@ -125,7 +125,7 @@ fn formula(
     lost: usize,
 ) -> Chain
     requires { ⌜ ReaderStart (now table) (now text) (c .at) × NodeRoom (now cells) (c .at) n ⌝ }
-    ensures { λ r. ⌜ FormulaSays (namesIn (now (table .entry))) (now (text .entry)) (c .at) n lost (now (cells .entry)) (now (cells .exit)) r ⌝ }
+    ensures { λ r. ⌜ FormulaAnswer (namesIn (now (table .entry))) (now (text .entry)) (c .at) n lost (now (cells .entry)) (now (cells .exit)) r ⌝ }
 {
     let mut d = c;
     let mut k = n;
@@ -153,7 +153,7 @@ fn formula(
 // A whole text of at most 512 bytes.
 pub fn read_text(table: &[u8], text: &[u8], cells: &mut [u64; CELLS]) -> Reading
     requires { ⌜ HoldsTable (now table) × (length (now text) ≤ longestText) × (length (now cells) ≡ cellsLength) ⌝ }
-    ensures { λ r. ⌜ ReadingSays (namesIn (now (table .entry))) (now (text .entry)) (now (cells .exit)) r ⌝ }
+    ensures { λ r. ⌜ ReadingAnswer (namesIn (now (table .entry))) (now (text .entry)) (now (cells .exit)) r ⌝ }
 {
     let c = Cursor { at: 0 };
     if let Match::Past(_) = c.mark(text, b' ') {

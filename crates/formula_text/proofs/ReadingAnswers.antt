@@ -10,7 +10,7 @@ use borrow.Author.Tests.{le-leb, lt-leb}
 use lib.Dec.{leb}
 use lib.ListN.{length, getD, take, drop, replicate}
 use lib.Seq.{getD-take, getD-drop}
-use Rattle.actl.specs.Sizes.{mostNodes}
+use Rattle.actl.specs.Sizes.{mostNodes, nodeSlotLength, cellLength}
 use Rattle.columns.specs.Write.{pasted}
 use Rattle.columns.specs.Bytes.{lowFirst}
 use Rattle.lts.specs.Lists.{upFrom, bind}
@@ -48,13 +48,13 @@ bind-numbered : {A : Type 0} (d : A) (g : ℕ → List ℕ) (h : A → List ℕ)
 bind-numbered d g h [] j e = refl
 bind-numbered d g h (x ∷ l) j e = λ n. (ap g (sym (add-zero j)) ∙ e 0 (omega arith)) n ++ bind-numbered d g h l (suc j) (λ i w. ap g (let z : suc j + i ≡ j + suc i = omega arith in z) ∙ e (suc i) (omega arith)) n
 
-module _ (c : List ℕ) (n : ℕ) (F : Formula) (count : n ≡ size F) (cells : take (n * 3) c ≡ nodeCells F) where
-  cell-of : (k j : ℕ) → k < n → j < 3 → getD c (k * 3 + j) 0 ≡ getD (slotCells (slotOf (getD (nodes F) k tru))) j 0
+module _ (c : List ℕ) (n : ℕ) (F : Formula) (count : n ≡ size F) (cells : take (n * cellLength) c ≡ nodeCells F) where
+  cell-of : (k j : ℕ) → k < n → j < 3 → getD c (k * cellLength + j) 0 ≡ getD (slotCells (slotOf (getD (nodes F) k tru))) j 0
   cell-of k j h w =
       let l = length-nodes F in
       let (more, e) = drop-parts (λ f. slotCells (slotOf f)) 3 (λ f. refl) tru (nodes F) k [] (omega arith) in
-      sym (getD-take (n * 3) c (k * 3 + j) 0 (omega arith)) ∙ (ap (λ l. getD l (k * 3 + j) 0) (cells ∙ sym (append-nil (nodeCells F)))
-      ∙ (sym (getD-drop (k * 3) (nodeCells F ++ []) j 0) ∙ (ap (λ l. getD l j 0) e ∙ front j w more)))
+      sym (getD-take (n * cellLength) c (k * cellLength + j) 0 (omega arith)) ∙ (ap (λ l. getD l (k * cellLength + j) 0) (cells ∙ sym (append-nil (nodeCells F)))
+      ∙ (sym (getD-drop (k * cellLength) (nodeCells F ++ []) j 0) ∙ (ap (λ l. getD l j 0) e ∙ front j w more)))
     where
       front : (j : ℕ) → j < 3 → (more : List ℕ) → getD (slotCells (slotOf (getD (nodes F) k tru)) ++ more) j 0 ≡ getD (slotCells (slotOf (getD (nodes F) k tru))) j 0
       front zero w more = refl
@@ -62,8 +62,8 @@ module _ (c : List ℕ) (n : ℕ) (F : Formula) (count : n ≡ size F) (cells : 
       front (suc (suc zero)) w more = refl
       front (suc (suc (suc j))) w more = absurd (omega arith)
 
-  kind-of : (k : ℕ) → k < n → getD c (k * 3) 0 % 256 ≡ kindOf (getD (nodes F) k tru)
-  kind-of k h = ap (λ i. getD c i 0 % 256) (sym (add-zero (k * 3))) ∙ (ap (λ v. v % 256) (cell-of k 0 h (omega arith)) ∙ kind-small (getD (nodes F) k tru))
+  kind-of : (k : ℕ) → k < n → getD c (k * cellLength) 0 % 256 ≡ kindOf (getD (nodes F) k tru)
+  kind-of k h = ap (λ i. getD c i 0 % 256) (sym (add-zero (k * cellLength))) ∙ (ap (λ v. v % 256) (cell-of k 0 h (omega arith)) ∙ kind-small (getD (nodes F) k tru))
 
   bytes-of : (k : ℕ) → k < n → bytesAt c k ≡ slotBytes (slotOf (getD (nodes F) k tru))
   bytes-of k h = λ i. kind-of k h i ∷ (lowFirst 8 (cell-of k 1 h (omega arith) i) ++ lowFirst 8 (cell-of k 2 h (omega arith) i))
@@ -72,13 +72,13 @@ module _ (c : List ℕ) (n : ℕ) (F : Formula) (count : n ≡ size F) (cells : 
   same-count = count ∙ sym (length-nodes F)
 
   pub kinds-are : cellKinds c n ≡ kindsOf F
-  kinds-are = ap (cellKinds c) same-count ∙ map-numbered tru (λ k. getD c (k * 3) 0 % 256) kindOf (nodes F) 0 (λ i w. ap (λ j. getD c (j * 3) 0 % 256) (zero-add i) ∙ kind-of i (omega (arith, same-count)))
+  kinds-are = ap (cellKinds c) same-count ∙ map-numbered tru (λ k. getD c (k * cellLength) 0 % 256) kindOf (nodes F) 0 (λ i w. ap (λ j. getD c (j * cellLength) 0 % 256) (zero-add i) ∙ kind-of i (omega (arith, same-count)))
 
   pub bytes-are : n ≤ mostNodes → preparedBytes c n ≡ formulaBytes F
   unfolding formulaBytes
   bytes-are h =
       let b : cellBytes c n ≡ bind (λ f. slotBytes (slotOf f)) (nodes F) = ap (cellBytes c) same-count ∙ bind-numbered tru (bytesAt c) (λ f. slotBytes (slotOf f)) (nodes F) 0 (λ i w. ap (bytesAt c) (zero-add i) ∙ bytes-of i (omega (arith, same-count))) in
-      let l : 680 - n * 17 ≡ 680 - length (bind (λ f. slotBytes (slotOf f)) (nodes F)) = ap (λ k. 680 - k) (sym (length-cell-bytes c n) ∙ ap length b) in
+      let l : (mostNodes * nodeSlotLength) - n * nodeSlotLength ≡ (mostNodes * nodeSlotLength) - length (bind (λ f. slotBytes (slotOf f)) (nodes F)) = ap (λ k. (mostNodes * nodeSlotLength) - k) (sym (length-cell-bytes c n) ∙ ap length b) in
       λ i. count i ∷ (b i ++ replicate (l i) 0)
 
 -- The order of the refusals.

@@ -4,6 +4,7 @@ use automaton::sizes::ROW_LENGTH;
 ghost use mathlib.Core.Path.{_≡_};
 ghost use Prim.Native.Nat.{_+_, _*_, _≤_, _<_};
 ghost use lib.ListN.{length, getD};
+ghost use Rattle.automaton.specs.Bytes.{rowLength, edgeLength};
 ghost use Rattle.columns.specs.Write.{pasted};
 ghost use Rattle.explanations.specs.Printed.{rowText, edgeText, rowsText, edgesText, refusalLine, listingText, TextWritten};
 use columns::write::write_numbers;
@@ -15,7 +16,7 @@ fn wide(b: u8) -> u64
 }
 
 fn write_row(rows: &[u8], i: usize, out: &mut [u8], at: usize) -> usize
-    requires { ⌜ (i * 3 + 3 ≤ length (now rows)) × (at + 81 ≤ length (now out)) ⌝ }
+    requires { ⌜ (i * rowLength + rowLength ≤ length (now rows)) × (at + 81 ≤ length (now out)) ⌝ }
     ensures { λ r. ⌜ r ≡ at + length (rowText (now (rows .entry)) i) ⌝ }
     ensures { λ _. ⌜ now (out .exit) ≡ pasted (now (out .entry)) at (rowText (now (rows .entry)) i) ⌝ }
 {
@@ -37,7 +38,7 @@ fn pair(bytes: &[u8], at: usize) -> u64
 }
 
 fn write_edge(edges: &[u8], j: usize, out: &mut [u8], at: usize) -> usize
-    requires { ⌜ (j * 5 + 5 ≤ length (now edges)) × (at + 81 ≤ length (now out)) ⌝ }
+    requires { ⌜ (j * edgeLength + edgeLength ≤ length (now edges)) × (at + 81 ≤ length (now out)) ⌝ }
     ensures { λ r. ⌜ r ≡ at + length (edgeText (now (edges .entry)) j) ⌝ }
     ensures { λ _. ⌜ now (out .exit) ≡ pasted (now (out .entry)) at (edgeText (now (edges .entry)) j) ⌝ }
 {
@@ -51,7 +52,7 @@ fn write_edge(edges: &[u8], j: usize, out: &mut [u8], at: usize) -> usize
 }
 
 fn write_rows(rows: &[u8], count: usize, out: &mut [u8], at: usize) -> usize
-    requires { ⌜ (count * 3 ≤ length (now rows)) × (count ≤ 65536) × (at + count * 25 + 81 ≤ length (now out)) ⌝ }
+    requires { ⌜ (count * rowLength ≤ length (now rows)) × (count ≤ 65536) × (at + count * 25 + 81 ≤ length (now out)) ⌝ }
     ensures { λ r. ⌜ r ≡ at + length (rowsText (now (rows .entry)) count) ⌝ }
     ensures { λ r. ⌜ r ≡ at + count * 25 ⌝ }
     ensures { λ _. ⌜ now (out .exit) ≡ pasted (now (out .entry)) at (rowsText (now (rows .entry)) count) ⌝ }
@@ -66,7 +67,7 @@ fn write_rows(rows: &[u8], count: usize, out: &mut [u8], at: usize) -> usize
 }
 
 fn write_edges(edges: &[u8], count: usize, out: &mut [u8], at: usize) -> usize
-    requires { ⌜ (count * 5 ≤ length (now edges)) × (at + count * 19 + 81 ≤ length (now out)) ⌝ }
+    requires { ⌜ (count * edgeLength ≤ length (now edges)) × (at + count * 19 + 81 ≤ length (now out)) ⌝ }
     ensures { λ r. ⌜ r ≡ at + length (edgesText (now (edges .entry)) count) ⌝ }
     ensures { λ r. ⌜ r ≡ at + count * 19 ⌝ }
     ensures { λ _. ⌜ now (out .exit) ≡ pasted (now (out .entry)) at (edgesText (now (edges .entry)) count) ⌝ }
@@ -90,7 +91,7 @@ pub fn write_listing(
     edges: &[u8],
     out: &mut [u8],
 ) -> usize
-    requires { ⌜ (rowcount * 3 ≤ length (now rows)) × (edgecount * 5 ≤ length (now edges)) × (rowcount ≤ 65536) ⌝ }
+    requires { ⌜ (rowcount * rowLength ≤ length (now rows)) × (edgecount * edgeLength ≤ length (now edges)) × (rowcount ≤ 65536) ⌝ }
     requires { ⌜ rowcount * 25 + edgecount * 19 + 162 ≤ length (now out) ⌝ }
     ensures { λ r. ⌜ TextWritten (listingText (record { verdict = verdict; class = class; rows = rowcount; edges = edgecount }) (now (rows .entry)) (now (edges .entry))) (now (out .entry)) (now (out .exit)) r ⌝ }
 {

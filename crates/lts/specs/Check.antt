@@ -4,7 +4,7 @@ use mathlib.Core.Bool.{true}
 use mathlib.Core.List.{List}
 use Prim.Native.Nat.{ℕ, suc, _+_, _*_, _≤_, _<_}
 use lib.ListN.{length}
-use Rattle.lts.specs.Sizes.{mostStates, mostLabels, mostTransitions, transitionsAt, tableLength}
+use Rattle.lts.specs.Sizes.{mostStates, mostLabels, mostTransitions, headLength, nameSlotLength, transitionLength, transitionsAt, tableLength}
 use Rattle.lts.specs.Names.{isName}
 use Rattle.lts.specs.Steps.{Table, labels}
 use Rattle.lts.specs.Range.{Below, Differ}
@@ -25,7 +25,7 @@ pub record CountsHeld (t : Table) : Type 0 where
 -- A name stands in slot k, with zeros behind it; and it is none of the names before it.
 pub record NameHeld (b : List ℕ) (k : ℕ) : Type 0 where
   pub name : isName (nameAt b k) ≡ true
-  pub behind : ZerosFrom b ((7 + k * 16) + byteAt b (6 + k * 16)) (22 + k * 16)
+  pub behind : ZerosFrom b ((headLength + 1 + k * nameSlotLength) + byteAt b (headLength + k * nameSlotLength)) (headLength + nameSlotLength + k * nameSlotLength)
 
 abbrev pub NewName : List ℕ → ℕ → Type 0
 NewName b k = (j : ℕ) → j < k → Differ (nameAt b j) (nameAt b k)
@@ -48,6 +48,6 @@ pub record WellFormed (b : List ℕ) : Type 0 where
   pub long : tableLength ≤ length b
   pub counts : CountsHeld (tableIn b)
   pub names : NamesHeld b
-  pub past-names : ZerosFrom b (6 + labels (tableIn b) * 16) transitionsAt
+  pub past-names : ZerosFrom b (headLength + labels (tableIn b) * nameSlotLength) transitionsAt
   pub transitions : TransitionsHeld b
-  pub past-transitions : ZerosFrom b (transitionsAt + length (tableIn b .transitions) * 3) tableLength
+  pub past-transitions : ZerosFrom b (transitionsAt + length (tableIn b .transitions) * transitionLength) tableLength

@@ -5,7 +5,7 @@ use mathlib.Core.List.{List, [], _∷_, _++_, map}
 use mathlib.Core.Option.{Option, none, some}
 use Prim.Native.Nat.{ℕ, zero, suc, _+_, _*_}
 use lib.ListN.{length, getD, take, drop}
-use Rattle.lts.specs.Sizes.{namesLength, transitionsAt, transitionsLength, tableLength}
+use Rattle.lts.specs.Sizes.{headLength, nameSlotLength, transitionLength, namesLength, transitionsAt, transitionsLength, tableLength}
 use Rattle.columns.specs.Bytes.{sameBytes, padded, lowFirst}
 use Rattle.lts.specs.Lists.{upFrom, bind}
 use Rattle.lts.specs.Steps.{Step, Table, labels}
@@ -15,7 +15,7 @@ use Rattle.lts.specs.Reading.{readTable}
 
 -- A name: its length, its bytes, zeros.
 abbrev pub nameSlot : List ℕ → List ℕ
-nameSlot n = padded 16 (length n ∷ n)
+nameSlot n = padded nameSlotLength (length n ∷ n)
 
 abbrev pub transitionSlot : Step → List ℕ
 transitionSlot st = st .from ∷ st .label ∷ st .to ∷ []
@@ -35,10 +35,10 @@ abbrev pub byteAt : List ℕ → ℕ → ℕ
 byteAt b i = getD b i 0
 
 abbrev pub nameAt : List ℕ → ℕ → List ℕ
-nameAt b k = take (byteAt b (6 + k * 16)) (drop (7 + k * 16) b)
+nameAt b k = take (byteAt b (headLength + k * nameSlotLength)) (drop (headLength + 1 + k * nameSlotLength) b)
 
 abbrev pub transitionAt : List ℕ → ℕ → Step
-transitionAt b k = record { from = byteAt b (transitionsAt + k * 3); label = byteAt b ((transitionsAt + 1) + k * 3); to = byteAt b ((transitionsAt + 2) + k * 3) }
+transitionAt b k = record { from = byteAt b (transitionsAt + k * transitionLength); label = byteAt b ((transitionsAt + 1) + k * transitionLength); to = byteAt b ((transitionsAt + 2) + k * transitionLength) }
 
 unfoldable pub tableIn : List ℕ → Table
 tableIn b = record {

@@ -3,7 +3,7 @@ use mathlib.Core.Bool.{Bool, true}
 use mathlib.Core.List.{List, [], _∷_, _++_, map}
 use Prim.Native.Nat.{ℕ, zero, suc, _+_, _*_}
 use lib.ListN.{length, getD, take, drop}
-use Rattle.lts.specs.Sizes.{namesLength, transitionsLength}
+use Rattle.lts.specs.Sizes.{nameSlotLength, transitionLength, namesLength, transitionsLength}
 use Rattle.columns.specs.Bytes.{padded, lowFirst}
 use Rattle.lts.specs.Lists.{upFrom, bind}
 use Rattle.lts.specs.Steps.{Step}
@@ -16,13 +16,13 @@ counted n = length n ∷ n
 
 -- The names and the transitions that slots hold.
 abbrev pub storedName : List ℕ → ℕ → List ℕ
-storedName b k = take (getD b (k * 16) 0) (drop (k * 16 + 1) b)
+storedName b k = take (getD b (k * nameSlotLength) 0) (drop (k * nameSlotLength + 1) b)
 
 abbrev pub storedNames : List ℕ → ℕ → List (List ℕ)
 storedNames b n = map (storedName b) (upFrom 0 n)
 
 abbrev pub storedStep : List ℕ → ℕ → Step
-storedStep b k = record { from = getD b (k * 3) 0; label = getD b (k * 3 + 1) 0; to = getD b (k * 3 + 2) 0 }
+storedStep b k = record { from = getD b (k * transitionLength) 0; label = getD b (k * transitionLength + 1) 0; to = getD b (k * transitionLength + 2) 0 }
 
 unfoldable pub risesAfter : List ℕ → ℕ → Step → Bool
 risesAfter b zero st = true

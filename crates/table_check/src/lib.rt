@@ -22,7 +22,7 @@ use tables::prepared::transition_count;
 ghost use mathlib.Core.Path.{_≡_};
 ghost use Prim.Native.Nat.{_+_, _*_, _≤_, _<_};
 ghost use lib.ListN.{length};
-ghost use Rattle.lts.specs.Sizes.{mostLabels, mostTransitions, tableLength};
+ghost use Rattle.lts.specs.Sizes.{mostLabels, mostTransitions, headLength, nameSlotLength, tableLength};
 ghost use Rattle.lts.specs.Steps.{labels};
 ghost use Rattle.lts.specs.Names.{longestName};
 ghost use Rattle.lts.specs.Prepared.{tableIn, byteAt, preparedTable};
@@ -125,7 +125,7 @@ fn name_held(table: &[u8], k: usize) -> bool
 }
 
 fn new_name(table: &[u8], k: usize) -> bool
-    requires { ⌜ (tableLength ≤ length (now table)) × ((k < mostLabels) × (byteAt (now table) (6 + k * 16) ≤ longestName)) ⌝ }
+    requires { ⌜ (tableLength ≤ length (now table)) × ((k < mostLabels) × (byteAt (now table) (headLength + k * nameSlotLength) ≤ longestName)) ⌝ }
     ensures { λ r. ⌜ Decides (NewName (now (table .entry)) k) r ⌝ }
 {
     let at = NAME_BYTES_AT + k * NAME_SLOT;

@@ -17,14 +17,14 @@ use Rattle.lts.specs.Lines.{LineAt, NoLineAt, Labelled}
 abbrev pub header : HeaderFields → Header
 header c = record { states = c .states; labels = c .labels; transitions = c .transitions; start = c .start }
 
-abbrev pub HeaderSays : List ℕ → HeaderLine → Type 0
-HeaderSays s (LaidHeader c) = (l : List ℕ) × LineAt (λ l. headerLaidOut (headerOf l) l) s 0 25 l × (headerOf l ≡ header c)
-HeaderSays s NoHeader = NoLineAt (λ l. headerLaidOut (headerOf l) l) s 0
+abbrev pub HeaderAnswer : List ℕ → HeaderLine → Type 0
+HeaderAnswer s (LaidHeader c) = (l : List ℕ) × LineAt (λ l. headerLaidOut (headerOf l) l) s 0 25 l × (headerOf l ≡ header c)
+HeaderAnswer s NoHeader = NoLineAt (λ l. headerLaidOut (headerOf l) l) s 0
 
-abbrev pub LabelSays : List ℕ → ℕ → LabelLine → Type 0
-LabelSays s at (Label number end) = Labelled s at number end
-LabelSays s at NoLabel = NoLineAt labelLaidOut s at
+abbrev pub LabelAnswer : List ℕ → ℕ → LabelLine → Type 0
+LabelAnswer s at (Label number end) = Labelled s at number end
+LabelAnswer s at NoLabel = NoLineAt labelLaidOut s at
 
-abbrev pub TransitionSays : List ℕ → ℕ → TransitionLine → Type 0
-TransitionSays s at (Row t) = (l : List ℕ) × LineAt stepLaidOut s at (at + 19) l × (stepOf l ≡ stepIn t)
-TransitionSays s at NoRow = NoLineAt stepLaidOut s at
+abbrev pub TransitionAnswer : List ℕ → ℕ → TransitionLine → Type 0
+TransitionAnswer s at (Row t) = (l : List ℕ) × LineAt stepLaidOut s at (at + 19) l × (stepOf l ≡ stepIn t)
+TransitionAnswer s at NoRow = NoLineAt stepLaidOut s at

@@ -7,7 +7,7 @@ ghost use Prim.Native.Nat.{_+_, _<_, _≤_};
 ghost use lib.Dec.{eqb};
 ghost use lib.ListN.{length, getD};
 ghost use Rattle.lts.specs.Reading.{headerInRange, stepInRange};
-ghost use Rattle.table_lines.specs.LineReplies.{header, HeaderSays, LabelSays, TransitionSays};
+ghost use Rattle.table_lines.specs.LineReplies.{header, HeaderAnswer, LabelAnswer, TransitionAnswer};
 ghost use Rattle.tables.specs.Access.{stepIn};
 use columns::Column;
 use tables::names::name_end;
@@ -50,7 +50,7 @@ pub fn stands(text: &[u8], at: usize, byte: u8) -> bool
 }
 
 pub fn header_line(text: &[u8]) -> HeaderLine
-    ensures { λ r. ⌜ HeaderSays (now (text .entry)) r ⌝ }
+    ensures { λ r. ⌜ HeaderAnswer (now (text .entry)) r ⌝ }
 {
     let Column::Number(states) = columns::read_column(text, 0) else {
         return HeaderLine::NoHeader;
@@ -78,7 +78,7 @@ pub fn header_line(text: &[u8]) -> HeaderLine
 
 pub fn label_line(text: &[u8], at: usize) -> LabelLine
     requires { ⌜ at ≤ length (now text) ⌝ }
-    ensures { λ r. ⌜ LabelSays (now (text .entry)) at r ⌝ }
+    ensures { λ r. ⌜ LabelAnswer (now (text .entry)) at r ⌝ }
 {
     let Column::Number(number) = columns::read_column(text, at) else {
         return LabelLine::NoLabel;
@@ -100,7 +100,7 @@ pub fn label_line(text: &[u8], at: usize) -> LabelLine
 
 pub fn transition_line(text: &[u8], at: usize) -> TransitionLine
     requires { ⌜ at ≤ length (now text) ⌝ }
-    ensures { λ r. ⌜ TransitionSays (now (text .entry)) at r ⌝ }
+    ensures { λ r. ⌜ TransitionAnswer (now (text .entry)) at r ⌝ }
 {
     let Column::Number(from) = columns::read_column(text, at) else {
         return TransitionLine::NoRow;

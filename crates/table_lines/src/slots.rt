@@ -4,7 +4,7 @@ use lts::sizes::TRANSITION;
 ghost use mathlib.Core.Path.{_≡_};
 ghost use Prim.Native.Nat.{_+_, _*_, _<_, _≤_};
 ghost use lib.ListN.{length};
-ghost use Rattle.lts.specs.Sizes.{mostTransitions, transitionsLength};
+ghost use Rattle.lts.specs.Sizes.{mostTransitions, nameSlotLength, transitionLength, transitionsLength};
 ghost use Rattle.columns.specs.Write.{pasted};
 ghost use Rattle.lts.specs.Names.{longestName};
 ghost use Rattle.lts.specs.Prepared.{transitionSlot};
@@ -42,8 +42,8 @@ pub fn write_at(bytes: &mut [u8], at: usize, part: &[u8])
 }
 
 pub fn write_transition(slots: &mut [u8], count: usize, t: Transition)
-    requires { ⌜ (count * 3 + 3 ≤ length (now slots)) × ((t .from < 256) × ((t .label < 256) × (t .to < 256))) ⌝ }
-    ensures { λ _. ⌜ now (slots .exit) ≡ pasted (now (slots .entry)) (count * 3) (transitionSlot (stepIn t)) ⌝ }
+    requires { ⌜ (count * transitionLength + transitionLength ≤ length (now slots)) × ((t .from < 256) × ((t .label < 256) × (t .to < 256))) ⌝ }
+    ensures { λ _. ⌜ now (slots .exit) ≡ pasted (now (slots .entry)) (count * transitionLength) (transitionSlot (stepIn t)) ⌝ }
 {
     let i = count * TRANSITION;
     slots[i] = t.from as u8;
@@ -52,8 +52,8 @@ pub fn write_transition(slots: &mut [u8], count: usize, t: Transition)
 }
 
 pub fn write_name(names: &mut [u8], count: usize, name: &[u8])
-    requires { ⌜ (count * 16 + 16 ≤ length (now names)) × (length (now name) ≤ longestName) ⌝ }
-    ensures { λ _. ⌜ now (names .exit) ≡ pasted (now (names .entry)) (count * 16) (counted (now (name .entry))) ⌝ }
+    requires { ⌜ (count * nameSlotLength + nameSlotLength ≤ length (now names)) × (length (now name) ≤ longestName) ⌝ }
+    ensures { λ _. ⌜ now (names .exit) ≡ pasted (now (names .entry)) (count * nameSlotLength) (counted (now (name .entry))) ⌝ }
 {
     let i = count * NAME_SLOT;
     names[i] = name.len() as u8;

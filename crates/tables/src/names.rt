@@ -1,13 +1,13 @@
 // Names of labels: where a name ends in a text, whether two are equal, and where one stands in slots of names. A slot has 16 bytes:
 // the name's length, its bytes, zeros. Nothing else knows the bytes of a name or how names are compared.
-use crate::prepared::label_count;
 use lts::sizes::HEAD;
 use lts::sizes::NAME_SLOT;
 use lts::sizes::TRANSITIONS_AT;
+use crate::prepared::label_count;
 ghost use mathlib.Core.Path.{_≡_};
 ghost use Prim.Native.Nat.{_+_, _*_, _≤_};
 ghost use lib.ListN.{length};
-ghost use Rattle.lts.specs.Sizes.{mostLabels, tableLength};
+ghost use Rattle.lts.specs.Sizes.{mostLabels, nameSlotLength, tableLength};
 ghost use Rattle.columns.specs.Bytes.{sameBytes};
 ghost use Rattle.lts.specs.Steps.{labels};
 ghost use Rattle.lts.specs.Names.{longestName, isLower, isNameByte, nameEnd, lookup};
@@ -65,7 +65,7 @@ pub fn name_end(text: &[u8], from: usize) -> usize
 
 // Whether the name in slot k is `name`: most differ in their lengths.
 fn same_name(slots: &[u8], k: usize, name: &[u8]) -> bool
-    requires { ⌜ (k * 16 + 16 ≤ length (now slots)) × (length (now name) ≤ longestName) ⌝ }
+    requires { ⌜ (k * nameSlotLength + nameSlotLength ≤ length (now slots)) × (length (now name) ≤ longestName) ⌝ }
     ensures { λ r. ⌜ r ≡ sameBytes (storedName (now (slots .entry)) k) (now (name .entry)) ⌝ }
 {
     if slots[k * NAME_SLOT] as usize != name.len() {
@@ -84,7 +84,7 @@ fn same_name(slots: &[u8], k: usize, name: &[u8]) -> bool
 
 // The number of the label, of those in the first `count` slots, that has a name.
 pub fn find(slots: &[u8], count: usize, name: &[u8]) -> Lookup
-    requires { ⌜ (count * 16 ≤ length (now slots)) × (length (now name) ≤ longestName) ⌝ }
+    requires { ⌜ (count * nameSlotLength ≤ length (now slots)) × (length (now name) ≤ longestName) ⌝ }
     ensures { λ r. ⌜ foundIn r ≡ lookup (storedNames (now (slots .entry)) count) (now (name .entry)) ⌝ }
 {
     let mut k: usize = 0;

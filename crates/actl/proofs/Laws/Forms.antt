@@ -5,7 +5,7 @@ use Prim.Native.Nat.{ℕ, zero, suc, _+_, _*_, _-_, _/_, _%_, _^_, _≤_, _<_}
 use native.Mathlib.Omega.{arith}
 use lib.ListN.{length, getD, take, drop, replicate, length-append, length-replicate}
 use lib.Seq.{drop-drop, getD-drop, getD-take, getD-append-add}
-use Rattle.actl.specs.Sizes.{mostNodes, formulaLength}
+use Rattle.actl.specs.Sizes.{mostNodes, nodeSlotLength, formulaLength}
 use Rattle.columns.specs.Bytes.{padded, lowFirst}
 use Rattle.lts.specs.Lists.{bind}
 use Rattle.actl.specs.Formulas.{Formula, tru, size, nodes}
@@ -32,21 +32,21 @@ pub length-form : (F : Formula) → size F ≤ mostNodes → length (formulaByte
 unfolding formulaBytes
 length-form F h =
     let e = length-parts nodeBytes 17 (λ f. length-slot (slotOf f)) (nodes F) in
-    let d = length-padded 680 (bind nodeBytes (nodes F)) (omega (arith, length-nodes F)) in
+    let d = length-padded (mostNodes * nodeSlotLength) (bind nodeBytes (nodes F)) (omega (arith, length-nodes F)) in
     ap suc d
 
 -- The slot at the front of a list.
 abbrev slotFrom : List ℕ → Slot
 slotFrom b = slot (getD b 0 0) (number 8 (drop 1 b)) (number 8 (drop 9 b))
 
-slot-from : (b : List ℕ) (k : ℕ) → slotAt b k ≡ slotFrom (drop (1 + k * 17) b)
+slot-from : (b : List ℕ) (k : ℕ) → slotAt b k ≡ slotFrom (drop (1 + k * nodeSlotLength) b)
 slot-from b k =
-    let a : 1 + k * 17 + 0 ≡ 1 + k * 17 = omega arith in
-    let c : 1 + k * 17 + 1 ≡ 2 + k * 17 = omega arith in
-    let d : 1 + k * 17 + 9 ≡ 10 + k * 17 = omega arith in
-    let e : getD (drop (1 + k * 17) b) 0 0 ≡ getD b (1 + k * 17) 0 = rw (getD-drop, a) in
-    let f : drop 1 (drop (1 + k * 17) b) ≡ drop (2 + k * 17) b = rw (drop-drop, c) in
-    let g : drop 9 (drop (1 + k * 17) b) ≡ drop (10 + k * 17) b = rw (drop-drop, d) in
+    let a : 1 + k * nodeSlotLength + 0 ≡ 1 + k * nodeSlotLength = omega arith in
+    let c : 1 + k * nodeSlotLength + 1 ≡ 2 + k * nodeSlotLength = omega arith in
+    let d : 1 + k * nodeSlotLength + 9 ≡ 10 + k * nodeSlotLength = omega arith in
+    let e : getD (drop (1 + k * nodeSlotLength) b) 0 0 ≡ getD b (1 + k * nodeSlotLength) 0 = rw (getD-drop, a) in
+    let f : drop 1 (drop (1 + k * nodeSlotLength) b) ≡ drop (2 + k * nodeSlotLength) b = rw (drop-drop, c) in
+    let g : drop 9 (drop (1 + k * nodeSlotLength) b) ≡ drop (10 + k * nodeSlotLength) b = rw (drop-drop, d) in
     λ i. slot (sym e i) (number 8 (sym f i)) (number 8 (sym g i))
 
 -- What stands for s: the same kind, and the same masks where eight bytes carry them.
@@ -67,17 +67,17 @@ unfolding formulaBytes
 slot-of-form F k h =
     let f = getD (nodes F) k tru in
     let all = bind nodeBytes (nodes F) in
-    let (more, e) = drop-parts nodeBytes 17 (λ g. length-slot (slotOf g)) tru (nodes F) k (replicate (680 - length all) 0) (omega (arith, length-nodes F)) in
-    let q : 1 + k * 17 ≡ suc (k * 17) = omega arith in
-    let d : drop (1 + k * 17) (formulaBytes F) ≡ nodeBytes f ++ more = ap (λ i. drop i (formulaBytes F)) q ∙ e in
+    let (more, e) = drop-parts nodeBytes 17 (λ g. length-slot (slotOf g)) tru (nodes F) k (replicate ((mostNodes * nodeSlotLength) - length all) 0) (omega (arith, length-nodes F)) in
+    let q : 1 + k * nodeSlotLength ≡ suc (k * nodeSlotLength) = omega arith in
+    let d : drop (1 + k * nodeSlotLength) (formulaBytes F) ≡ nodeBytes f ++ more = ap (λ i. drop i (formulaBytes F)) q ∙ e in
     subst (StandsFor (slotOf f)) (sym (slot-from (formulaBytes F) k ∙ ap slotFrom d)) (slot-front (slotOf f) more)
 
 -- Only the first bytes count.
 pub slot-of-front : (b : List ℕ) (k : ℕ) → k < mostNodes → slotAt (take formulaLength b) k ≡ slotAt b k
 slot-of-front b k h =
-    let e = getD-take formulaLength b (1 + k * 17) 0 (omega arith) in
-    let f = number-take 8 (2 + k * 17) formulaLength b (omega arith) in
-    let g = number-take 8 (10 + k * 17) formulaLength b (omega arith) in
+    let e = getD-take formulaLength b (1 + k * nodeSlotLength) 0 (omega arith) in
+    let f = number-take 8 (2 + k * nodeSlotLength) formulaLength b (omega arith) in
+    let g = number-take 8 (10 + k * nodeSlotLength) formulaLength b (omega arith) in
     λ i. slot (e i) (f i) (g i)
 
 -- Every one of the form's numbers is a byte.
@@ -114,7 +114,7 @@ pub form-bytes : (F : Formula) → size F ≤ mostNodes → (i : ℕ) → getD (
 unfolding formulaBytes
 form-bytes F h =
     let all = bind nodeBytes (nodes F) in
-    bytes-cons (size F) (padded 680 all) (omega arith) (bytes-append all (replicate (680 - length all) 0) (bytes-nodes (nodes F)) (bytes-zeros (680 - length all)))
+    bytes-cons (size F) (padded (mostNodes * nodeSlotLength) all) (omega arith) (bytes-append all (replicate ((mostNodes * nodeSlotLength) - length all) 0) (bytes-nodes (nodes F)) (bytes-zeros ((mostNodes * nodeSlotLength) - length all)))
 
 -- Zeros past the last slot.
 zero-at : (m i : ℕ) → getD {A = ℕ} (replicate m 0) i 0 ≡ 0
@@ -122,12 +122,12 @@ zero-at zero i = refl
 zero-at (suc m) zero = refl
 zero-at (suc m) (suc i) = zero-at m i
 
-pub form-zeros : (F : Formula) (i : ℕ) → 1 + size F * 17 ≤ i → getD (formulaBytes F) i 0 ≡ 0
+pub form-zeros : (F : Formula) (i : ℕ) → 1 + size F * nodeSlotLength ≤ i → getD (formulaBytes F) i 0 ≡ 0
 unfolding formulaBytes
 form-zeros F zero h = absurd (omega arith)
 form-zeros F (suc i) h =
     let all = bind nodeBytes (nodes F) in
-    let e : length all ≡ size F * 17 = length-parts nodeBytes 17 (λ f. length-slot (slotOf f)) (nodes F) ∙ ap (λ n. n * 17) (length-nodes F) in
+    let e : length all ≡ size F * nodeSlotLength = length-parts nodeBytes 17 (λ f. length-slot (slotOf f)) (nodes F) ∙ ap (λ n. n * nodeSlotLength) (length-nodes F) in
     let d : i ≡ length all + (i - length all) = omega arith in
-    ap (λ j. getD (padded 680 all) j 0) d
-    ∙ (getD-append-add all (replicate (680 - length all) 0) (i - length all) 0 ∙ zero-at (680 - length all) (i - length all))
+    ap (λ j. getD (padded (mostNodes * nodeSlotLength) all) j 0) d
+    ∙ (getD-append-add all (replicate ((mostNodes * nodeSlotLength) - length all) 0) (i - length all) 0 ∙ zero-at ((mostNodes * nodeSlotLength) - length all) (i - length all))

@@ -9,7 +9,7 @@ use lib.Dec.{eqb}
 use lib.ListN.{length, getD, take, drop, replicate, length-append, length-drop, length-map, length-replicate, getD-replicate}
 use lib.Seq.{drop-cons, drop-drop, take-add, take-nil, length-take-le, getD-take, getD-drop, ext-getD}
 use borrow.Author.Tests.{eqb-true}
-use Rattle.actl.specs.Sizes.{mostNodes, formulaLength}
+use Rattle.actl.specs.Sizes.{mostNodes, nodeSlotLength, formulaLength}
 use Rattle.columns.specs.Bytes.{padded, lowFirst}
 use Rattle.lts.specs.Lists.{upFrom, bind, every}
 use Rattle.lts.proofs.Lists.{upFrom-to, upFrom-snoc, every-of, bind-append}
@@ -42,40 +42,40 @@ bind-map g h [] = refl
 bind-map g h (x ∷ l) = ap (λ z. g (h x) ++ z) (bind-map g h l)
 
 module _ (b : List ℕ) (long : formulaLength ≤ length b) (bytes : Bytes b) where
-  slot-bytes : (k : ℕ) → k < mostNodes → slotBytes (slotAt b k) ≡ take 17 (drop (1 + k * 17) b)
+  slot-bytes : (k : ℕ) → k < mostNodes → slotBytes (slotAt b k) ≡ take 17 (drop (1 + k * nodeSlotLength) b)
   slot-bytes k h =
-      let Z = drop (2 + k * 17) b in
-      let up : suc (1 + k * 17) ≡ 2 + k * 17 = omega arith in
-      let ten : 2 + k * 17 + 8 ≡ 10 + k * 17 = omega arith in
-      let here : drop (1 + k * 17) b ≡ getD b (1 + k * 17) 0 ∷ Z = drop-cons b (1 + k * 17) 0 (omega arith) ∙ ap (λ i. getD b (1 + k * 17) 0 ∷ drop i b) up in
-      let one = low-first-number 8 Z (omega (arith, length-drop (2 + k * 17) b)) (bytes-drop (2 + k * 17) b bytes) in
-      let two = low-first-number 8 (drop (10 + k * 17) b) (omega (arith, length-drop (10 + k * 17) b)) (bytes-drop (10 + k * 17) b bytes) in
-      let rest : drop (10 + k * 17) b ≡ drop 8 Z = sym (drop-drop 8 (2 + k * 17) b ∙ ap (λ i. drop i b) ten) in
-      (λ i. getD b (1 + k * 17) 0 ∷ (one i ++ two i))
-      ∙ (ap (λ l. getD b (1 + k * 17) 0 ∷ (take 8 Z ++ take 8 l)) rest ∙ (ap (λ l. getD b (1 + k * 17) 0 ∷ l) (sym (take-add 8 8 Z)) ∙ ap (take 17) (sym here)))
+      let Z = drop (2 + k * nodeSlotLength) b in
+      let up : suc (1 + k * nodeSlotLength) ≡ 2 + k * nodeSlotLength = omega arith in
+      let ten : 2 + k * nodeSlotLength + 8 ≡ 10 + k * nodeSlotLength = omega arith in
+      let here : drop (1 + k * nodeSlotLength) b ≡ getD b (1 + k * nodeSlotLength) 0 ∷ Z = drop-cons b (1 + k * nodeSlotLength) 0 (omega arith) ∙ ap (λ i. getD b (1 + k * nodeSlotLength) 0 ∷ drop i b) up in
+      let one = low-first-number 8 Z (omega (arith, length-drop (2 + k * nodeSlotLength) b)) (bytes-drop (2 + k * nodeSlotLength) b bytes) in
+      let two = low-first-number 8 (drop (10 + k * nodeSlotLength) b) (omega (arith, length-drop (10 + k * nodeSlotLength) b)) (bytes-drop (10 + k * nodeSlotLength) b bytes) in
+      let rest : drop (10 + k * nodeSlotLength) b ≡ drop 8 Z = sym (drop-drop 8 (2 + k * nodeSlotLength) b ∙ ap (λ i. drop i b) ten) in
+      (λ i. getD b (1 + k * nodeSlotLength) 0 ∷ (one i ++ two i))
+      ∙ (ap (λ l. getD b (1 + k * nodeSlotLength) 0 ∷ (take 8 Z ++ take 8 l)) rest ∙ (ap (λ l. getD b (1 + k * nodeSlotLength) 0 ∷ l) (sym (take-add 8 8 Z)) ∙ ap (take 17) (sym here)))
 
-  all-slots : (c : ℕ) → c ≤ 40 → bind (λ k. slotBytes (slotAt b k)) (upFrom 0 c) ≡ take (c * 17) (drop 1 b)
+  all-slots : (c : ℕ) → c ≤ 40 → bind (λ k. slotBytes (slotAt b k)) (upFrom 0 c) ≡ take (c * nodeSlotLength) (drop 1 b)
   all-slots zero h = ap (λ n. take n (drop 1 b)) (sym (zero-mul 17))
   all-slots (suc c) h =
       let g : ℕ → List ℕ = λ k. slotBytes (slotAt b k) in
       let snoc : bind g (upFrom 0 (suc c)) ≡ bind g (upFrom 0 c) ++ g c = ap (bind g) (upFrom-snoc c) ∙ (bind-append g (upFrom 0 c) (c ∷ []) ∙ ap (λ l. bind g (upFrom 0 c) ++ l) (append-nil (g c))) in
-      let there : take 17 (drop (1 + c * 17) b) ≡ take 17 (drop (c * 17) (drop 1 b)) = ap (take 17) (sym (drop-drop (c * 17) 1 b)) in
-      snoc ∙ ((λ i. all-slots c (omega arith) i ++ (slot-bytes c (omega arith) ∙ there) i) ∙ (sym (take-add (c * 17) 17 (drop 1 b)) ∙ ap (λ n. take n (drop 1 b)) (sym (suc-mul c 17))))
+      let there : take 17 (drop (1 + c * nodeSlotLength) b) ≡ take 17 (drop (c * nodeSlotLength) (drop 1 b)) = ap (take 17) (sym (drop-drop (c * nodeSlotLength) 1 b)) in
+      snoc ∙ ((λ i. all-slots c (omega arith) i ++ (slot-bytes c (omega arith) ∙ there) i) ∙ (sym (take-add (c * nodeSlotLength) 17 (drop 1 b)) ∙ ap (λ n. take n (drop 1 b)) (sym (suc-mul c 17))))
 
-  zeros-behind : (c : ℕ) → c ≤ 40 → zerosFrom b (1 + c * 17) ≡ true → take (680 - c * 17) (drop (c * 17) (drop 1 b)) ≡ replicate (680 - c * 17) 0
+  zeros-behind : (c : ℕ) → c ≤ 40 → zerosFrom b (1 + c * nodeSlotLength) ≡ true → take ((mostNodes * nodeSlotLength) - c * nodeSlotLength) (drop (c * nodeSlotLength) (drop 1 b)) ≡ replicate ((mostNodes * nodeSlotLength) - c * nodeSlotLength) 0
   zeros-behind c h e =
-      let n = 680 - c * 17 in
-      let l = drop (c * 17) (drop 1 b) in
-      let size : length l ≡ length b - (1 + c * 17) = ap length (drop-drop (c * 17) 1 b) ∙ length-drop (1 + c * 17) b in
+      let n = (mostNodes * nodeSlotLength) - c * nodeSlotLength in
+      let l = drop (c * nodeSlotLength) (drop 1 b) in
+      let size : length l ≡ length b - (1 + c * nodeSlotLength) = ap length (drop-drop (c * nodeSlotLength) 1 b) ∙ length-drop (1 + c * nodeSlotLength) b in
       let front : length (take n l) ≡ n = length-take-le n l (omega arith) in
       ext-getD 0 (take n l) (replicate n 0) (front ∙ sym (length-replicate {A = ℕ} n 0)) (λ i s.
       let near : i < n = omega arith in
-      let place : 1 + (c * 17 + i) ≡ 1 + c * 17 + i = omega arith in
-      let zero-there : getD b (1 + c * 17 + i) 0 ≡ 0 =
-      eqb-true (getD b (1 + c * 17 + i) 0) 0 (every-of (λ j. eqb (getD b j 0) 0) (upFrom (1 + c * 17) (formulaLength - (1 + c * 17))) e (1 + c * 17 + i) (upFrom-to (1 + c * 17) (formulaLength - (1 + c * 17)) (1 + c * 17 + i) (omega arith) (omega arith))) in
-      getD-take n l i 0 near ∙ (getD-drop (c * 17) (drop 1 b) i 0 ∙ (getD-drop 1 b (c * 17 + i) 0 ∙ (ap (λ j. getD b j 0) place ∙ (zero-there ∙ sym (getD-replicate n i 0 0 near))))))
+      let place : 1 + (c * nodeSlotLength + i) ≡ 1 + c * nodeSlotLength + i = omega arith in
+      let zero-there : getD b (1 + c * nodeSlotLength + i) 0 ≡ 0 =
+      eqb-true (getD b (1 + c * nodeSlotLength + i) 0) 0 (every-of (λ j. eqb (getD b j 0) 0) (upFrom (1 + c * nodeSlotLength) (formulaLength - (1 + c * nodeSlotLength))) e (1 + c * nodeSlotLength + i) (upFrom-to (1 + c * nodeSlotLength) (formulaLength - (1 + c * nodeSlotLength)) (1 + c * nodeSlotLength + i) (omega arith) (omega arith))) in
+      getD-take n l i 0 near ∙ (getD-drop (c * nodeSlotLength) (drop 1 b) i 0 ∙ (getD-drop 1 b (c * nodeSlotLength + i) 0 ∙ (ap (λ j. getD b j 0) place ∙ (zero-there ∙ sym (getD-replicate n i 0 0 near))))))
 
-  pub form-of-bytes : (F : Formula) → getD b 0 0 ≡ size F → size F ≤ mostNodes → zerosFrom b (1 + getD b 0 0 * 17) ≡ true
+  pub form-of-bytes : (F : Formula) → getD b 0 0 ≡ size F → size F ≤ mostNodes → zerosFrom b (1 + getD b 0 0 * nodeSlotLength) ≡ true
       → map (slotAt b) (upFrom 0 (getD b 0 0)) ≡ map slotOf (nodes F) → take formulaLength b ≡ formulaBytes F
   unfolding formulaBytes
   form-of-bytes F count few zeros same =
@@ -83,11 +83,11 @@ module _ (b : List ℕ) (long : formulaLength ≤ length b) (bytes : Bytes b) wh
       let X = bind (λ k. slotBytes (slotAt b k)) (upFrom 0 c) in
       let all = all-slots c (omega arith) in
       let parts : X ≡ bind (λ f. slotBytes (slotOf f)) (nodes F) = sym (bind-map slotBytes (slotAt b) (upFrom 0 c)) ∙ (ap (bind slotBytes) same ∙ bind-map slotBytes slotOf (nodes F)) in
-      let wide : length X ≡ c * 17 = ap length all ∙ length-take-le (c * 17) (drop 1 b) (omega (arith, length-drop 1 b)) in
-      let sum : 680 ≡ c * 17 + (680 - c * 17) = omega arith in
-      let body : take 680 (drop 1 b) ≡ padded 680 X =
+      let wide : length X ≡ c * nodeSlotLength = ap length all ∙ length-take-le (c * nodeSlotLength) (drop 1 b) (omega (arith, length-drop 1 b)) in
+      let sum : (mostNodes * nodeSlotLength) ≡ c * nodeSlotLength + ((mostNodes * nodeSlotLength) - c * nodeSlotLength) = omega arith in
+      let body : take (mostNodes * nodeSlotLength) (drop 1 b) ≡ padded (mostNodes * nodeSlotLength) X =
       ap (λ n. take n (drop 1 b)) sum
-      ∙ (take-add (c * 17) (680 - c * 17) (drop 1 b)
-      ∙ ((λ i. sym all i ++ zeros-behind c (omega arith) zeros i) ∙ ap (λ n. X ++ replicate (680 - n) 0) (sym wide))) in
-      let front : take formulaLength b ≡ c ∷ take 680 (drop 1 b) = ap (take formulaLength) (drop-cons b 0 0 (omega arith)) in
-      front ∙ (λ i. count i ∷ (body ∙ ap (padded 680) parts) i)
+      ∙ (take-add (c * nodeSlotLength) ((mostNodes * nodeSlotLength) - c * nodeSlotLength) (drop 1 b)
+      ∙ ((λ i. sym all i ++ zeros-behind c (omega arith) zeros i) ∙ ap (λ n. X ++ replicate ((mostNodes * nodeSlotLength) - n) 0) (sym wide))) in
+      let front : take formulaLength b ≡ c ∷ take (mostNodes * nodeSlotLength) (drop 1 b) = ap (take formulaLength) (drop-cons b 0 0 (omega arith)) in
+      front ∙ (λ i. count i ∷ (body ∙ ap (padded (mostNodes * nodeSlotLength)) parts) i)

@@ -3,7 +3,7 @@ use borrow.Author.Needs.{needs}
 use mathlib.Core.Path.{subst}
 use mathlib.Core.List.{[], _∷_}
 use native.Mathlib.Omega.{arith}
-use Rattle.formula_cursor.specs.CursorReplies.{KeywordSays}
+use Rattle.formula_cursor.specs.CursorReplies.{KeywordAnswer}
 use Rattle.actl.specs.Readers.{namesIn}
 use Rattle.formula_heads.proofs.ReadingHeads.{head-EX, head-AX, head-EU, no-head}
 use Rattle.formula_heads.proofs.head.Statement.{statement}
@@ -21,7 +21,7 @@ next-head-requires c κs =
     let s = a .text .now in
     let at = a .c .at in
     let pre = c .before .before .before .before .before .before .before .pre in
-    let k = subst (KeywordSays s at (69 ∷ 88 ∷ [])) (c .before .d .given .1) (c .before .before .before .keyword .ensures) in
+    let k = subst (KeywordAnswer s at (69 ∷ 88 ∷ [])) (c .before .d .given .1) (c .before .before .before .keyword .ensures) in
     (pre .0 .table, pre .0 .short, omega (arith, k .two .within, k .two .next), omega arith)
 
 returns : tie.Need-returns
@@ -30,7 +30,7 @@ returns c =
     let N = namesIn (a .table .now) in
     let s = a .text .now in
     let at = a .c .at in
-    let k = subst (KeywordSays s at (69 ∷ 88 ∷ [])) (c .before .before .d .given .1) (c .before .before .before .before .keyword .ensures) in
+    let k = subst (KeywordAnswer s at (69 ∷ 88 ∷ [])) (c .before .before .d .given .1) (c .before .before .before .before .keyword .ensures) in
     head-EX N s at (a .lost) k (c .next-head .result) (c .next-head .ensures)
 
 enum-told : tie.Need-enum-told
@@ -48,7 +48,7 @@ next-head-requires-2 c κs =
     let s = a .text .now in
     let at = a .c .at in
     let pre = c .before .before .before .before .before .before .before .before .before .before .before .pre in
-    let k = subst (KeywordSays s at (65 ∷ 88 ∷ [])) (c .before .d2 .given .1) (c .before .before .before .keyword2 .ensures) in
+    let k = subst (KeywordAnswer s at (65 ∷ 88 ∷ [])) (c .before .d2 .given .1) (c .before .before .before .keyword2 .ensures) in
     (pre .0 .table, pre .0 .short, omega (arith, k .two .within, k .two .next), omega arith)
 
 returns-2 : tie.Need-returns-2
@@ -57,7 +57,7 @@ returns-2 c =
     let N = namesIn (a .table .now) in
     let s = a .text .now in
     let at = a .c .at in
-    let k = subst (KeywordSays s at (65 ∷ 88 ∷ [])) (c .before .before .d2 .given .1) (c .before .before .before .before .keyword2 .ensures) in
+    let k = subst (KeywordAnswer s at (65 ∷ 88 ∷ [])) (c .before .before .d2 .given .1) (c .before .before .before .before .keyword2 .ensures) in
     head-AX N s at (a .lost) k (c .next-head2 .result) (c .next-head2 .ensures)
 
 enum-told-2 : tie.Need-enum-told-2
@@ -75,7 +75,7 @@ until-head-requires c κs =
     let s = a .text .now in
     let at = a .c .at in
     let pre = c .before .before .before .before .before .before .before .before .before .before .before .before .before .before .before .pre in
-    let k = subst (KeywordSays s at (69 ∷ 85 ∷ [])) (c .before .d3 .given .1) (c .before .before .before .keyword3 .ensures) in
+    let k = subst (KeywordAnswer s at (69 ∷ 85 ∷ [])) (c .before .d3 .given .1) (c .before .before .before .keyword3 .ensures) in
     (pre .0 .table, pre .0 .short, omega (arith, k .two .within, k .two .next))
 
 returns-3 : tie.Need-returns-3
@@ -84,7 +84,7 @@ returns-3 c =
     let N = namesIn (a .table .now) in
     let s = a .text .now in
     let at = a .c .at in
-    let k = subst (KeywordSays s at (69 ∷ 85 ∷ [])) (c .before .before .d3 .given .1) (c .before .before .before .before .keyword3 .ensures) in
+    let k = subst (KeywordAnswer s at (69 ∷ 85 ∷ [])) (c .before .before .d3 .given .1) (c .before .before .before .before .keyword3 .ensures) in
     head-EU N s at (a .lost) k (c .until-head .result) (c .until-head .ensures)
 
 enum-told-3 : tie.Need-enum-told-3
@@ -101,9 +101,9 @@ returns-4 c =
     let at = a .c .at in
     let pre = c .before .before .before .before .before .before .before .before .before .before .before .before .before .before .before .pre in
     no-head N s at (a .lost) (pre .0 .token) (pre .1)
-    (subst (KeywordSays s at (69 ∷ 88 ∷ [])) (c .before .before .before .before .before .before .before .before .before .enum-told .given .1) (c .before .before .before .before .before .before .before .before .before .before .before .keyword .ensures))
-    (subst (KeywordSays s at (65 ∷ 88 ∷ [])) (c .before .before .before .before .before .enum-told2 .given .1) (c .before .before .before .before .before .before .before .keyword2 .ensures))
-    (subst (KeywordSays s at (69 ∷ 85 ∷ [])) (c .before .enum-told3 .given .1) (c .before .before .before .keyword3 .ensures))
+    (subst (KeywordAnswer s at (69 ∷ 88 ∷ [])) (c .before .before .before .before .before .before .before .before .before .enum-told .given .1) (c .before .before .before .before .before .before .before .before .before .before .before .keyword .ensures))
+    (subst (KeywordAnswer s at (65 ∷ 88 ∷ [])) (c .before .before .before .before .before .enum-told2 .given .1) (c .before .before .before .before .before .before .before .keyword2 .ensures))
+    (subst (KeywordAnswer s at (69 ∷ 85 ∷ [])) (c .before .enum-told3 .given .1) (c .before .before .before .keyword3 .ensures))
     (c .no-keyword .ensures)
 
 pub head-spec : {M : Type 1} → statement M

@@ -1,9 +1,9 @@
 -- `until_head` reads the bracket of EU, with one set or two.
 use borrow.Author.Needs.{needs}
 use mathlib.Core.Path.{subst}
-use Rattle.formula_cursor.specs.CursorReplies.{MarkSays, TokenSays}
+use Rattle.formula_cursor.specs.CursorReplies.{MarkAnswer, TokenAnswer}
 use Rattle.actl.specs.Readers.{namesIn}
-use Rattle.formula_sets.specs.SetReplies.{SetSays, EnclosedSays}
+use Rattle.formula_sets.specs.SetReplies.{SetAnswer, EnclosedAnswer}
 use Rattle.formula_sets.proofs.ReadingSets.{token-behind}
 use Rattle.formula_heads.proofs.ReadingHeads.{until-unopened, until-fails, until-open, until-read, then-read, then-fails}
 use Rattle.formula_heads.proofs.until_head.Statement.{statement}
@@ -28,7 +28,7 @@ returns c =
     let s = a .text .now in
     let at = a .c .at in
     let o = c .before .before .before .skip-blanks .result .at in
-    until-unopened N s at (a .lost) o (c .before .before .before .skip-blanks .ensures) (subst (TokenSays s o 91) (c .enum-told .given .1) (c .before .before .token .ensures))
+    until-unopened N s at (a .lost) o (c .before .before .before .skip-blanks .ensures) (subst (TokenAnswer s o 91) (c .enum-told .given .1) (c .before .before .token .ensures))
 
 set-requires : tie.Need-set-requires
 set-requires c κs =
@@ -36,7 +36,7 @@ set-requires c κs =
     let s = a .text .now in
     let pre = c .before .before .before .before .before .before .before .pre in
     let o = c .before .before .before .before .skip-blanks .result .at in
-    let k = subst (TokenSays s o 91) (c .before .d .given .1) (c .before .before .before .token .ensures) in
+    let k = subst (TokenAnswer s o 91) (c .before .d .given .1) (c .before .before .before .token .ensures) in
     record { table = pre .0; short = pre .1; token = token-behind k }
 
 enum-known-x : tie.Need-enum-known-x
@@ -71,12 +71,12 @@ returns-2 c =
     let at = a .c .at in
     let o = c .before .before .before .before .before .before .before .before .before .before .before .before .before .before .skip-blanks .result .at in
     let b = c .before .before .before .before .before .before .before .before .before .before .before .before .before .before .skip-blanks .ensures in
-    let k = subst (TokenSays s o 91) (c .before .before .before .before .before .before .before .before .before .before .before .d .given .1) (c .before .before .before .before .before .before .before .before .before .before .before .before .before .token .ensures) in
+    let k = subst (TokenAnswer s o 91) (c .before .before .before .before .before .before .before .before .before .before .before .d .given .1) (c .before .before .before .before .before .before .before .before .before .before .before .before .before .token .ensures) in
     let d = c .before .before .before .before .before .before .before .before .before .before .before .d .given .0 .0 .at in
-    let c₁ = subst (SetSays N s d (a .lost)) (c .before .before .before .before .before .before .before .x2 .given .1) (c .before .before .before .before .before .before .before .before .before .set .ensures) in
+    let c₁ = subst (SetAnswer N s d (a .lost)) (c .before .before .before .before .before .before .before .x2 .given .1) (c .before .before .before .before .before .before .before .before .before .set .ensures) in
     let e = c .before .before .before .before .before .before .before .x2 .given .0 .0 .at in
-    until-open N s at (a .lost) o b k c₁ (subst (TokenSays s e 59) (c .before .before .before .enum-told2 .given .1) (c .before .before .before .before .before .token2 .ensures))
-    (subst (MarkSays s e 93) (c .enum-told3 .given .1) (c .before .before .mark .ensures))
+    until-open N s at (a .lost) o b k c₁ (subst (TokenAnswer s e 59) (c .before .before .before .enum-told2 .given .1) (c .before .before .before .before .before .token2 .ensures))
+    (subst (MarkAnswer s e 93) (c .enum-told3 .given .1) (c .before .before .mark .ensures))
 
 returns-3 : tie.Need-returns-3
 returns-3 c =
@@ -86,11 +86,11 @@ returns-3 c =
     let at = a .c .at in
     let o = c .before .before .before .before .before .before .before .before .before .before .before .before .before .before .before .skip-blanks .result .at in
     let b = c .before .before .before .before .before .before .before .before .before .before .before .before .before .before .before .skip-blanks .ensures in
-    let k = subst (TokenSays s o 91) (c .before .before .before .before .before .before .before .before .before .before .before .before .d .given .1) (c .before .before .before .before .before .before .before .before .before .before .before .before .before .before .token .ensures) in
+    let k = subst (TokenAnswer s o 91) (c .before .before .before .before .before .before .before .before .before .before .before .before .d .given .1) (c .before .before .before .before .before .before .before .before .before .before .before .before .before .before .token .ensures) in
     let d = c .before .before .before .before .before .before .before .before .before .before .before .before .d .given .0 .0 .at in
-    let c₁ = subst (SetSays N s d (a .lost)) (c .before .before .before .before .before .before .before .before .x2 .given .1) (c .before .before .before .before .before .before .before .before .before .before .set .ensures) in
+    let c₁ = subst (SetAnswer N s d (a .lost)) (c .before .before .before .before .before .before .before .before .x2 .given .1) (c .before .before .before .before .before .before .before .before .before .before .set .ensures) in
     let e = c .before .before .before .before .before .before .before .before .x2 .given .0 .0 .at in
-    until-read N s at (a .lost) o b k c₁ (subst (MarkSays s e 93) (c .before .f .given .1) (c .before .before .before .mark .ensures))
+    until-read N s at (a .lost) o b k c₁ (subst (MarkAnswer s e 93) (c .before .f .given .1) (c .before .before .before .mark .ensures))
 
 enclosed-requires : tie.Need-enclosed-requires
 enclosed-requires c κs =
@@ -98,7 +98,7 @@ enclosed-requires c κs =
     let s = a .text .now in
     let pre = c .before .before .before .before .before .before .before .before .before .before .before .before .before .before .before .pre in
     let e = c .before .before .before .before .before .x2 .given .0 .0 .at in
-    let u = subst (TokenSays s e 59) (c .before .g .given .1) (c .before .before .before .token2 .ensures) in
+    let u = subst (TokenAnswer s e 59) (c .before .g .given .1) (c .before .before .before .token2 .ensures) in
     record { table = pre .0; short = pre .1; token = token-behind u }
 
 enum-known-y : tie.Need-enum-known-y
@@ -115,9 +115,9 @@ returns-4 c =
     let at = a .c .at in
     let o = c .before .before .before .before .before .before .before .before .skip-blanks .result .at in
     let b = c .before .before .before .before .before .before .before .before .skip-blanks .ensures in
-    let k = subst (TokenSays s o 91) (c .before .before .before .before .before .d .given .1) (c .before .before .before .before .before .before .before .token .ensures) in
+    let k = subst (TokenAnswer s o 91) (c .before .before .before .before .before .d .given .1) (c .before .before .before .before .before .before .before .token .ensures) in
     let d = c .before .before .before .before .before .d .given .0 .0 .at in
-    until-fails N s at (a .lost) o b k (subst (SetSays N s d (a .lost)) (c .before .x .given .1) (c .before .before .before .set .ensures))
+    until-fails N s at (a .lost) o b k (subst (SetAnswer N s d (a .lost)) (c .before .x .given .1) (c .before .before .before .set .ensures))
 
 returns-5 : tie.Need-returns-5
 returns-5 c =
@@ -127,13 +127,13 @@ returns-5 c =
     let at = a .c .at in
     let o = c .before .before .before .before .before .before .before .before .before .before .before .before .before .before .before .before .skip-blanks .result .at in
     let b = c .before .before .before .before .before .before .before .before .before .before .before .before .before .before .before .before .skip-blanks .ensures in
-    let k = subst (TokenSays s o 91) (c .before .before .before .before .before .before .before .before .before .before .before .before .before .d .given .1) (c .before .before .before .before .before .before .before .before .before .before .before .before .before .before .before .token .ensures) in
+    let k = subst (TokenAnswer s o 91) (c .before .before .before .before .before .before .before .before .before .before .before .before .before .d .given .1) (c .before .before .before .before .before .before .before .before .before .before .before .before .before .before .before .token .ensures) in
     let d = c .before .before .before .before .before .before .before .before .before .before .before .before .before .d .given .0 .0 .at in
-    let c₁ = subst (SetSays N s d (a .lost)) (c .before .before .before .before .before .before .before .before .before .x2 .given .1) (c .before .before .before .before .before .before .before .before .before .before .before .set .ensures) in
+    let c₁ = subst (SetAnswer N s d (a .lost)) (c .before .before .before .before .before .before .before .before .before .x2 .given .1) (c .before .before .before .before .before .before .before .before .before .before .before .set .ensures) in
     let e = c .before .before .before .before .before .before .before .before .before .x2 .given .0 .0 .at in
-    let u = subst (TokenSays s e 59) (c .before .before .before .before .before .g .given .1) (c .before .before .before .before .before .before .before .token2 .ensures) in
+    let u = subst (TokenAnswer s e 59) (c .before .before .before .before .before .g .given .1) (c .before .before .before .before .before .before .before .token2 .ensures) in
     let g = c .before .before .before .before .before .g .given .0 .0 .at in
-    then-fails N s at (a .lost) o b k c₁ u (subst (EnclosedSays N s g 93 (c .before .before .before .before .before .before .before .before .before .x2 .given .0 .1 .1 .0)) (c .before .y .given .1) (c .before .before .before .enclosed .ensures))
+    then-fails N s at (a .lost) o b k c₁ u (subst (EnclosedAnswer N s g 93 (c .before .before .before .before .before .before .before .before .before .x2 .given .0 .1 .1 .0)) (c .before .y .given .1) (c .before .before .before .enclosed .ensures))
 
 returns-6 : tie.Need-returns-6
 returns-6 c =
@@ -143,13 +143,13 @@ returns-6 c =
     let at = a .c .at in
     let o = c .before .before .before .before .before .before .before .before .before .before .before .before .before .before .before .before .skip-blanks .result .at in
     let b = c .before .before .before .before .before .before .before .before .before .before .before .before .before .before .before .before .skip-blanks .ensures in
-    let k = subst (TokenSays s o 91) (c .before .before .before .before .before .before .before .before .before .before .before .before .before .d .given .1) (c .before .before .before .before .before .before .before .before .before .before .before .before .before .before .before .token .ensures) in
+    let k = subst (TokenAnswer s o 91) (c .before .before .before .before .before .before .before .before .before .before .before .before .before .d .given .1) (c .before .before .before .before .before .before .before .before .before .before .before .before .before .before .before .token .ensures) in
     let d = c .before .before .before .before .before .before .before .before .before .before .before .before .before .d .given .0 .0 .at in
-    let c₁ = subst (SetSays N s d (a .lost)) (c .before .before .before .before .before .before .before .before .before .x2 .given .1) (c .before .before .before .before .before .before .before .before .before .before .before .set .ensures) in
+    let c₁ = subst (SetAnswer N s d (a .lost)) (c .before .before .before .before .before .before .before .before .before .x2 .given .1) (c .before .before .before .before .before .before .before .before .before .before .before .set .ensures) in
     let e = c .before .before .before .before .before .before .before .before .before .x2 .given .0 .0 .at in
-    let u = subst (TokenSays s e 59) (c .before .before .before .before .before .g .given .1) (c .before .before .before .before .before .before .before .token2 .ensures) in
+    let u = subst (TokenAnswer s e 59) (c .before .before .before .before .before .g .given .1) (c .before .before .before .before .before .before .before .token2 .ensures) in
     let g = c .before .before .before .before .before .g .given .0 .0 .at in
-    then-read N s at (a .lost) o b k c₁ u (subst (EnclosedSays N s g 93 (c .before .before .before .before .before .before .before .before .before .x2 .given .0 .1 .1 .0)) (c .before .y2 .given .1) (c .before .before .before .enclosed .ensures))
+    then-read N s at (a .lost) o b k c₁ u (subst (EnclosedAnswer N s g 93 (c .before .before .before .before .before .before .before .before .before .x2 .given .0 .1 .1 .0)) (c .before .y2 .given .1) (c .before .before .before .enclosed .ensures))
 
 pub until-head-spec : {M : Type 1} → statement M
 until-head-spec =

@@ -3,13 +3,14 @@ use mathlib.Core.Path.{_≡_, ap, _∙_}
 use Prim.Native.Nat.{_*_, _≤_}
 use native.Mathlib.Omega.{arith}
 use lib.ListN.{length}
+use Rattle.actl.specs.Sizes.{cellLength}
 use Rattle.actl.proofs.ReadingCells.{moved, moved-none, moved-step, length-moved, joined-written}
 use Rattle.actl.specs.Readers.{putAt}
 use Rattle.formula_terms.proofs.join.Statement.{statement}
 use Rattle.formula_terms.proofs.join.Tie as tie
 
 abbrev Inv-loop : tie.InvT-loop
-Inv-loop cells₀ start n low i₀ cells i = (start * 3 ≤ i) × (i ≤ n * 3) × (cells ≡ moved n i cells₀)
+Inv-loop cells₀ start n low i₀ cells i = (start * cellLength ≤ i) × (i ≤ n * cellLength) × (cells ≡ moved n i cells₀)
 
 abbrev μ-loop : tie.MeasureT-loop
 μ-loop cells₀ start n low i₀ cells i = i
@@ -61,7 +62,7 @@ returns c =
     let a = c .before .before .before .before .args in
     let l = c .before .before .before .loop in
     let p = c .before .before .before .before .pre in
-    let e : l .i ≡ a .start * 3 = omega arith in
+    let e : l .i ≡ a .start * cellLength = omega arith in
     c .put .ensures ∙ (ap (putAt (a .start) 3 0 0) (l .inv .2 ∙ ap (λ i. moved (a .n) i (a .cells .now)) e) ∙ joined-written (a .start) (a .n) (a .cells .now) (p .0) (p .1) (p .2))
 
 pub join-spec : {M : Type 1} → statement M

@@ -2,9 +2,9 @@
 use borrow.Author.Needs.{needs}
 use mathlib.Core.Path.{subst}
 use native.Mathlib.Omega.{arith}
-use Rattle.formula_cursor.specs.CursorReplies.{MarkSays}
+use Rattle.formula_cursor.specs.CursorReplies.{MarkAnswer}
 use Rattle.actl.specs.Readers.{namesIn}
-use Rattle.formula_terms.specs.TermReplies.{FormulaSays}
+use Rattle.formula_terms.specs.TermReplies.{FormulaAnswer}
 use Rattle.formula_cursor.proofs.ReadingTexts.{text-blank, text-token, text-fails, text-whole, text-rest}
 use Rattle.formula_terms.proofs.read_text.Statement.{statement}
 use Rattle.formula_terms.proofs.read_text.Tie as tie
@@ -19,7 +19,7 @@ returns : tie.Need-returns
 returns c =
     let a = c .before .before .before .before .before .args in
     let s = a .text .now in
-    text-blank s (subst (MarkSays s 0 32) (c .enum-told .given .1) (c .before .before .mark .ensures))
+    text-blank s (subst (MarkAnswer s 0 32) (c .enum-told .given .1) (c .before .before .mark .ensures))
 
 enum-told-2 : tie.Need-enum-told-2
 enum-told-2 c = search needs
@@ -29,7 +29,7 @@ formula-requires c κs =
     let a = c .before .before .before .before .before .before .args in
     let s = a .text .now in
     let pre = c .before .before .before .before .before .before .pre in
-    let t = text-token s (subst (MarkSays s 0 32) (c .before .enum-told2 .given .1) (c .before .before .before .mark .ensures)) in
+    let t = text-token s (subst (MarkAnswer s 0 32) (c .before .enum-told2 .given .1) (c .before .before .before .mark .ensures)) in
     (record { table = pre .0; short = pre .1; token = t }, record { below = omega arith; long = pre .2 })
 
 enum-known-x : tie.Need-enum-known-x
@@ -43,7 +43,7 @@ returns-2 c =
     let a = c .before .before .before .before .before .before .before .before .before .before .args in
     let N = namesIn (a .table .now) in
     let s = a .text .now in
-    text-fails s (subst (FormulaSays N s 0 0 0 (a .cells .now) (c .before .before .before .formula .last .1 .1 .0)) (c .before .x .given .1) (c .before .before .before .formula .ensures))
+    text-fails s (subst (FormulaAnswer N s 0 0 0 (a .cells .now) (c .before .before .before .formula .last .1 .1 .0)) (c .before .x .given .1) (c .before .before .before .formula .ensures))
 
 returns-3 : tie.Need-returns-3
 returns-3 c =
@@ -51,14 +51,14 @@ returns-3 c =
     let N = namesIn (a .table .now) in
     let s = a .text .now in
     let pre = c .before .before .before .before .before .before .before .before .before .before .before .before .pre in
-    text-whole (subst (FormulaSays N s 0 0 0 (a .cells .now) (c .before .before .before .before .before .formula .last .1 .1 .0)) (c .before .before .before .x2 .given .1) (c .before .before .before .before .before .formula .ensures)) (pre .2) (c .if1 .taken)
+    text-whole (subst (FormulaAnswer N s 0 0 0 (a .cells .now) (c .before .before .before .before .before .formula .last .1 .1 .0)) (c .before .before .before .x2 .given .1) (c .before .before .before .before .before .formula .ensures)) (pre .2) (c .if1 .taken)
 
 returns-4 : tie.Need-returns-4
 returns-4 c =
     let a = c .before .before .before .before .before .before .before .before .before .before .before .before .args in
     let N = namesIn (a .table .now) in
     let s = a .text .now in
-    text-rest (subst (FormulaSays N s 0 0 0 (a .cells .now) (c .before .before .before .before .before .formula .last .1 .1 .0)) (c .before .before .before .x2 .given .1) (c .before .before .before .before .before .formula .ensures)) (c .if1 .left)
+    text-rest (subst (FormulaAnswer N s 0 0 0 (a .cells .now) (c .before .before .before .before .before .formula .last .1 .1 .0)) (c .before .before .before .x2 .given .1) (c .before .before .before .before .before .formula .ensures)) (c .if1 .left)
 
 pub read-text-spec : {M : Type 1} → statement M
 read-text-spec =

@@ -11,7 +11,7 @@ use Rattle.actl.specs.Formulas.{Formula}
 use Rattle.actl.specs.Prepared.{formulaBytes}
 use Rattle.formula_text.specs.Replies.{formulaReply}
 use Rattle.actl.specs.Readers.{namesIn}
-use Rattle.formula_terms.specs.TermReplies.{ReadingSays}
+use Rattle.formula_terms.specs.TermReplies.{ReadingAnswer}
 use Rattle.formula_text.specs.FormulaAnswers.{FormulaAnswered}
 use Rattle.formula_text.specs.declared.FormulaReply.{FormulaReply}
 use Rattle.formula_text.proofs.ReadingEntry.{short-table, short-formula, foreign-table, table-held, long-text, refused-text, whole-text}
@@ -84,7 +84,7 @@ answer-requires c κs =
     let a = c .before .before .before .before .before .before .before .before .before .before .before .before .before .before .before .args in
     let b = a .table .now in
     let s = a .text .now in
-    let t = subst (ReadingSays (namesIn b) s (c .before .before .before .before .before .read-text .last .1 .1 .0)) (c .before .before .before .x2 .given .1) (c .before .before .before .before .before .read-text .ensures) in
+    let t = subst (ReadingAnswer (namesIn b) s (c .before .before .before .before .before .read-text .last .1 .1 .0)) (c .before .before .before .x2 .given .1) (c .before .before .before .before .before .read-text .ensures) in
     (t .long, c .before .before .before .before .before .before .before .before .before .before .if2 .left)
 
 returns-5 : tie.Need-returns-5
@@ -96,7 +96,7 @@ returns-5 c =
     let long = c .before .before .before .before .before .before .before .before .before .if1 .left in
     let room = c .before .before .before .before .before .before .before .before .if2 .left in
     let held = sym (c .before .before .before .before .before .before .before .is-prepared .ensures) ∙ not-false _ (c .before .before .before .before .before .before .if3 .left) in
-    let t = subst (ReadingSays (namesIn b) s (c .before .before .before .read-text .last .1 .1 .0)) (c .before .x .given .1) (c .before .before .before .read-text .ensures) in
+    let t = subst (ReadingAnswer (namesIn b) s (c .before .before .before .read-text .last .1 .1 .0)) (c .before .x .given .1) (c .before .before .before .read-text .ensures) in
     both (refused-text b s e long room held (c .before .before .before .before .before .if4 .left) _ t)
 
 same-length : tie.Need-same-length
@@ -111,7 +111,7 @@ returns-6 c =
     let long = c .before .before .before .before .before .before .before .before .before .before .before .before .before .before .if1 .left in
     let room = c .before .before .before .before .before .before .before .before .before .before .before .before .before .if2 .left in
     let held = sym (c .before .before .before .before .before .before .before .before .before .before .before .before .is-prepared .ensures) ∙ not-false _ (c .before .before .before .before .before .before .before .before .before .before .before .if3 .left) in
-    let t = subst (ReadingSays (namesIn b) s (c .before .before .before .before .before .before .before .before .read-text .last .1 .1 .0)) (c .before .before .before .before .before .before .x2 .given .1) (c .before .before .before .before .before .before .before .before .read-text .ensures) in
+    let t = subst (ReadingAnswer (namesIn b) s (c .before .before .before .before .before .before .before .before .read-text .last .1 .1 .0)) (c .before .before .before .before .before .before .x2 .given .1) (c .before .before .before .before .before .before .before .before .read-text .ensures) in
     let r = c .before .before .answer in
     both (whole-text b s e long room held (c .before .before .before .before .before .before .before .before .before .before .if4 .left) _ _ _ _ (r .result) t (r .ensures))
 

@@ -9,7 +9,7 @@ use lib.Dec.{eqb}
 use lib.ListN.{length, getD, take, drop, replicate, length-take, length-map, length-append, List·getD-map}
 use lib.Seq.{getD-take, getD-append-add, ext-getD}
 use borrow.Author.Tests.{eqb-true, eq-eqb}
-use Rattle.actl.specs.Sizes.{mostNodes, formulaLength}
+use Rattle.actl.specs.Sizes.{mostNodes, nodeSlotLength, formulaLength}
 use Rattle.lts.specs.Lists.{upFrom, bind, every}
 use Rattle.lts.specs.Answers.{isSome, Decides}
 use Rattle.lts.proofs.Lists.{upFrom-of, every-of, every-to, and-true-of, and-true-to, getD-mem, map-of, map-to}
@@ -52,7 +52,7 @@ module _ (n : ℕ) (b : List ℕ) where
   pub slots-foreign : slotsFit n b (getD b 0 0) ≡ false → false ≡ isPrepared n b
   slots-foreign h = sym (none-prepared (preparedFormula n b) (λ F e. false≢true (sym h ∙ fits-prepared e)))
 
-  zeros-prepared : {F : Formula} → preparedFormula n b ≡ some F → zerosFrom b (1 + getD b 0 0 * 17) ≡ true
+  zeros-prepared : {F : Formula} → preparedFormula n b ≡ some F → zerosFrom b (1 + getD b 0 0 * nodeSlotLength) ≡ true
   zeros-prepared {F} e = every-to (λ i. eqb (getD b i 0) 0) (upFrom from (formulaLength - from)) (λ i m.
       let few = prepared-few n b e in
       let c = prepared-count n b e in
@@ -61,9 +61,9 @@ module _ (n : ℕ) (b : List ℕ) where
       eq-eqb (getD b i 0) 0 (sym (getD-take formulaLength b i 0 inside) ∙ (ap (λ l. getD l i 0) (prepared-of n b e .form) ∙ form-zeros F i (omega arith))))
     where
       from : ℕ
-      from = 1 + getD b 0 0 * 17
+      from = 1 + getD b 0 0 * nodeSlotLength
 
-  pub not-zeros : zerosFrom b (1 + getD b 0 0 * 17) ≡ false → false ≡ isPrepared n b
+  pub not-zeros : zerosFrom b (1 + getD b 0 0 * nodeSlotLength) ≡ false → false ≡ isPrepared n b
   not-zeros h = sym (none-prepared (preparedFormula n b) (λ F e. false≢true (sym h ∙ zeros-prepared e)))
 
   spelled-prepared : {F : Formula} → preparedFormula n b ≡ some F → SpelledClassed b (getD b 0 0)
@@ -71,7 +71,7 @@ module _ (n : ℕ) (b : List ℕ) where
 
   -- All tests passed.
   module _ (long : formulaLength ≤ length b) (bytes : Bytes b) (few : getD b 0 0 ≤ mostNodes)
-      (fit : slotsFit n b (getD b 0 0) ≡ true) (zeros : zerosFrom b (1 + getD b 0 0 * 17) ≡ true) where
+      (fit : slotsFit n b (getD b 0 0) ≡ true) (zeros : zerosFrom b (1 + getD b 0 0 * nodeSlotLength) ≡ true) where
     slots : List Slot
     slots = map (slotAt b) (upFrom 0 (getD b 0 0))
 
@@ -86,9 +86,9 @@ module _ (n : ℕ) (b : List ℕ) where
     unfolding slots
     kinds-of-slots = map-map (upFrom 0 (getD b 0 0))
       where
-        map-map : (l : List ℕ) → map (λ s. s .kind) (map (slotAt b) l) ≡ map (λ k. getD b (1 + k * 17) 0) l
+        map-map : (l : List ℕ) → map (λ s. s .kind) (map (slotAt b) l) ≡ map (λ k. getD b (1 + k * nodeSlotLength) 0) l
         map-map [] = refl
-        map-map (k ∷ l) = ap (λ z. getD b (1 + k * 17) 0 ∷ z) (map-map l)
+        map-map (k ∷ l) = ap (λ z. getD b (1 + k * nodeSlotLength) 0 ∷ z) (map-map l)
 
     all-passed : SpelledClassed b (getD b 0 0) → isPrepared n b ≡ true
     unfolding preparedFormula slots

@@ -11,6 +11,7 @@ use lib.Dec.{eqb}
 use lib.ListN.{length, getD, take, drop, length-append, length-map, List·getD-append, List·getD-map}
 use lib.Seq.{sets, sets-eq, take-at, getD-append-add, ext-getD}
 use borrow.Author.Tests.{eqb-true, eqb-false}
+use Rattle.actl.specs.Sizes.{nodeSlotLength}
 use Rattle.lts.specs.Lists.{upFrom}
 use Rattle.actl.specs.Formulas.{Formula, tru, not, or, ex, ax, eu, euThen, size, nodes, classOf, hasNoClass, highestFrom, highestWithoutClass}
 use Rattle.actl.specs.Prepared.{slotAt, preparedFormula}
@@ -108,13 +109,13 @@ module _ {E E' C C' : List ℕ} (F : Formula) (h : Noted E E' C C' F) (k : ℕ) 
 pub kinds-prepared : (n : ℕ) (b : List ℕ) {F : Formula} → preparedFormula n b ≡ some F → kindsIn b (getD b 0 0) ≡ kindsOf F
 kinds-prepared n b {F} e =
     let count = prepared-count n b e in
-    let kind : ℕ → ℕ = λ k. getD b (1 + k * 17) 0 in
+    let kind : ℕ → ℕ = λ k. getD b (1 + k * nodeSlotLength) 0 in
     let long : length (kindsIn b (getD b 0 0)) ≡ getD b 0 0 = length-map (upFrom 0 (getD b 0 0)) kind ∙ length-upFrom 0 (getD b 0 0) in
     ext-getD 1 (kindsIn b (getD b 0 0)) (kindsOf F) (long ∙ (count ∙ sym (length-kinds F)))
     (λ k l. getD-upFrom kind (getD b 0 0) k 1 (omega arith) ∙ (ap (λ s. s .kind) (prepared-slot n b e k (omega arith)) ∙ sym (List·getD-map kindOf (nodes F) k tru)))
 
 pub length-kinds-in : (b : List ℕ) (n : ℕ) → length (kindsIn b n) ≡ n
-length-kinds-in b n = length-map (upFrom 0 n) (λ k. getD b (1 + k * 17) 0) ∙ length-upFrom 0 n
+length-kinds-in b n = length-map (upFrom 0 n) (λ k. getD b (1 + k * nodeSlotLength) 0) ∙ length-upFrom 0 n
 
 -- A walk over the kinds in a prepared formula leaves its shape.
 pub shape-noted : (n : ℕ) (b : List ℕ) {F : Formula} → preparedFormula n b ≡ some F

@@ -8,6 +8,7 @@ use lib.Dec.{eqb}
 use lib.ListN.{length, getD, length-replicate}
 use borrow.Author.Tests.{eqb-true, eq-eqb}
 use Rattle.automaton.specs.Sizes.{placeCount}
+use Rattle.frontier.specs.Sizes.{frontierLength}
 use Rattle.lts.specs.Lists.{upFrom}
 use Rattle.lts.specs.Steps.{Step, Table, stepsFrom}
 use Rattle.lts.specs.Range.{InRange}
@@ -55,8 +56,8 @@ module _ (t : Table) (w : InRange t) where
   start-few : t .start < 256
   start-few = omega (arith, w .starts, w .few-states)
 
-  nowhere-long : length nowhere ≡ 260
-  nowhere-long = length-replicate {A = ℕ} 260 0
+  nowhere-long : length nowhere ≡ frontierLength
+  nowhere-long = length-replicate {A = ℕ} frontierLength 0
 
   -- The root at the start state is reached at first, and nothing else.
   root-reached : (v q : ℕ) → v < 256 → reachedAt (rootReached (t .start)) v q ≡ (bitAt 1 q && eqb v (t .start))
@@ -72,7 +73,7 @@ module _ (t : Table) (w : InRange t) where
   root-to : Holds (rootReached (t .start)) (rootAt t)
   root-to = root-reached (t .start) 0 start-few ∙ eq-eqb (t .start) (t .start) refl
 
-  root-long : length (rootReached (t .start)) ≡ 260
+  root-long : length (rootReached (t .start)) ≡ frontierLength
   root-long = length-brought (t .start) 1 nowhere ∙ nowhere-long
 
   module _ (F : Formula) (few : size F ≤ 40) (masks : List ℕ) (d : MasksOf F 0 masks) where
@@ -95,8 +96,8 @@ module _ (t : Table) (w : InRange t) where
 
     -- A frontier, and the one that takes turns with it: only places of F are reached.
     record Fits (reached next : List ℕ) : Type 0 where
-      long : length reached ≡ 260
-      next-long : length next ≡ 260
+      long : length reached ≡ frontierLength
+      next-long : length next ≡ frontierLength
       within : (s k : ℕ) → s < 256 → reachedAt reached s k ≡ true → k ≤ size F
 
     root-fits : Fits (rootReached (t .start)) nowhere

@@ -10,6 +10,7 @@ use lib.Dec.{eqb}
 use lib.ListN.{length, getD, set, length-set}
 use lib.Seq.{getD-set-same, getD-set-other}
 use borrow.Author.Tests.{eq-eqb, ne-eqb}
+use Rattle.frontier.specs.Sizes.{frontierLength}
 use Rattle.lts.proofs.Lists.{or-true-right}
 use Rattle.target_masks.specs.Masks.{bitAt}
 use Rattle.target_masks.proofs.Laws.MasksFound.{bit-or, bit-zero, bit-pow}
@@ -45,7 +46,7 @@ unmarked : (frontier : List ℕ) (v q : ℕ) → marksAt frontier v ≡ 0 → re
 unmarked frontier v q e = ap (λ b. bitAt (cond b (getD frontier v 0) 0) q) (ap (λ m. bitAt m (v % 64)) e ∙ bit-zero (v % 64)) ∙ bit-zero q
 
 pub nowhere-reached : (v q : ℕ) → reachedAt nowhere v q ≡ false
-nowhere-reached v q = unmarked nowhere v q (zeros-at 260 (256 + v / 64))
+nowhere-reached v q = unmarked nowhere v q (zeros-at frontierLength (256 + v / 64))
 
 zero-here : (l : List ℕ) (i : ℕ) → getD (set l i 0) i 0 ≡ 0
 zero-here [] i = refl
@@ -93,7 +94,7 @@ module _ (s m : ℕ) (frontier : List ℕ) where
   abbrev marks : ℕ
   marks = bitOr (marksAt frontier s) (2 ^ (s % 64))
 
-  module _ (few : s < 256) (long : length frontier ≡ 260) where
+  module _ (few : s < 256) (long : length frontier ≡ frontierLength) where
     within : 256 + s / 64 < length (set frontier s places)
     within = omega (arith, length-set frontier s places)
 

@@ -10,6 +10,7 @@ use lib.Dec.{eqb}
 use lib.ListN.{length, getD}
 use borrow.Author.Tests.{eqb-true, eq-eqb}
 use Rattle.automaton.specs.Sizes.{placeCount}
+use Rattle.frontier.specs.Sizes.{frontierLength}
 use Rattle.lts.specs.Lists.{upFrom, anyOf}
 use Rattle.lts.specs.Steps.{Step, Table, IsStep, stepsFrom}
 use Rattle.lts.specs.Range.{InRange}
@@ -75,14 +76,14 @@ module _ (l m : ℕ) where
   length-steps (st ∷ steps) next = length-steps steps (stepTaken l m st next) ∙ length-taken st next
 
   module _ (v q : ℕ) (few : v < 256) where
-    step-adds : (st : Step) (next : List ℕ) → st .to < 256 → length next ≡ 260 → reachedAt (stepTaken l m st next) v q ≡ (reachedAt next v q || bitAt m q && enters l v st)
+    step-adds : (st : Step) (next : List ℕ) → st .to < 256 → length next ≡ frontierLength → reachedAt (stepTaken l m st next) v q ≡ (reachedAt next v q || bitAt m q && enters l v st)
     step-adds st next h e = case (onLabel l st)
       where
         case : (b : Bool) → reachedAt (cond b (brought (st .to) m next) next) v q ≡ (reachedAt next v q || bitAt m q && (b && eqb v (st .to)))
         case true = brought-reached (st .to) m next h e v q few
         case false = or-none (reachedAt next v q) ∙ ap (λ b. reachedAt next v q || b) (and-no (bitAt m q))
 
-    steps-add : (steps : List Step) (next : List ℕ) → ((st : Step) → List·Memᴰ st steps → st .to < 256) → length next ≡ 260
+    steps-add : (steps : List Step) (next : List ℕ) → ((st : Step) → List·Memᴰ st steps → st .to < 256) → length next ≡ frontierLength
         → reachedAt (stepsTaken l m steps next) v q ≡ (reachedAt next v q || bitAt m q && anyOf (enters l v) steps)
     unfolding stepsTaken
     steps-add [] next h e = or-none (reachedAt next v q) ∙ ap (λ b. reachedAt next v q || b) (and-no (bitAt m q))
@@ -111,15 +112,15 @@ module _ (t : Table) (w : InRange t) (masks : List ℕ) (l : ℕ) where
       case places true true = refl
       case places true false = length-steps l (targetsOn places) (stepsFrom t s) next
 
-  pub length-letter : (reached next : List ℕ) → length next ≡ 260 → length (letterRead (stepsFrom t) masks l reached next) ≡ 260
+  pub length-letter : (reached next : List ℕ) → length next ≡ frontierLength → length (letterRead (stepsFrom t) masks l reached next) ≡ frontierLength
   length-letter reached next e =
-      through-good (stateRead (stepsFrom t) masks reached l) (λ x. length x ≡ 260) 256 (λ s x h i. length-state reached s x ∙ i) 256 0 (emptied next) (omega arith) (length-emptied next ∙ e)
+      through-good (stateRead (stepsFrom t) masks reached l) (λ x. length x ≡ frontierLength) 256 (λ s x h i. length-state reached s x ∙ i) 256 0 (emptied next) (omega arith) (length-emptied next ∙ e)
 
   module _ (v q : ℕ) (few : v < 256) where
     abbrev brings : List ℕ → ℕ → Bool
     brings reached s = hasState reached s && (bitAt (targetsOn (getD reached s 0)) q && anyOf (enters l v) (stepsFrom t s))
 
-    places-add : (places s : ℕ) (next : List ℕ) → s < 256 → length next ≡ 260
+    places-add : (places s : ℕ) (next : List ℕ) → s < 256 → length next ≡ frontierLength
         → reachedAt (placesRead (stepsFrom t s) masks places l next) v q ≡ (reachedAt next v q || bitAt (targetsOn places) q && anyOf (enters l v) (stepsFrom t s))
     places-add places s next h e = case (eqb (targetsOn places) 0) refl
       where
@@ -130,7 +131,7 @@ module _ (t : Table) (w : InRange t) (masks : List ℕ) (l : ℕ) where
             or-none (reachedAt next v q) ∙ ap (λ b. reachedAt next v q || b && anyOf (enters l v) (stepsFrom t s)) (sym none)
         case false d = steps-add l (targetsOn places) v q few (stepsFrom t s) next (stay s h) e
 
-    state-adds : (reached : List ℕ) (s : ℕ) (next : List ℕ) → s < 256 → length next ≡ 260
+    state-adds : (reached : List ℕ) (s : ℕ) (next : List ℕ) → s < 256 → length next ≡ frontierLength
         → reachedAt (stateRead (stepsFrom t) masks reached l s next) v q ≡ (reachedAt next v q || brings reached s)
     state-adds reached s next h e = case (hasState reached s)
       where
@@ -139,15 +140,15 @@ module _ (t : Table) (w : InRange t) (masks : List ℕ) (l : ℕ) where
         case true = places-add (getD reached s 0) s next h e
         case false = or-none (reachedAt next v q)
 
-    letter-reached : (reached next : List ℕ) → length next ≡ 260 → reachedAt (letterRead (stepsFrom t) masks l reached next) v q ≡ anyOf (brings reached) (upFrom 0 256)
+    letter-reached : (reached next : List ℕ) → length next ≡ frontierLength → reachedAt (letterRead (stepsFrom t) masks l reached next) v q ≡ anyOf (brings reached) (upFrom 0 256)
     letter-reached reached next e =
-        through-adds (stateRead (stepsFrom t) masks reached l) (λ x. reachedAt x v q) (brings reached) (λ x. length x ≡ 260) 256
+        through-adds (stateRead (stepsFrom t) masks reached l) (λ x. reachedAt x v q) (brings reached) (λ x. length x ≡ frontierLength) 256
         (λ s x h i. length-state reached s x ∙ i) (λ s x h i. state-adds reached s x h i)
         256 0 (emptied next) (omega arith) (length-emptied next ∙ e)
         ∙ ap (λ b. b || anyOf (brings reached) (upFrom 0 256)) (emptied-reached next v q few)
 
     -- The same as moves of the automaton, where only places of F are reached.
-    module _ (F : Formula) (small : size F ≤ 40) (d : MasksOf F 0 masks) (few-labels : l ≤ 40) (reached next : List ℕ) (long : length next ≡ 260)
+    module _ (F : Formula) (small : size F ≤ 40) (d : MasksOf F 0 masks) (few-labels : l ≤ 40) (reached next : List ℕ) (long : length next ≡ frontierLength)
         (within : (s k : ℕ) → s < 256 → reachedAt reached s k ≡ true → k ≤ size F) where
       mask-leads : (k : ℕ) → k ≤ size F → bitAt (maskAt masks k l) q ≡ leads F k l q
       mask-leads k h = ap (λ m. bitAt m q) (d .mask k l (omega arith) h few-labels) ∙ target-bit F k l q

@@ -6,7 +6,7 @@ use Prim.Native.Nat.{ℕ, _+_, _-_, _*_, _≤_, _<_}
 use native.Mathlib.Omega.{arith}
 use lib.ListN.{length, getD, take, drop, take-append-drop}
 use lib.Seq.{getD-drop}
-use Rattle.lts.specs.Sizes.{namesLength, transitionsAt, transitionsLength, tableLength}
+use Rattle.lts.specs.Sizes.{headLength, nameSlotLength, transitionLength, namesLength, transitionsAt, transitionsLength, tableLength}
 use Rattle.columns.specs.Bytes.{padded}
 use Rattle.lts.specs.Lists.{bind}
 use Rattle.lts.specs.Names.{isName}
@@ -44,11 +44,11 @@ module _ (b : List ℕ) (t : Table) (r : InRange t) (e : take tableLength b ≡ 
       let few : k < labels t = subst (λ (u : Table). k < labels u) same h in
       let (z, d) = name-slot-there t r rest k few in
       let n : List ℕ = getD (t .names) k [] in
-      let slot : drop (6 + k * 16) b ≡ nameSlot n ++ z = ap (drop (6 + k * 16)) split ∙ d in
-      let size : byteAt b (6 + k * 16) ≡ length n = size-of-slot b n z k slot in
+      let slot : drop (headLength + k * nameSlotLength) b ≡ nameSlot n ++ z = ap (drop (headLength + k * nameSlotLength)) split ∙ d in
+      let size : byteAt b (headLength + k * nameSlotLength) ≡ length n = size-of-slot b n z k slot in
       record {
         name = subst (λ (l : List ℕ). isName l ≡ true) (name-in b k [] h) (inside .named (getD (tableIn b .names) k []) (getD-mem (tableIn b .names) k [] h));
-        behind = λ i p q. zeros-behind b (length n ∷ n) z (6 + k * 16) 16 i slot (omega arith) (omega arith);
+        behind = λ i p q. zeros-behind b (length n ∷ n) z (headLength + k * nameSlotLength) 16 i slot (omega arith) (omega arith);
       }
 
   new-name : (k : ℕ) → k < labels (tableIn b) → NewName b k
@@ -67,13 +67,13 @@ module _ (b : List ℕ) (t : Table) (r : InRange t) (e : take tableLength b ≡ 
             (rising-index (idleAt 0) Below (tableIn b .transitions) (inside .steps-rise) j k (omega arith) h);
       }
 
-  past-names : ZerosFrom b (6 + labels (tableIn b) * 16) transitionsAt
+  past-names : ZerosFrom b (headLength + labels (tableIn b) * nameSlotLength) transitionsAt
   past-names i p q =
       let count : labels (tableIn b) ≡ labels t = ap labels same in
       zeros-behind b (bind nameSlot (t .names)) _ 6 namesLength i (ap (drop 6) split ∙ names-behind t r rest)
       (omega (arith, slots-length nameSlot 16 (t .names) (names-sized t r))) (omega arith)
 
-  past-transitions : ZerosFrom b (transitionsAt + length (tableIn b .transitions) * 3) tableLength
+  past-transitions : ZerosFrom b (transitionsAt + length (tableIn b .transitions) * transitionLength) tableLength
   past-transitions i p q =
       let count : length (tableIn b .transitions) ≡ length (t .transitions) = ap (λ (u : Table). length (u .transitions)) same in
       zeros-behind b (bind transitionSlot (t .transitions)) rest transitionsAt transitionsLength i (ap (drop transitionsAt) split ∙ transitions-behind t r rest)

@@ -8,6 +8,7 @@ use native.Mathlib.Numerals.{add-one}
 use native.Mathlib.Omega.{arith}
 use lib.ListN.{length, getD, drop, length-take, length-drop}
 use lib.Seq.{length-take-le, getD-take, getD-drop}
+use Rattle.lts.specs.Sizes.{nameSlotLength}
 use Rattle.columns.specs.Bytes.{sameBytes}
 use Rattle.columns.proofs.Laws.Compared.{same-of-unequal}
 use Rattle.lts.specs.Lists.{upFrom}
@@ -17,17 +18,17 @@ use Rattle.lts.specs.Slots.{storedName, storedNames}
 use Rattle.lts.specs.Answers.{isSome}
 
 -- The name in slot k, and one of another length or of the same.
-module _ (b : List ℕ) (k : ℕ) (name : List ℕ) (inside : k * 16 + 16 ≤ length b) (short : length name ≤ longestName) where
-  pub stored-differs : (getD b (k * 16) 0 ≡ length name → ⊥) → false ≡ sameBytes (storedName b k) name
+module _ (b : List ℕ) (k : ℕ) (name : List ℕ) (inside : k * nameSlotLength + nameSlotLength ≤ length b) (short : length name ≤ longestName) where
+  pub stored-differs : (getD b (k * nameSlotLength) 0 ≡ length name → ⊥) → false ≡ sameBytes (storedName b k) name
   stored-differs d = sym (same-of-unequal (storedName b k) name (λ z.
-      d (omega (arith, ap length z, length-take (getD b (k * 16) 0) (drop (k * 16 + 1) b), length-drop (k * 16 + 1) b))))
+      d (omega (arith, ap length z, length-take (getD b (k * nameSlotLength) 0) (drop (k * nameSlotLength + 1) b), length-drop (k * nameSlotLength + 1) b))))
 
-  module _ (same : getD b (k * 16) 0 ≡ length name) where
+  module _ (same : getD b (k * nameSlotLength) 0 ≡ length name) where
     pub stored-length : length (storedName b k) ≡ length name
-    stored-length = length-take-le (getD b (k * 16) 0) (drop (k * 16 + 1) b) (omega (arith, length-drop (k * 16 + 1) b)) ∙ same
+    stored-length = length-take-le (getD b (k * nameSlotLength) 0) (drop (k * nameSlotLength + 1) b) (omega (arith, length-drop (k * nameSlotLength + 1) b)) ∙ same
 
-    pub stored-byte : (i : ℕ) → i < length name → getD (storedName b k) i 0 ≡ getD b (k * 16 + 1 + i) 0
-    stored-byte i h = getD-take (getD b (k * 16) 0) (drop (k * 16 + 1) b) i 0 (omega arith) ∙ getD-drop (k * 16 + 1) b i 0
+    pub stored-byte : (i : ℕ) → i < length name → getD (storedName b k) i 0 ≡ getD b (k * nameSlotLength + 1 + i) 0
+    stored-byte i h = getD-take (getD b (k * nameSlotLength) 0) (drop (k * nameSlotLength + 1) b) i 0 (omega arith) ∙ getD-drop (k * nameSlotLength + 1) b i 0
 
 -- A name looked for among the first `count` slots, from slot k.
 pub record SoughtFrom (b : List ℕ) (count : ℕ) (name : List ℕ) (k : ℕ) : Type 0 where

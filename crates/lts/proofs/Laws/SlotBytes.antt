@@ -7,7 +7,7 @@ use native.Mathlib.Nat.{add-zero, zero-add}
 use native.Mathlib.Omega.{arith}
 use lib.ListN.{length, getD, take, drop, replicate, length-append, length-replicate, replicate-append-replicate}
 use lib.Seq.{take-append-seam, drop-append-add, take-at, drop-at, drop-drop, getD-drop}
-use Rattle.lts.specs.Sizes.{mostLabels, mostTransitions, namesLength, transitionsLength}
+use Rattle.lts.specs.Sizes.{mostLabels, mostTransitions, nameSlotLength, transitionLength, namesLength, transitionsLength}
 use Rattle.columns.specs.Bytes.{padded}
 use Rattle.columns.specs.Write.{pasted}
 use Rattle.lts.specs.Lists.{upFrom, bind, every}
@@ -49,36 +49,36 @@ padded-inner w u m v h k =
 slot-length : (n : List ℕ) → length n ≤ 12 → length (nameSlot n) ≡ 16
 slot-length n h = length-append (counted n) (replicate (16 - length (counted n)) 0) ∙ ap (λ k. length (counted n) + k) (length-replicate (16 - length (counted n)) 0) ∙ omega arith
 
-names-length : (names : List (List ℕ)) → every isName names ≡ true → length (bind nameSlot names) ≡ length names * 16
+names-length : (names : List (List ℕ)) → every isName names ≡ true → length (bind nameSlot names) ≡ length names * nameSlotLength
 names-length [] e = refl
 names-length (n ∷ names) e =
     let d = and-true-of (isName n) (every isName names) e in
     length-append (nameSlot n) (bind nameSlot names) ∙ omega (arith, slot-length n (name-short n (d .0) .1), names-length names (d .1))
 
 pub name-written : (names : List (List ℕ)) (name : List ℕ) (k : ℕ) → length names ≡ k → k < mostLabels → every isName names ≡ true → length name ≤ 12
-    → pasted (nameBytes names) (k * 16) (counted name) ≡ nameBytes (names ++ (name ∷ []))
+    → pasted (nameBytes names) (k * nameSlotLength) (counted name) ≡ nameBytes (names ++ (name ∷ []))
 name-written names name k c h e s =
-    let long : length (bind nameSlot names) ≡ k * 16 = names-length names e ∙ ap (λ n. n * 16) c in
+    let long : length (bind nameSlot names) ≡ k * nameSlotLength = names-length names e ∙ ap (λ n. n * nameSlotLength) c in
     ap (λ i. pasted (nameBytes names) i (counted name)) (sym long)
     ∙ padded-written namesLength (bind nameSlot names) (counted name) (omega arith)
     ∙ padded-inner namesLength 16 (bind nameSlot names) (counted name) (omega arith) (omega arith)
     ∙ ap (λ z. padded namesLength (bind nameSlot names ++ z)) (sym (append-nil (nameSlot name)))
     ∙ ap (padded namesLength) (sym (bind-append nameSlot names (name ∷ [])))
 
-stored-slot : (b : List ℕ) (j : ℕ) (name z : List ℕ) → drop (j * 16) b ≡ nameSlot name ++ z → storedName b j ≡ name
+stored-slot : (b : List ℕ) (j : ℕ) (name z : List ℕ) → drop (j * nameSlotLength) b ≡ nameSlot name ++ z → storedName b j ≡ name
 stored-slot b j name z e =
-    let size : getD b (j * 16) 0 ≡ length name = ap (λ p. getD b p 0) (sym (add-zero (j * 16))) ∙ sym (getD-drop (j * 16) b 0 0) ∙ ap (λ l. getD l 0 0) e in
-    let rest : drop (j * 16 + 1) b ≡ (name ++ replicate (16 - length (counted name)) 0) ++ z = sym (drop-drop 1 (j * 16) b) ∙ ap (drop 1) e in
+    let size : getD b (j * nameSlotLength) 0 ≡ length name = ap (λ p. getD b p 0) (sym (add-zero (j * nameSlotLength))) ∙ sym (getD-drop (j * nameSlotLength) b 0 0) ∙ ap (λ l. getD l 0 0) e in
+    let rest : drop (j * nameSlotLength + 1) b ≡ (name ++ replicate (16 - length (counted name)) 0) ++ z = sym (drop-drop 1 (j * nameSlotLength) b) ∙ ap (drop 1) e in
     ap₂ take size (rest ∙ append-assoc name (replicate (16 - length (counted name)) 0) z) ∙ take-at name (replicate (16 - length (counted name)) 0 ++ z) (length name) refl
 
-stored-from : (b : List ℕ) (j : ℕ) (names : List (List ℕ)) (z : List ℕ) → every isName names ≡ true → drop (j * 16) b ≡ bind nameSlot names ++ z → map (storedName b) (upFrom j (length names)) ≡ names
+stored-from : (b : List ℕ) (j : ℕ) (names : List (List ℕ)) (z : List ℕ) → every isName names ≡ true → drop (j * nameSlotLength) b ≡ bind nameSlot names ++ z → map (storedName b) (upFrom j (length names)) ≡ names
 stored-from b j [] z e d = refl
 stored-from b j (n ∷ names) z e d =
     let f = and-true-of (isName n) (every isName names) e in
-    let here : drop (j * 16) b ≡ nameSlot n ++ (bind nameSlot names ++ z) = d ∙ append-assoc (nameSlot n) (bind nameSlot names) z in
-    let next : j * 16 + 16 ≡ suc j * 16 = omega arith in
-    let further : drop (suc j * 16) b ≡ bind nameSlot names ++ z =
-    ap (λ p. drop p b) (sym next) ∙ sym (drop-drop 16 (j * 16) b) ∙ ap (drop 16) here ∙ drop-at (nameSlot n) (bind nameSlot names ++ z) 16 (slot-length n (name-short n (f .0) .1)) in
+    let here : drop (j * nameSlotLength) b ≡ nameSlot n ++ (bind nameSlot names ++ z) = d ∙ append-assoc (nameSlot n) (bind nameSlot names) z in
+    let next : j * nameSlotLength + nameSlotLength ≡ suc j * nameSlotLength = omega arith in
+    let further : drop (suc j * nameSlotLength) b ≡ bind nameSlot names ++ z =
+    ap (λ p. drop p b) (sym next) ∙ sym (drop-drop 16 (j * nameSlotLength) b) ∙ ap (drop 16) here ∙ drop-at (nameSlot n) (bind nameSlot names ++ z) 16 (slot-length n (name-short n (f .0) .1)) in
     ap₂ (λ x y. x ∷ y) (stored-slot b j n (bind nameSlot names ++ z) here) (stored-from b (suc j) names z (f .1) further)
 
 pub names-stored : (names : List (List ℕ)) → every isName names ≡ true → storedNames (nameBytes names) (length names) ≡ names
@@ -95,29 +95,29 @@ pub used-stored : (b : List ℕ) (count : ℕ) (names : List (List ℕ)) (name :
 used-stored b count names name c e k = ap (λ l. isSome (lookup l name)) (ap₂ storedNames k (sym c) ∙ names-stored names e) ∙ sym (used-looked-up names name)
 
 -- Transitions.
-steps-length : (steps : List Step) → length (bind transitionSlot steps) ≡ length steps * 3
+steps-length : (steps : List Step) → length (bind transitionSlot steps) ≡ length steps * transitionLength
 steps-length [] = refl
 steps-length (x ∷ steps) = let d = steps-length steps in omega arith
 
-pub step-written : (steps : List Step) (st : Step) (k : ℕ) → length steps ≡ k → k < mostTransitions → pasted (stepBytes steps) (k * 3) (transitionSlot st) ≡ stepBytes (steps ++ (st ∷ []))
+pub step-written : (steps : List Step) (st : Step) (k : ℕ) → length steps ≡ k → k < mostTransitions → pasted (stepBytes steps) (k * transitionLength) (transitionSlot st) ≡ stepBytes (steps ++ (st ∷ []))
 step-written steps st k c h =
-    let long : length (bind transitionSlot steps) ≡ k * 3 = steps-length steps ∙ ap (λ n. n * 3) c in
+    let long : length (bind transitionSlot steps) ≡ k * transitionLength = steps-length steps ∙ ap (λ n. n * transitionLength) c in
     ap (λ i. pasted (stepBytes steps) i (transitionSlot st)) (sym long)
     ∙ padded-written transitionsLength (bind transitionSlot steps) (transitionSlot st) (omega arith)
     ∙ ap (λ z. padded transitionsLength z) (sym (bind-append transitionSlot steps (st ∷ [])))
 
-stored-step : (b : List ℕ) (j : ℕ) (x : Step) (z : List ℕ) → drop (j * 3) b ≡ transitionSlot x ++ z → storedStep b j ≡ x
+stored-step : (b : List ℕ) (j : ℕ) (x : Step) (z : List ℕ) → drop (j * transitionLength) b ≡ transitionSlot x ++ z → storedStep b j ≡ x
 stored-step b j x z e =
-    let from : getD b (j * 3) 0 ≡ x .from = ap (λ p. getD b p 0) (sym (add-zero (j * 3))) ∙ sym (getD-drop (j * 3) b 0 0) ∙ ap (λ l. getD l 0 0) e in
-    let label : getD b (j * 3 + 1) 0 ≡ x .label = sym (getD-drop (j * 3) b 1 0) ∙ ap (λ l. getD l 1 0) e in
-    let to : getD b (j * 3 + 2) 0 ≡ x .to = sym (getD-drop (j * 3) b 2 0) ∙ ap (λ l. getD l 2 0) e in
+    let from : getD b (j * transitionLength) 0 ≡ x .from = ap (λ p. getD b p 0) (sym (add-zero (j * transitionLength))) ∙ sym (getD-drop (j * transitionLength) b 0 0) ∙ ap (λ l. getD l 0 0) e in
+    let label : getD b (j * transitionLength + 1) 0 ≡ x .label = sym (getD-drop (j * transitionLength) b 1 0) ∙ ap (λ l. getD l 1 0) e in
+    let to : getD b (j * transitionLength + 2) 0 ≡ x .to = sym (getD-drop (j * transitionLength) b 2 0) ∙ ap (λ l. getD l 2 0) e in
     λ i. record { from = from i; label = label i; to = to i }
 
-last-from : (b : List ℕ) (j : ℕ) (x : Step) (l : List Step) (z : List ℕ) (st : Step) → drop (j * 3) b ≡ bind transitionSlot (x ∷ l) ++ z → stepBelow (storedStep b (j + length l)) st ≡ above (x ∷ l) st
+last-from : (b : List ℕ) (j : ℕ) (x : Step) (l : List Step) (z : List ℕ) (st : Step) → drop (j * transitionLength) b ≡ bind transitionSlot (x ∷ l) ++ z → stepBelow (storedStep b (j + length l)) st ≡ above (x ∷ l) st
 last-from b j x [] z st e = let here : storedStep b (j + 0) ≡ x = ap (storedStep b) (add-zero j) ∙ stored-step b j x z e in ap (λ y. stepBelow y st) here
 last-from b j x (y ∷ l) z st e =
-    let next : j * 3 + 3 ≡ suc j * 3 = omega arith in
-    let further : drop (suc j * 3) b ≡ bind transitionSlot (y ∷ l) ++ z = ap (λ p. drop p b) (sym next) ∙ sym (drop-drop 3 (j * 3) b) ∙ ap (drop 3) e in
+    let next : j * transitionLength + transitionLength ≡ suc j * transitionLength = omega arith in
+    let further : drop (suc j * transitionLength) b ≡ bind transitionSlot (y ∷ l) ++ z = ap (λ p. drop p b) (sym next) ∙ sym (drop-drop 3 (j * transitionLength) b) ∙ ap (drop 3) e in
     let place : j + suc (length l) ≡ suc j + length l = omega arith in
     ap (λ p. stepBelow (storedStep b p) st) place ∙ last-from b (suc j) y l z st further
 

@@ -9,7 +9,7 @@ use borrow.Author.Tests.{leb-true, leb-false}
 use lib.Dec.{leb}
 use lib.ListN.{length, getD, take, drop, length-take, length-drop, take-append-drop}
 use lib.Seq.{length-take-le, getD-take, getD-drop, ext-getD, drop-cons, drop-drop}
-use Rattle.lts.specs.Sizes.{mostLabels, namesLength, tableLength}
+use Rattle.lts.specs.Sizes.{mostLabels, headLength, nameSlotLength, namesLength, tableLength}
 use Rattle.columns.specs.Bytes.{sameBytes}
 use Rattle.columns.proofs.Laws.Compared.{same-of-unequal}
 use Rattle.lts.specs.Lists.{upFrom}
@@ -35,20 +35,20 @@ prefix-same n a c p q h =
 module _ (b : List ℕ) (long : tableLength ≤ length b) where
   module _ (k : ℕ) (few : k < mostLabels) where
     abbrev at : ℕ
-    at = 7 + k * 16
+    at = headLength + 1 + k * nameSlotLength
 
     abbrev size : ℕ
-    size = byteAt b (6 + k * 16)
+    size = byteAt b (headLength + k * nameSlotLength)
 
     -- A slot's first byte is the length of its name.
-    pub name-length : byteAt b (6 + k * 16) < 256 → length (nameAt b k) ≡ byteAt b (6 + k * 16)
+    pub name-length : byteAt b (headLength + k * nameSlotLength) < 256 → length (nameAt b k) ≡ byteAt b (headLength + k * nameSlotLength)
     name-length small = length-take-le size (drop at b) (omega (arith, length-drop at b))
 
-    pub name-few : byteAt b (6 + k * 16) < 256 → isName (nameAt b k) ≡ true → (1 ≤ byteAt b (6 + k * 16)) × (byteAt b (6 + k * 16) ≤ longestName)
+    pub name-few : byteAt b (headLength + k * nameSlotLength) < 256 → isName (nameAt b k) ≡ true → (1 ≤ byteAt b (headLength + k * nameSlotLength)) × (byteAt b (headLength + k * nameSlotLength) ≤ longestName)
     name-few small e = omega (arith, name-length small, name-short (nameAt b k) e .0, name-short (nameAt b k) e .1)
 
     -- A slot holds a name exactly if the longest name there ends where the slot says, and zeros follow.
-    pub held-end : byteAt b (6 + k * 16) < 256 → NameHeld b k → nameEnd b (7 + k * 16) ≡ (7 + k * 16) + byteAt b (6 + k * 16)
+    pub held-end : byteAt b (headLength + k * nameSlotLength) < 256 → NameHeld b k → nameEnd b (headLength + 1 + k * nameSlotLength) ≡ (headLength + 1 + k * nameSlotLength) + byteAt b (headLength + k * nameSlotLength)
     held-end small h =
         let fits = name-few small (h .name) in
         let behind : drop (at + size) b ≡ 0 ∷ drop (suc (at + size)) b =
@@ -57,7 +57,7 @@ module _ (b : List ℕ) (long : tableLength ≤ length b) where
         let run : nameLength (drop at b) ≡ size = ap nameLength parts ∙ (name-is-run 0 (drop (suc (at + size)) b) refl (nameAt b k) (h .name) ∙ name-length small) in
         ap (λ n. at + n) run
 
-    pub end-held : nameEnd b (7 + k * 16) ≡ (7 + k * 16) + byteAt b (6 + k * 16) → (nameEnd b (7 + k * 16) ≡ 7 + k * 16 → ⊥) → isName (nameAt b k) ≡ true
+    pub end-held : nameEnd b (headLength + 1 + k * nameSlotLength) ≡ (headLength + 1 + k * nameSlotLength) + byteAt b (headLength + k * nameSlotLength) → (nameEnd b (headLength + 1 + k * nameSlotLength) ≡ headLength + 1 + k * nameSlotLength → ⊥) → isName (nameAt b k) ≡ true
     end-held e longer =
         let run : nameLength (drop at b) ≡ size = omega arith in
         ap (λ n. isName (take n (drop at b))) (sym run) ∙ run-is-name (drop at b) (omega (arith, longer)) .1
@@ -76,21 +76,21 @@ module _ (b : List ℕ) (long : tableLength ≤ length b) where
     same-stored : (k : ℕ) → k < mostLabels → sameBytes (storedName slots k) name ≡ sameBytes (nameAt b k) name
     same-stored k few = case (leb (size k few) longestName) refl
       where
-        first : getD slots (k * 16) 0 ≡ size k few
-        first = slot-byte (k * 16) (omega arith)
+        first : getD slots (k * nameSlotLength) 0 ≡ size k few
+        first = slot-byte (k * nameSlotLength) (omega arith)
 
         case : (t : Bool) → leb (size k few) longestName ≡ t → sameBytes (storedName slots k) name ≡ sameBytes (nameAt b k) name
         case true e =
             let h = leb-true (size k few) longestName e in
-            ap (λ l. sameBytes l name) (ap (λ n. take n (drop (k * 16 + 1) slots)) first
-            ∙ prefix-same (size k few) (drop (k * 16 + 1) slots) (drop (at k few) b) (omega (arith, length-drop (k * 16 + 1) slots, slots-length)) (omega (arith, length-drop (at k few) b))
+            ap (λ l. sameBytes l name) (ap (λ n. take n (drop (k * nameSlotLength + 1) slots)) first
+            ∙ prefix-same (size k few) (drop (k * nameSlotLength + 1) slots) (drop (at k few) b) (omega (arith, length-drop (k * nameSlotLength + 1) slots, slots-length)) (omega (arith, length-drop (at k few) b))
             (λ i l.
-            let place : 6 + (k * 16 + 1 + i) ≡ 7 + k * 16 + i = omega arith in
-            getD-drop (k * 16 + 1) slots i 0 ∙ (slot-byte (k * 16 + 1 + i) (omega arith) ∙ (ap (byteAt b) place ∙ sym (getD-drop (at k few) b i 0)))))
+            let place : headLength + (k * nameSlotLength + 1 + i) ≡ headLength + 1 + k * nameSlotLength + i = omega arith in
+            getD-drop (k * nameSlotLength + 1) slots i 0 ∙ (slot-byte (k * nameSlotLength + 1 + i) (omega arith) ∙ (ap (byteAt b) place ∙ sym (getD-drop (at k few) b i 0)))))
         case false e =
             let h = leb-false (size k few) longestName e in
             same-of-unequal (storedName slots k) name
-            (λ z. omega (arith, first, ap length z, length-take (getD slots (k * 16) 0) (drop (k * 16 + 1) slots), length-drop (k * 16 + 1) slots, slots-length))
+            (λ z. omega (arith, first, ap length z, length-take (getD slots (k * nameSlotLength) 0) (drop (k * nameSlotLength + 1) slots), length-drop (k * nameSlotLength + 1) slots, slots-length))
             ∙ sym (same-of-unequal (nameAt b k) name (λ z. omega (arith, ap length z, length-take (size k few) (drop (at k few) b), length-drop (at k few) b)))
 
     found-stored : (j i n : ℕ) → i + n ≤ 40 → findFrom j (map (storedName slots) (upFrom i n)) name ≡ findFrom j (map (nameAt b) (upFrom i n)) name
@@ -104,7 +104,7 @@ module _ (b : List ℕ) (long : tableLength ≤ length b) where
     table-lookup n e h = found-stored 1 0 n (omega arith) ∙ ap (λ m. lookup (map (nameAt b) (upFrom 0 m)) name) (e ∙ labels-in b)
 
   -- None of the names before it is the name in slot k.
-  module _ (k : ℕ) (few : k < mostLabels) (small : byteAt b (6 + k * 16) ≤ longestName) where
+  module _ (k : ℕ) (few : k < mostLabels) (small : byteAt b (headLength + k * nameSlotLength) ≤ longestName) where
     short : length (nameAt b k) ≤ longestName
     short = omega (arith, name-length k few (omega arith))
 

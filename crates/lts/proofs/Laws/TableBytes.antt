@@ -6,7 +6,7 @@ use native.Mathlib.Nat.{add-zero}
 use native.Mathlib.Omega.{arith}
 use lib.ListN.{length, getD, take, drop, replicate, length-append}
 use lib.Seq.{take-append-seam, drop-at, drop-drop, getD-drop, ext-getD}
-use Rattle.lts.specs.Sizes.{namesLength, transitionsAt, transitionsLength, tableLength}
+use Rattle.lts.specs.Sizes.{headLength, nameSlotLength, transitionLength, namesLength, transitionsAt, transitionsLength, tableLength}
 use Rattle.columns.specs.Bytes.{lowFirst}
 use Rattle.columns.proofs.Laws.Bytes.{Bytes, bytes-none, bytes-cons, bytes-append, padded-length, padded-bytes, lowFirst-bytes, pair-value}
 use Rattle.lts.specs.Lists.{upFrom, bind}
@@ -19,26 +19,26 @@ use Rattle.lts.proofs.Laws.Contents.{map-upFrom-length, map-upFrom-at}
 use Rattle.lts.proofs.Laws.Slots.{slots-length, slot-at}
 
 -- A slot says what it was made of.
-pub size-of-slot : (b n z : List ℕ) (k : ℕ) → drop (6 + k * 16) b ≡ nameSlot n ++ z → byteAt b (6 + k * 16) ≡ length n
-size-of-slot b n z k e = ap (byteAt b) (sym (add-zero (6 + k * 16))) ∙ (sym (getD-drop (6 + k * 16) b 0 0) ∙ ap (λ (s : List ℕ). byteAt s 0) e)
+pub size-of-slot : (b n z : List ℕ) (k : ℕ) → drop (headLength + k * nameSlotLength) b ≡ nameSlot n ++ z → byteAt b (headLength + k * nameSlotLength) ≡ length n
+size-of-slot b n z k e = ap (byteAt b) (sym (add-zero (headLength + k * nameSlotLength))) ∙ (sym (getD-drop (headLength + k * nameSlotLength) b 0 0) ∙ ap (λ (s : List ℕ). byteAt s 0) e)
 
-pub name-of-slot : (b n z : List ℕ) (k : ℕ) → drop (6 + k * 16) b ≡ nameSlot n ++ z → nameAt b k ≡ n
+pub name-of-slot : (b n z : List ℕ) (k : ℕ) → drop (headLength + k * nameSlotLength) b ≡ nameSlot n ++ z → nameAt b k ≡ n
 name-of-slot b n z k e =
     let zeros : List ℕ = replicate (16 - suc (length n)) 0 in
-    let next : (6 + k * 16) + 1 ≡ 7 + k * 16 = omega arith in
-    let bytes : drop (7 + k * 16) b ≡ n ++ (zeros ++ z)
-    = ap (λ (j : ℕ). drop j b) (sym next) ∙ (sym (drop-drop 1 (6 + k * 16) b) ∙ (ap (drop 1) e ∙ append-assoc n zeros z)) in
+    let next : (headLength + k * nameSlotLength) + 1 ≡ headLength + 1 + k * nameSlotLength = omega arith in
+    let bytes : drop (headLength + 1 + k * nameSlotLength) b ≡ n ++ (zeros ++ z)
+    = ap (λ (j : ℕ). drop j b) (sym next) ∙ (sym (drop-drop 1 (headLength + k * nameSlotLength) b) ∙ (ap (drop 1) e ∙ append-assoc n zeros z)) in
     ap₂ take (size-of-slot b n z k e) bytes ∙ take-append-seam n (zeros ++ z)
 
-pub transition-of-slot : (b z : List ℕ) (st : Step) (k : ℕ) → drop (transitionsAt + k * 3) b ≡ transitionSlot st ++ z → transitionAt b k ≡ st
+pub transition-of-slot : (b z : List ℕ) (st : Step) (k : ℕ) → drop (transitionsAt + k * transitionLength) b ≡ transitionSlot st ++ z → transitionAt b k ≡ st
 transition-of-slot b z st k e =
-    let first : byteAt b (transitionsAt + k * 3) ≡ st .from = at 0 (omega arith) in
-    let second : byteAt b ((transitionsAt + 1) + k * 3) ≡ st .label = at 1 (omega arith) in
-    let third : byteAt b ((transitionsAt + 2) + k * 3) ≡ st .to = at 2 (omega arith) in
+    let first : byteAt b (transitionsAt + k * transitionLength) ≡ st .from = at 0 (omega arith) in
+    let second : byteAt b ((transitionsAt + 1) + k * transitionLength) ≡ st .label = at 1 (omega arith) in
+    let third : byteAt b ((transitionsAt + 2) + k * transitionLength) ≡ st .to = at 2 (omega arith) in
     λ i. record { from = first i; label = second i; to = third i }
   where
-    at : (i : ℕ) {j : ℕ} → (transitionsAt + k * 3) + i ≡ j → byteAt b j ≡ getD (transitionSlot st ++ z) i 0
-    at i d = ap (byteAt b) (sym d) ∙ (sym (getD-drop (transitionsAt + k * 3) b i 0) ∙ ap (λ (s : List ℕ). getD s i 0) e)
+    at : (i : ℕ) {j : ℕ} → (transitionsAt + k * transitionLength) + i ≡ j → byteAt b j ≡ getD (transitionSlot st ++ z) i 0
+    at i d = ap (byteAt b) (sym d) ∙ (sym (getD-drop (transitionsAt + k * transitionLength) b i 0) ∙ ap (λ (s : List ℕ). getD s i 0) e)
 
 module _ (t : Table) (r : InRange t) where
   pub names-sized : (n : List ℕ) → List·Memᴰ n (t .names) → length (nameSlot n) ≡ 16
@@ -93,13 +93,13 @@ module _ (t : Table) (r : InRange t) where
     transitions-behind =
         sym (drop-drop namesLength 6 whole) ∙ (ap (drop namesLength) names-behind ∙ drop-at (nameSlots t) (transitionSlots t ++ rest) namesLength name-slots-length)
 
-    pub name-slot-there : (k : ℕ) → k < labels t → (z : List ℕ) × (drop (6 + k * 16) whole ≡ nameSlot (getD (t .names) k []) ++ z)
+    pub name-slot-there : (k : ℕ) → k < labels t → (z : List ℕ) × (drop (headLength + k * nameSlotLength) whole ≡ nameSlot (getD (t .names) k []) ++ z)
     name-slot-there k h =
         let zeros : List ℕ = replicate (namesLength - length (bind nameSlot (t .names))) 0 in
         let (z, e) = slot-at nameSlot 16 (t .names) k [] (zeros ++ (transitionSlots t ++ rest)) names-sized h in (
           z,
-          sym (drop-drop (k * 16) 6 whole)
-              ∙ (ap (drop (k * 16)) (names-behind ∙ append-assoc (bind nameSlot (t .names)) zeros (transitionSlots t ++ rest)) ∙ e),
+          sym (drop-drop (k * nameSlotLength) 6 whole)
+              ∙ (ap (drop (k * nameSlotLength)) (names-behind ∙ append-assoc (bind nameSlot (t .names)) zeros (transitionSlots t ++ rest)) ∙ e),
         )
 
     name-there : (k : ℕ) → k < labels t → nameAt whole k ≡ getD (t .names) k []
@@ -110,8 +110,8 @@ module _ (t : Table) (r : InRange t) where
         let zeros : List ℕ = replicate (transitionsLength - length (bind transitionSlot (t .transitions))) 0 in
         let (z, e) = slot-at transitionSlot 3 (t .transitions) k (idleAt 0) (zeros ++ rest) (λ st m. refl) h in
         transition-of-slot whole z (getD (t .transitions) k (idleAt 0)) k
-        (sym (drop-drop (k * 3) transitionsAt whole)
-        ∙ (ap (drop (k * 3)) (transitions-behind ∙ append-assoc (bind transitionSlot (t .transitions)) zeros rest) ∙ e))
+        (sym (drop-drop (k * transitionLength) transitionsAt whole)
+        ∙ (ap (drop (k * transitionLength)) (transitions-behind ∙ append-assoc (bind transitionSlot (t .transitions)) zeros rest) ∙ e))
 
     -- The table stands in its bytes.
     pub table-in-bytes : tableIn (tableBytes t ++ rest) ≡ t

@@ -8,7 +8,7 @@ use native.Mathlib.Nat.{add-zero}
 use native.Mathlib.Omega.{arith}
 use lib.ListN.{length, getD, take, drop, replicate, length-drop}
 use lib.Seq.{take-add, drop-drop, drop-cons, getD-drop}
-use Rattle.lts.specs.Sizes.{mostLabels, mostTransitions, namesLength, transitionsAt, transitionsLength, tableLength}
+use Rattle.lts.specs.Sizes.{mostLabels, mostTransitions, headLength, nameSlotLength, transitionLength, namesLength, transitionsAt, transitionsLength, tableLength}
 use Rattle.columns.specs.Bytes.{lowFirst}
 use Rattle.columns.proofs.Laws.Bytes.{pair-bytes}
 use Rattle.lts.specs.Lists.{upFrom}
@@ -67,33 +67,33 @@ module _ (b : List ℕ) (w : WellFormed b) where
         (ap₂ (λ (n : ℕ) (l : List ℕ). n ∷ (l ++ (byteAt b 5 ∷ []))) (labels-in b) (ap (lowFirst 2) (transitions-in b) ∙ second)))
 
     -- A name's slot.
-    name-slot-is : (k : ℕ) → k < labels (tableIn b) → take 16 (drop (k * 16) (drop 6 b)) ≡ nameSlot (nameAt b k)
+    name-slot-is : (k : ℕ) → k < labels (tableIn b) → take 16 (drop (k * nameSlotLength) (drop 6 b)) ≡ nameSlot (nameAt b k)
     name-slot-is k h =
         let few : k < mostLabels = omega (arith, w .counts .few-labels) in
         let held = w .names k h .0 in
-        let size : ℕ = byteAt b (6 + k * 16) in
-        let sized : length (nameAt b k) ≡ size = name-length b (w .long) k few (bytes (6 + k * 16)) in
+        let size : ℕ = byteAt b (headLength + k * nameSlotLength) in
+        let sized : length (nameAt b k) ≡ size = name-length b (w .long) k few (bytes (headLength + k * nameSlotLength)) in
         let short : size ≤ 12 = omega (arith, name-shape (nameAt b k) (held .name) .short) in
-        let behind : List ℕ = drop (7 + k * 16) b in
-        let room : size + (15 - size) ≤ length behind = omega (arith, length-drop (7 + k * 16) b, w .long) in
-        let next : suc (6 + k * 16) ≡ 7 + k * 16 = omega arith in
-        let cut : drop (k * 16) (drop 6 b) ≡ size ∷ behind = drop-drop (k * 16) 6 b ∙ (drop-cons b (6 + k * 16) 0 (omega (arith, w .long)) ∙ ap (λ (j : ℕ). size ∷ drop j b) next) in
+        let behind : List ℕ = drop (headLength + 1 + k * nameSlotLength) b in
+        let room : size + (15 - size) ≤ length behind = omega (arith, length-drop (headLength + 1 + k * nameSlotLength) b, w .long) in
+        let next : suc (headLength + k * nameSlotLength) ≡ headLength + 1 + k * nameSlotLength = omega arith in
+        let cut : drop (k * nameSlotLength) (drop 6 b) ≡ size ∷ behind = drop-drop (k * nameSlotLength) 6 b ∙ (drop-cons b (headLength + k * nameSlotLength) 0 (omega (arith, w .long)) ∙ ap (λ (j : ℕ). size ∷ drop j b) next) in
         let parts : size + (15 - size) ≡ 15 = omega arith in
         let zeros : take (15 - size) (drop size behind) ≡ replicate (15 - size) 0
         = take-zeros (15 - size) (drop size behind) (omega (arith, length-drop size behind))
-        (λ i l. getD-drop size behind i 0 ∙ (getD-drop (7 + k * 16) b (size + i) 0 ∙ held .behind ((7 + k * 16) + (size + i)) (omega arith) (omega arith))) in
+        (λ i l. getD-drop size behind i 0 ∙ (getD-drop (headLength + 1 + k * nameSlotLength) b (size + i) 0 ∙ held .behind ((headLength + 1 + k * nameSlotLength) + (size + i)) (omega arith) (omega arith))) in
         let tail : take 15 behind ≡ nameAt b k ++ replicate (15 - size) 0
         = ap (λ (m : ℕ). take m behind) (sym parts) ∙ (take-add size (15 - size) behind ∙ ap (λ (l : List ℕ). nameAt b k ++ l) zeros) in
         let left : 15 - size ≡ 16 - suc (length (nameAt b k)) = omega arith in
         ap (take 16) cut ∙ ap₂ (λ (n : ℕ) (l : List ℕ). n ∷ l) (sym sized) (tail ∙ ap (λ (m : ℕ). nameAt b k ++ replicate m 0) left)
 
-    transition-slot-is : (k : ℕ) → k < length (tableIn b .transitions) → take 3 (drop (k * 3) (drop transitionsAt b)) ≡ transitionSlot (transitionAt b k)
+    transition-slot-is : (k : ℕ) → k < length (tableIn b .transitions) → take 3 (drop (k * transitionLength) (drop transitionsAt b)) ≡ transitionSlot (transitionAt b k)
     transition-slot-is k h =
         let few : k < mostTransitions = omega (arith, w .counts .few-transitions) in
-        let at : ℕ = transitionsAt + k * 3 in
-        let second : at + 1 ≡ (transitionsAt + 1) + k * 3 = omega arith in
-        let third : at + 2 ≡ (transitionsAt + 2) + k * 3 = omega arith in
-        ap (take 3) (drop-drop (k * 3) transitionsAt b)
+        let at : ℕ = transitionsAt + k * transitionLength in
+        let second : at + 1 ≡ (transitionsAt + 1) + k * transitionLength = omega arith in
+        let third : at + 2 ≡ (transitionsAt + 2) + k * transitionLength = omega arith in
+        ap (take 3) (drop-drop (k * transitionLength) transitionsAt b)
         ∙ (take-bytes 3 (drop at b) (omega (arith, length-drop at b, w .long))
         ∙ (λ i. (getD-drop at b 0 0 ∙ ap (byteAt b) (add-zero at)) i ∷ (getD-drop at b 1 0 ∙ ap (byteAt b) second) i ∷ (getD-drop at b 2 0 ∙ ap (byteAt b) third) i ∷ []))
 

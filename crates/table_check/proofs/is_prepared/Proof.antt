@@ -6,7 +6,7 @@ use Prim.Native.Nat.{ℕ, _+_, _*_}
 use native.Mathlib.Omega.{arith}
 use borrow.Author.Needs.{needs}
 use borrow.Author.Tests.{not-true, not-false}
-use Rattle.lts.specs.Sizes.{transitionsAt, tableLength}
+use Rattle.lts.specs.Sizes.{headLength, nameSlotLength, transitionLength, transitionsAt, tableLength}
 use Rattle.lts.specs.Prepared.{preparedTable}
 use Rattle.lts.specs.Answers.{isSome, Decides}
 use Rattle.lts.specs.Check.{ZerosFrom, WellFormed}
@@ -58,7 +58,7 @@ returns-4 : tie.Need-returns-4
 returns-4 c =
     let b = c .before .before .before .before .before .before .before .before .before .args .table .now in
     ill-formed b (λ w. c .before .zeros .ensures .no (not-true _ (c .if4 .taken))
-    (subst (λ (n : ℕ). ZerosFrom b (6 + n * 16) transitionsAt) (sym (c .before .before .label-count .ensures .count)) (w .past-names)))
+    (subst (λ (n : ℕ). ZerosFrom b (headLength + n * nameSlotLength) transitionsAt) (sym (c .before .before .label-count .ensures .count)) (w .past-names)))
 
 transitions-held-requires : tie.Need-transitions-held-requires
 transitions-held-requires c κs = (c .before .before .before .before .before .before .before .if1 .left, c .before .before .before .before .before .before .counts-held .ensures .yes (not-false _ (c .before .before .before .before .before .if2 .left)) .few-transitions)
@@ -81,14 +81,14 @@ zeros-requires-2 c κs = search needs
 returns-6 : tie.Need-returns-6
 returns-6 c =
     let b = c .before .before .before .before .before .before .before .before .before .before .before .before .before .args .table .now in
-    let zeros-past = subst (λ (n : ℕ). ZerosFrom b (transitionsAt + n * 3) tableLength) (c .before .transition-count .ensures .count) in
-    let zeros-here = subst (λ (n : ℕ). ZerosFrom b (transitionsAt + n * 3) tableLength) (sym (c .before .transition-count .ensures .count)) in
+    let zeros-past = subst (λ (n : ℕ). ZerosFrom b (transitionsAt + n * transitionLength) tableLength) (c .before .transition-count .ensures .count) in
+    let zeros-here = subst (λ (n : ℕ). ZerosFrom b (transitionsAt + n * transitionLength) tableLength) (sym (c .before .transition-count .ensures .count)) in
     decided b _ (c .zeros2 .result) (c .zeros2 .ensures)
     (λ z. ap isSome (well-formed-prepared b (record {
       long = c .before .before .before .before .before .before .before .before .before .before .before .if1 .left;
       counts = c .before .before .before .before .before .before .before .before .before .before .counts-held .ensures .yes (not-false _ (c .before .before .before .before .before .before .before .before .before .if2 .left));
       names = c .before .before .before .before .before .before .before .before .names-held .ensures .yes (not-false _ (c .before .before .before .before .before .before .before .if3 .left));
-      past-names = subst (λ (n : ℕ). ZerosFrom b (6 + n * 16) transitionsAt) (c .before .before .before .before .before .before .label-count .ensures .count) (c .before .before .before .before .before .zeros .ensures .yes (not-false _ (c .before .before .before .before .if4 .left)));
+      past-names = subst (λ (n : ℕ). ZerosFrom b (headLength + n * nameSlotLength) transitionsAt) (c .before .before .before .before .before .before .label-count .ensures .count) (c .before .before .before .before .before .zeros .ensures .yes (not-false _ (c .before .before .before .before .if4 .left)));
       transitions = c .before .before .before .transitions-held .ensures .yes (not-false _ (c .before .before .if5 .left));
       past-transitions = zeros-past z;
     }) (λ i. omega (arith, c .before .before .before .before .before .before .before .before .before .before .before .before .shared-slice-known .given i))))

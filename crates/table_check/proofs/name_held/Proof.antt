@@ -3,6 +3,7 @@ use mathlib.Core.Path.{_≡_, sym, ap, _∙_, subst}
 use Prim.Native.Nat.{_+_, _*_}
 use native.Mathlib.Omega.{arith}
 use borrow.Author.Needs.{needs}
+use Rattle.lts.specs.Sizes.{headLength, nameSlotLength}
 use Rattle.lts.specs.Check.{ZerosFrom}
 use Rattle.lts.proofs.Laws.Decides.{decided-no, decided-by}
 use Rattle.lts.proofs.Laws.SlotNames.{name-few, held-end, end-held}
@@ -23,7 +24,7 @@ returns c =
     let start = c .before .before .before in
     let b = start .args .table .now in
     let k = start .args .k in
-    let small = c .before .before .shared-slice-known .given (6 + k * 16) .fits in
+    let small = c .before .before .shared-slice-known .given (headLength + k * nameSlotLength) .fits in
     decided-no (λ h. omega (arith, held-end b (start .pre .0) k (start .pre .1) small h, name-few b (start .pre .0) k (start .pre .1) small (h .name), c .before .name-end .ensures, c .if1 .taken))
 
 mul-byte : tie.Need-mul-byte
@@ -43,7 +44,7 @@ returns-2 c =
     let start = c .before .before .before .before .before in
     let b = start .args .table .now in
     let k = start .args .k in
-    let small = c .before .before .before .before .shared-slice-known .given (6 + k * 16) .fits in
+    let small = c .before .before .before .before .shared-slice-known .given (headLength + k * nameSlotLength) .fits in
     decided-no (λ h. c .if2 .taken
     (omega (arith, held-end b (start .pre .0) k (start .pre .1) small h, c .before .before .before .name-end .ensures, c .before .byte .ensures .count)))
 
@@ -62,14 +63,14 @@ returns-3 c =
     let b = start .args .table .now in
     let k = start .args .k in
     let answer = c .before .before .before .before .name-end .ensures in
-    let end : c .before .before .before .before .name-end .result ≡ (7 + k * 16) + c .before .before .byte .result = c .before .if2 .left in
-    let whole = end ∙ ap (λ n. (7 + k * 16) + n) (c .before .before .byte .ensures .count) in
+    let end : c .before .before .before .before .name-end .result ≡ (headLength + 1 + k * nameSlotLength) + c .before .before .byte .result = c .before .if2 .left in
+    let whole = end ∙ ap (λ n. (headLength + 1 + k * nameSlotLength) + n) (c .before .before .byte .ensures .count) in
     decided-by (c .zeros .ensures)
     (λ z. record {
       name = end-held b (start .pre .0) k (start .pre .1) (sym answer ∙ whole) (λ e. c .before .before .before .if1 .left (answer ∙ e));
-      behind = subst (λ n. ZerosFrom b n (22 + k * 16)) whole z;
+      behind = subst (λ n. ZerosFrom b n (headLength + nameSlotLength + k * nameSlotLength)) whole z;
     })
-    (λ h. subst (λ n. ZerosFrom b n (22 + k * 16)) (sym whole) (h .behind))
+    (λ h. subst (λ n. ZerosFrom b n (headLength + nameSlotLength + k * nameSlotLength)) (sym whole) (h .behind))
 
 pub name-held-spec : {M : Type 1} → statement M
 name-held-spec =

@@ -4,7 +4,7 @@ use Prim.Native.Nat.{ℕ, _+_, _-_, _*_, _≤_, _<_}
 use native.Mathlib.Omega.{arith}
 use borrow.Author.Count.{below-more}
 use borrow.Author.Tests.{not-true, not-false}
-use Rattle.lts.specs.Sizes.{mostLabels}
+use Rattle.lts.specs.Sizes.{mostLabels, headLength, nameSlotLength}
 use Rattle.lts.specs.Steps.{labels}
 use Rattle.lts.specs.Prepared.{tableIn, byteAt}
 use Rattle.lts.specs.Check.{NameHeld, NewName}
@@ -43,7 +43,7 @@ new-name-requires c κs =
     let k = c .before .before .before .loop .k in
     let inv = c .before .before .before .loop .inv in
     let few : k < mostLabels = omega (arith, inv .1, start .pre .1, c .before .before .loop-test .taken) in
-    let small : byteAt b (6 + k * 16) < 256 = omega (arith, c .before .before .before .before .before .shared-slice-known .given (6 + k * 16)) in
+    let small : byteAt b (headLength + k * nameSlotLength) < 256 = omega (arith, c .before .before .before .before .before .shared-slice-known .given (headLength + k * nameSlotLength)) in
     let held = c .before .name-held .ensures .yes (not-false _ (c .if1 .left)) in
     (start .pre .0, (few, name-few b (start .pre .0) k few small (held .name) .1))
 

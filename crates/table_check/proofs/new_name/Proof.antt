@@ -3,7 +3,7 @@ use mathlib.Core.Path.{_≡_, sym, ap, _∙_}
 use Prim.Native.Nat.{_+_, _-_, _*_}
 use native.Mathlib.Omega.{arith}
 use lib.ListN.{take, drop}
-use Rattle.lts.specs.Sizes.{namesLength}
+use Rattle.lts.specs.Sizes.{headLength, nameSlotLength, namesLength}
 use Rattle.lts.specs.Names.{lookup}
 use Rattle.lts.specs.Prepared.{byteAt, nameAt}
 use Rattle.lts.specs.Slots.{storedNames}
@@ -69,8 +69,8 @@ sought c =
     let b = start .args .table .now in
     let k = start .args .k in
     let size = c .before .before .before .byte in
-    let long : (7 + k * 16) + size .result - (7 + k * 16) ≡ byteAt b (6 + k * 16) = omega (arith, size .ensures .count) in
-    ap isSome (c .find .ensures) ∙ ap (λ n. isSome (lookup (storedNames (take namesLength (drop 6 b)) k) (take n (drop (7 + k * 16) b)))) long
+    let long : (headLength + 1 + k * nameSlotLength) + size .result - (headLength + 1 + k * nameSlotLength) ≡ byteAt b (headLength + k * nameSlotLength) = omega (arith, size .ensures .count) in
+    ap isSome (c .find .ensures) ∙ ap (λ n. isSome (lookup (storedNames (take namesLength (drop 6 b)) k) (take n (drop (headLength + 1 + k * nameSlotLength) b)))) long
 
 returns : tie.Need-returns
 returns c =

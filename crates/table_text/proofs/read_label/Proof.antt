@@ -6,6 +6,7 @@ use mathlib.Core.List.{List}
 use Prim.Native.Nat.{ℕ, _+_, _-_, _*_}
 use lib.ListN.{length, take, drop, length-take}
 use native.Mathlib.Omega.{arith}
+use Rattle.lts.specs.Sizes.{nameSlotLength}
 use Rattle.table_text.proofs.Laws.Progress.{label-refused, label-out-of-order, label-repeated, label-accepted}
 use Rattle.lts.proofs.Laws.SlotBytes.{name-written, used-stored}
 use Rattle.lts.proofs.Laws.NameRuns.{name-short}
@@ -13,7 +14,7 @@ use Rattle.lts.proofs.Lists.{and-true-of}
 use Rattle.lts.specs.Lists.{every}
 use Rattle.lts.specs.Slots.{counted, nameBytes}
 use Rattle.lts.specs.Lines.{Labelled}
-use Rattle.table_lines.specs.LineReplies.{LabelSays}
+use Rattle.table_lines.specs.LineReplies.{LabelAnswer}
 use Rattle.lts.specs.Reading.{used}
 use Rattle.lts.specs.Text.{labelLine}
 use Rattle.lts.specs.Names.{isName}
@@ -33,7 +34,7 @@ abbrev end : tie.After-known-told → ℕ
 end c = c .before .number .given .0 .1 .0
 
 line : (c : tie.After-known-told) → Labelled (entry c .args .text .now) (entry c .args .at) (c .before .number .given .0 .0) (end c)
-line c = subst (LabelSays (entry c .args .text .now) (entry c .args .at)) (c .before .number .given .1) (c .before .before .before .label-line .ensures)
+line c = subst (LabelAnswer (entry c .args .text .now) (entry c .args .at)) (c .before .number .given .1) (c .before .before .before .label-line .ensures)
 
 -- Whether its name was found among those before it.
 abbrev known : tie.After-find → tie.After-known-told
@@ -63,7 +64,7 @@ returns c =
     let start = c .before .before .before .before .before in
     let s = start .args .text .now in
     let at = start .args .at in
-    λ h left names e f g. label-refused h s at left names _ (omega arith) (subst (LabelSays s at) (c .enum-told .given .1) (c .before .before .label-line .ensures))
+    λ h left names e f g. label-refused h s at left names _ (omega arith) (subst (LabelAnswer s at) (c .enum-told .given .1) (c .before .before .label-line .ensures))
 
 add-if1 : tie.Need-add-if1
 add-if1 c = search needs
@@ -152,7 +153,7 @@ returns-4 c =
       within = l .lies .within;
       reads = label-accepted h (start .args .text .now) (start .args .at) left names (end read + 1) bytes (l .lies)
           (omega (arith, l .numbered, found .before .before .before .if1 .left)) (fresh names e f g);
-      kept = c .before .before .write-name .ensures ∙ ap₂ (λ x y. pasted x (count * 16) (counted y)) g (sym (l .name))
+      kept = c .before .before .write-name .ensures ∙ ap₂ (λ x y. pasted x (count * nameSlotLength) (counted y)) g (sym (l .name))
           ∙ name-written names (drop 7 bytes) count e (start .pre .1 .1) f (name-short (drop 7 bytes) named .1);
     }
 

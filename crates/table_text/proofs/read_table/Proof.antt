@@ -10,7 +10,7 @@ use Rattle.table_text.proofs.Laws.Tables.{header-refused, header-out-of
 use Rattle.table_text.proofs.Laws.Readings.{refuses-whole}
 use Rattle.lts.specs.Slots.{headBytes}
 use Rattle.lts.specs.Reading.{Header, headerInRange, readLabels, readTable}
-use Rattle.table_lines.specs.LineReplies.{header, HeaderSays}
+use Rattle.table_lines.specs.LineReplies.{header, HeaderAnswer}
 use Rattle.table_text.specs.Progress.{LabelsRead, NamesRead, TransitionsRead}
 use Rattle.lts.specs.Reply.{overwritten}
 use Rattle.table_text.proofs.read_table.Statement.{statement}
@@ -34,7 +34,7 @@ bounds c = header-bounds (fields c) (in-range c)
 
 labels-left : (c : tie.Else2) → readTable (text c) ≡ readLabels (fields c) (fields c .labels) [] (drop 25 (text c))
 labels-left c =
-    let (l, lies, values) = subst (HeaderSays (text c)) (c .before .before .before .counts .given .1) (c .before .before .before .before .before .header-line .ensures) in
+    let (l, lies, values) = subst (HeaderAnswer (text c)) (c .before .before .before .counts .given .1) (c .before .before .before .before .before .header-line .ensures) in
     header-accepted (text c) l lies (fields c) values (in-range c)
 
 -- All names read.
@@ -66,7 +66,7 @@ returns-2 : tie.Need-returns-2
 returns-2 c =
     let a = c .before .before .before .before .before .before .args in
     let s = a .text .now in
-    refused-replies s (a .table .now) (c .before .before .before .if1 .left) (header-refused s (subst (HeaderSays s) (c .enum-told .given .1) (c .before .before .header-line .ensures)))
+    refused-replies s (a .table .now) (c .before .before .before .if1 .left) (header-refused s (subst (HeaderAnswer s) (c .enum-told .given .1) (c .before .before .header-line .ensures)))
 
 header-in-range-requires : tie.Need-header-in-range-requires
 header-in-range-requires c κs = search needs
@@ -76,7 +76,7 @@ returns-3 c =
     let a = c .before .before .before .before .before .before .before .before .before .args in
     let s = a .text .now in
     let h = header (c .before .before .before .counts .given .0 .0) in
-    let (l, lies, values) = subst (HeaderSays s) (c .before .before .before .counts .given .1) (c .before .before .before .before .before .header-line .ensures) in
+    let (l, lies, values) = subst (HeaderAnswer s) (c .before .before .before .counts .given .1) (c .before .before .before .before .before .header-line .ensures) in
     refused-replies s (a .table .now) (c .before .before .before .before .before .before .if1 .left) (header-out-of-range s l lies h values (sym (c .before .header-in-range .ensures) ∙ not-true _ (c .if2 .taken)))
 
 slice-aggregate-read-labels : tie.Need-slice-aggregate-read-labels
@@ -85,7 +85,7 @@ slice-aggregate-read-labels c = search needs
 read-labels-requires : tie.Need-read-labels-requires
 read-labels-requires c κs =
     let s = text (c .before) in
-    let (l, lies, values) = subst (HeaderSays s) (c .before .before .before .before .counts .given .1) (c .before .before .before .before .before .before .header-line .ensures) in
+    let (l, lies, values) = subst (HeaderAnswer s) (c .before .before .before .before .counts .given .1) (c .before .before .before .before .before .before .header-line .ensures) in
     (lies .within, (refl, bounds (c .before) .labels))
 
 enum-known-labels-read : tie.Need-enum-known-labels-read

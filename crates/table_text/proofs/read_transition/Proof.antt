@@ -5,10 +5,11 @@ use mathlib.Core.Bool.{true}
 use borrow.Author.Tests.{not-true, not-false}
 use Prim.Native.Nat.{_+_, _*_}
 use native.Mathlib.Omega.{arith}
+use Rattle.lts.specs.Sizes.{transitionLength}
 use Rattle.table_text.proofs.Laws.Progress.{transition-refused, transition-out-of-range, transition-not-rising, transition-accepted, in-range}
 use Rattle.lts.proofs.Laws.SlotBytes.{step-written, rises-stored}
 use Rattle.columns.specs.Write.{pasted}
-use Rattle.table_lines.specs.LineReplies.{TransitionSays, header}
+use Rattle.table_lines.specs.LineReplies.{TransitionAnswer, header}
 use Rattle.tables.specs.Access.{stepIn}
 use Rattle.lts.specs.Reading.{stepInRange}
 use Rattle.lts.specs.Prepared.{transitionSlot}
@@ -24,8 +25,8 @@ entry c = c .before .before .before .before .before .before .before
 abbrev read : tie.After-known-told → Transition
 read c = c .before .t .given .0 .0
 
-says : (c : tie.After-known-told) → TransitionSays (entry c .args .text .now) (entry c .args .at) (Row (read c))
-says c = subst (TransitionSays (entry c .args .text .now) (entry c .args .at)) (c .before .t .given .1) (c .before .before .before .transition-line .ensures)
+says : (c : tie.After-known-told) → TransitionAnswer (entry c .args .text .now) (entry c .args .at) (Row (read c))
+says c = subst (TransitionAnswer (entry c .args .text .now) (entry c .args .at)) (c .before .t .given .1) (c .before .before .before .transition-line .ensures)
 
 -- A transition in range, and whether it rises.
 abbrev known : tie.Else1 → tie.After-known-told
@@ -54,7 +55,7 @@ returns c =
     let a = c .before .before .before .before .before .before .args in
     let s = a .text .now in
     λ left names steps e f g. transition-refused (header (a .counts)) s (a .at) left names steps _ (omega arith)
-    (subst (TransitionSays s (a .at)) (c .enum-told .given .1) (c .before .before .transition-line .ensures))
+    (subst (TransitionAnswer s (a .at)) (c .enum-told .given .1) (c .before .before .transition-line .ensures))
 
 transition-in-range-requires : tie.Need-transition-in-range-requires
 transition-in-range-requires c κs = search needs
@@ -111,7 +112,7 @@ returns-4 c =
       within = lies .within;
       reads = transition-accepted (header (a .counts)) (a .text .now) (a .at) left names steps (a .at + 19) l lies t values (in-bounds ranged)
           (sym (rises-stored (a .slots .now) (a .count) steps t f g) ∙ sym (risen .before .rises .ensures) ∙ not-false _ (risen .if2 .left));
-      kept = c .before .before .write-transition .ensures ∙ ap (λ b. pasted b (a .count * 3) (transitionSlot t)) g ∙ step-written steps t (a .count) f (start .pre .0 .1 .1);
+      kept = c .before .before .write-transition .ensures ∙ ap (λ b. pasted b (a .count * transitionLength) (transitionSlot t)) g ∙ step-written steps t (a .count) f (start .pre .0 .1 .1);
     }
 
 pub read-transition-spec : {M : Type 1} → statement M

@@ -3,6 +3,7 @@ use mathlib.Core.Path.{_≡_, sym, ap, _∙_, subst}
 use Prim.Native.Nat.{_+_, _*_, _<_}
 use native.Mathlib.Omega.{arith}
 use borrow.Author.Tests.{not-true, not-false}
+use Rattle.actl.specs.Sizes.{nodeSlotLength}
 use Rattle.lts.specs.Answers.{Decides}
 use Rattle.actl.specs.Check.{slotsFit, zerosFrom, SpelledClassed}
 use Rattle.formulas.proofs.Laws.Decided.{short-bytes, many-nodes, slots-foreign, not-zeros, decided}
@@ -41,7 +42,7 @@ returns-4 : tie.Need-returns-4
 returns-4 c =
     let n = c .before .before .before .before .before .before .before .before .args .labels in
     let b = c .before .before .before .before .before .before .before .before .args .formula .now in
-    not-zeros n b (sym (ap (λ k. zerosFrom b (1 + k * 17)) (c .before .before .before .before .before .node-count .ensures)) ∙ (sym (c .before .zeros-from .ensures) ∙ not-true (c .before .zeros-from .result) (c .if4 .taken)))
+    not-zeros n b (sym (ap (λ k. zerosFrom b (1 + k * nodeSlotLength)) (c .before .before .before .before .before .node-count .ensures)) ∙ (sym (c .before .zeros-from .ensures) ∙ not-true (c .before .zeros-from .result) (c .if4 .taken)))
 
 spelled-requires : tie.Need-spelled-requires
 spelled-requires c κs = search needs
@@ -54,7 +55,7 @@ returns-5 c =
     let few = c .before .before .before .before .before .if2 .left in
     decided n b (c .before .before .before .before .before .before .before .if1 .left) (λ i. c .before .before .before .before .before .before .before .before .shared-slice-known .given i .fits) (omega arith)
     (sym (ap (slotsFit n b) count) ∙ (sym (c .before .before .before .before .slots-fit .ensures) ∙ not-false (c .before .before .before .before .slots-fit .result) (c .before .before .before .if3 .left)))
-    (sym (ap (λ k. zerosFrom b (1 + k * 17)) count) ∙ (sym (c .before .before .zeros-from .ensures) ∙ not-false (c .before .before .zeros-from .result) (c .before .if4 .left)))
+    (sym (ap (λ k. zerosFrom b (1 + k * nodeSlotLength)) count) ∙ (sym (c .before .before .zeros-from .ensures) ∙ not-false (c .before .before .zeros-from .result) (c .before .if4 .left)))
     (c .spelled .result)
     (subst (λ k. Decides (SpelledClassed b k) (c .spelled .result)) count (c .spelled .ensures))
 

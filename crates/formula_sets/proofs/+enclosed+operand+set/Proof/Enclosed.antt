@@ -6,9 +6,9 @@ use mathlib.Core.Logic.{inl, inr}
 use Prim.Native.Nat.{ℕ}
 use native.Mathlib.Omega.{arith}
 use borrow.Author.Needs.{needs}
-use Rattle.formula_cursor.specs.CursorReplies.{MarkSays}
+use Rattle.formula_cursor.specs.CursorReplies.{MarkAnswer}
 use Rattle.actl.specs.Readers.{namesIn}
-use Rattle.formula_sets.specs.SetReplies.{SetSays}
+use Rattle.formula_sets.specs.SetReplies.{SetAnswer}
 use Rattle.formula_sets.proofs.+enclosed+operand+set.Proof.Measures.{enclosed-at, enclosed-claims}
 
 pub enclosed-set-requires : (t : ℕ) → enclosed-lts.Need-set-requires (enclosed-claims t) (enclosed-at t) enclosed.Post
@@ -41,8 +41,8 @@ enclosed-returns t c =
     inr (record {
       mask = _;
       left = _;
-      contents = subst (SetSays N s at (a .lost)) (c .before .before .before .before .x2 .given .1) (c .before .before .before .before .before .before .set .ensures);
-      other = subst (MarkSays s e (a .mark)) (c .enum-told .given .1) (c .before .before .mark .ensures);
+      contents = subst (SetAnswer N s at (a .lost)) (c .before .before .before .before .x2 .given .1) (c .before .before .before .before .before .before .set .ensures);
+      other = subst (MarkAnswer s e (a .mark)) (c .enum-told .given .1) (c .before .before .mark .ensures);
     })
 
 pub enclosed-returns-2 : (t : ℕ) → enclosed-lts.Need-returns-2 (enclosed-claims t) (enclosed-at t) enclosed.Post
@@ -51,7 +51,7 @@ enclosed-returns-2 t c =
     let N = namesIn (a .table .now) in
     let s = a .text .now in
     let at = a .c .at in
-    inl (subst (SetSays N s at (a .lost)) (c .before .x .given .1) (c .before .before .before .set .ensures))
+    inl (subst (SetAnswer N s at (a .lost)) (c .before .x .given .1) (c .before .before .before .set .ensures))
 
 pub enclosed-returns-3 : (t : ℕ) → enclosed-lts.Need-returns-3 (enclosed-claims t) (enclosed-at t) enclosed.Post
 enclosed-returns-3 t c =
@@ -60,4 +60,4 @@ enclosed-returns-3 t c =
     let s = a .text .now in
     let at = a .c .at in
     let e = c .before .before .before .before .before .x2 .given .0 .0 .at in
-    record { end = e; contents = subst (SetSays N s at (a .lost)) (c .before .before .before .before .before .x2 .given .1) (c .before .before .before .before .before .before .before .set .ensures); shut = subst (MarkSays s e (a .mark)) (c .before .f .given .1) (c .before .before .before .mark .ensures) }
+    record { end = e; contents = subst (SetAnswer N s at (a .lost)) (c .before .before .before .before .before .x2 .given .1) (c .before .before .before .before .before .before .before .set .ensures); shut = subst (MarkAnswer s e (a .mark)) (c .before .f .given .1) (c .before .before .before .mark .ensures) }

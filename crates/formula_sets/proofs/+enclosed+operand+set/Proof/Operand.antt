@@ -5,9 +5,9 @@ use mathlib.Core.Path.{subst}
 use Prim.Native.Nat.{ℕ}
 use native.Mathlib.Omega.{arith}
 use borrow.Author.Needs.{needs}
-use Rattle.formula_cursor.specs.CursorReplies.{MarkSays, TokenSays, NameSays}
+use Rattle.formula_cursor.specs.CursorReplies.{MarkAnswer, TokenAnswer, NameAnswer}
 use Rattle.actl.specs.Readers.{namesIn}
-use Rattle.formula_sets.specs.SetReplies.{OperandSays}
+use Rattle.formula_sets.specs.SetReplies.{OperandAnswer}
 use Rattle.formula_sets.proofs.ReadingSets.{token-behind, operand-any, operand-stops, except-within, operand-except, except-fails, group-says}
 use Rattle.formula_sets.proofs.+enclosed+operand+set.Proof.Measures.{operand-at, operand-claims}
 
@@ -26,7 +26,7 @@ operand-returns t c =
     let N = namesIn (a .table .now) in
     let s = a .text .now in
     let at = a .c .at in
-    operand-any N s at (a .lost) (subst (MarkSays s at 42) (c .before .before .d .given .1) (c .before .before .before .before .mark .ensures)) (c .all-labels .ensures)
+    operand-any N s at (a .lost) (subst (MarkAnswer s at 42) (c .before .before .d .given .1) (c .before .before .before .before .mark .ensures)) (c .all-labels .ensures)
 
 pub operand-enum-told : (t : ℕ) → operand-lts.Need-enum-told (operand-claims t) (operand-at t) operand.Post
 operand-enum-told t c = search needs
@@ -43,7 +43,7 @@ operand-operand-requires t c κs =
     let s = a .text .now in
     let at = a .c .at in
     let pre = c .before .before .before .before .before .before .before .before .before .pre in
-    let k = subst (TokenSays s at 126) (c .before .d2 .given .1) (c .before .before .before .token .ensures) in
+    let k = subst (TokenAnswer s at 126) (c .before .d2 .given .1) (c .before .before .before .token .ensures) in
     (omega (arith, pre .0, k .skipped .up, k .skipped .within), record { table = pre .1 .table; short = pre .1 .short; token = token-behind k })
 
 pub operand-enum-known-x : (t : ℕ) → operand-lts.Need-enum-known-x (operand-claims t) (operand-at t) operand.Post
@@ -58,8 +58,8 @@ operand-sub-t19 t c =
     let N = namesIn (a .table .now) in
     let s = a .text .now in
     let at = a .c .at in
-    let k = subst (TokenSays s at 126) (c .before .before .before .before .before .before .d2 .given .1) (c .before .before .before .before .before .before .before .before .token .ensures) in
-    let o = subst (OperandSays N s (c .before .before .before .before .before .before .d2 .given .0 .0 .at) (a .lost)) (c .before .before .x .given .1) (c .before .before .before .before .operand .ensures) in
+    let k = subst (TokenAnswer s at 126) (c .before .before .before .before .before .before .d2 .given .1) (c .before .before .before .before .before .before .before .before .token .ensures) in
+    let o = subst (OperandAnswer N s (c .before .before .before .before .before .before .d2 .given .0 .0 .at) (a .lost)) (c .before .before .x .given .1) (c .before .before .before .before .operand .ensures) in
     except-within N s at (a .lost) k o (c .all-labels2 .ensures)
 
 pub operand-enum-known-x-2 : (t : ℕ) → operand-lts.Need-enum-known-x-2 (operand-claims t) (operand-at t) operand.Post
@@ -71,8 +71,8 @@ operand-returns-2 t c =
     let N = namesIn (a .table .now) in
     let s = a .text .now in
     let at = a .c .at in
-    let k = subst (TokenSays s at 126) (c .before .before .before .before .before .before .d2 .given .1) (c .before .before .before .before .before .before .before .before .token .ensures) in
-    let o = subst (OperandSays N s (c .before .before .before .before .before .before .d2 .given .0 .0 .at) (a .lost)) (c .before .before .x .given .1) (c .before .before .before .before .operand .ensures) in
+    let k = subst (TokenAnswer s at 126) (c .before .before .before .before .before .before .d2 .given .1) (c .before .before .before .before .before .before .before .before .token .ensures) in
+    let o = subst (OperandAnswer N s (c .before .before .before .before .before .before .d2 .given .0 .0 .at) (a .lost)) (c .before .before .x .given .1) (c .before .before .before .before .operand .ensures) in
     operand-except N s at (a .lost) k o (c .all-labels2 .ensures)
 
 pub operand-returns-3 : (t : ℕ) → operand-lts.Need-returns-3 (operand-claims t) (operand-at t) operand.Post
@@ -81,8 +81,8 @@ operand-returns-3 t c =
     let N = namesIn (a .table .now) in
     let s = a .text .now in
     let at = a .c .at in
-    let k = subst (TokenSays s at 126) (c .before .before .before .before .before .d2 .given .1) (c .before .before .before .before .before .before .before .token .ensures) in
-    let o = subst (OperandSays N s (c .before .before .before .before .before .d2 .given .0 .0 .at) (a .lost)) (c .before .x2 .given .1) (c .before .before .before .operand .ensures) in
+    let k = subst (TokenAnswer s at 126) (c .before .before .before .before .before .d2 .given .1) (c .before .before .before .before .before .before .before .token .ensures) in
+    let o = subst (OperandAnswer N s (c .before .before .before .before .before .d2 .given .0 .0 .at) (a .lost)) (c .before .x2 .given .1) (c .before .before .before .operand .ensures) in
     except-fails N s at (a .lost) k o
 
 pub operand-enum-told-2 : (t : ℕ) → operand-lts.Need-enum-told-2 (operand-claims t) (operand-at t) operand.Post
@@ -100,7 +100,7 @@ operand-enclosed-requires t c κs =
     let s = a .text .now in
     let at = a .c .at in
     let pre = c .before .before .before .before .before .before .before .before .before .before .before .before .pre in
-    let k = subst (TokenSays s at 40) (c .before .d3 .given .1) (c .before .before .before .token2 .ensures) in
+    let k = subst (TokenAnswer s at 40) (c .before .d3 .given .1) (c .before .before .before .token2 .ensures) in
     (omega (arith, pre .0, k .skipped .up, k .skipped .within), record { table = pre .1 .table; short = pre .1 .short; token = token-behind k })
 
 pub operand-returns-4 : (t : ℕ) → operand-lts.Need-returns-4 (operand-claims t) (operand-at t) operand.Post
@@ -109,7 +109,7 @@ operand-returns-4 t c =
     let N = namesIn (a .table .now) in
     let s = a .text .now in
     let at = a .c .at in
-    let k = subst (TokenSays s at 40) (c .before .before .d3 .given .1) (c .before .before .before .before .token2 .ensures) in
+    let k = subst (TokenAnswer s at 40) (c .before .before .d3 .given .1) (c .before .before .before .before .token2 .ensures) in
     group-says N s at (a .lost) k (c .enclosed .result) (c .enclosed .ensures)
 
 pub operand-enum-told-3 : (t : ℕ) → operand-lts.Need-enum-told-3 (operand-claims t) (operand-at t) operand.Post
@@ -127,7 +127,7 @@ operand-label-requires t c κs =
     let s = a .text .now in
     let at = a .c .at in
     let pre = c .before .before .before .before .before .before .before .before .before .before .before .before .before .before .before .pre in
-    (pre .1, subst (NameSays s at) (c .before .d4 .given .1) (c .before .before .before .name .ensures))
+    (pre .1, subst (NameAnswer s at) (c .before .d4 .given .1) (c .before .before .before .name .ensures))
 
 pub operand-returns-5 : (t : ℕ) → operand-lts.Need-returns-5 (operand-claims t) (operand-at t) operand.Post
 operand-returns-5 t c = c .label .ensures
@@ -143,7 +143,7 @@ operand-returns-6 t c =
     let at = a .c .at in
     let pre = c .before .before .before .before .before .before .before .before .before .before .before .before .before .before .pre in
     operand-stops N s at (a .lost) (pre .1 .token)
-    (subst (MarkSays s at 42) (c .before .before .before .before .before .before .before .before .before .enum-told .given .1) (c .before .before .before .before .before .before .before .before .before .before .before .mark .ensures))
-    (subst (TokenSays s at 126) (c .before .before .before .before .before .before .enum-told2 .given .1) (c .before .before .before .before .before .before .before .before .token .ensures))
-    (subst (TokenSays s at 40) (c .before .before .before .enum-told3 .given .1) (c .before .before .before .before .before .token2 .ensures))
-    (subst (NameSays s at) (c .enum-told4 .given .1) (c .before .before .name .ensures))
+    (subst (MarkAnswer s at 42) (c .before .before .before .before .before .before .before .before .before .enum-told .given .1) (c .before .before .before .before .before .before .before .before .before .before .before .mark .ensures))
+    (subst (TokenAnswer s at 126) (c .before .before .before .before .before .before .enum-told2 .given .1) (c .before .before .before .before .before .before .before .before .token .ensures))
+    (subst (TokenAnswer s at 40) (c .before .before .before .enum-told3 .given .1) (c .before .before .before .before .before .token2 .ensures))
+    (subst (NameAnswer s at) (c .enum-told4 .given .1) (c .before .before .name .ensures))

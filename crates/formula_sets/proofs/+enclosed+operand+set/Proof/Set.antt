@@ -6,9 +6,9 @@ use Prim.Native.Nat.{ℕ, _-_}
 use native.Mathlib.Omega.{arith}
 use borrow.Author.Needs.{needs}
 use lib.ListN.{length}
-use Rattle.formula_cursor.specs.CursorReplies.{TokenSays}
+use Rattle.formula_cursor.specs.CursorReplies.{TokenAnswer}
 use Rattle.actl.specs.Readers.{namesIn}
-use Rattle.formula_sets.specs.SetReplies.{OperandSays}
+use Rattle.formula_sets.specs.SetReplies.{OperandAnswer}
 use Rattle.formula_sets.proofs.ReadingSets.{Pending, pending-first, set-fails, set-read, pending-more}
 use Rattle.formula_sets.proofs.+enclosed+operand+set.Proof.Measures.{set-at, set-claims}
 
@@ -42,7 +42,7 @@ set-returns t c =
     let N = namesIn (a .table .now) in
     let s = a .text .now in
     let l = c .before .before .before .before .loop in
-    let o = subst (OperandSays N s (l .d .at) (l .lacks)) (c .before .x .given .1) (c .before .before .before .operand .ensures) in
+    let o = subst (OperandAnswer N s (l .d .at) (l .lacks)) (c .before .x .given .1) (c .before .before .before .operand .ensures) in
     set-fails (l .inv) o
 
 pub set-enum-known-x-2 : (t : ℕ) → set-lts.Need-enum-known-x-2 (set-claims t) (set-at t) set.Post set-Inv-loop set-μ-loop
@@ -54,7 +54,7 @@ set-skip-blanks-requires t c κs =
     let N = namesIn (a .table .now) in
     let s = a .text .now in
     let l = c .before .before .before .before .loop in
-    let o = subst (OperandSays N s (l .d .at) (l .lacks)) (c .before .x2 .given .1) (c .before .before .before .operand .ensures) in
+    let o = subst (OperandAnswer N s (l .d .at) (l .lacks)) (c .before .x2 .given .1) (c .before .before .before .operand .ensures) in
     o .moves .within
 
 pub set-token-requires : (t : ℕ) → set-lts.Need-token-requires (set-claims t) (set-at t) set.Post set-Inv-loop set-μ-loop
@@ -72,9 +72,9 @@ set-returns-2 t c =
     let N = namesIn (a .table .now) in
     let s = a .text .now in
     let l = c .before .before .before .before .before .before .before .before .loop in
-    let o = subst (OperandSays N s (l .d .at) (l .lacks)) (c .before .before .before .before .before .x2 .given .1) (c .before .before .before .before .before .before .before .operand .ensures) in
+    let o = subst (OperandAnswer N s (l .d .at) (l .lacks)) (c .before .before .before .before .before .x2 .given .1) (c .before .before .before .before .before .before .before .operand .ensures) in
     let f = c .before .before .before .skip-blanks .result .at in
-    set-read (l .inv) o (c .before .before .before .skip-blanks .ensures) (subst (TokenSays s f 124) (c .enum-told .given .1) (c .before .before .token .ensures))
+    set-read (l .inv) o (c .before .before .before .skip-blanks .ensures) (subst (TokenAnswer s f 124) (c .enum-told .given .1) (c .before .before .token .ensures))
 
 pub set-loop-less : (t : ℕ) → set-lts.Need-loop-less (set-claims t) (set-at t) set.Post set-Inv-loop set-μ-loop
 set-loop-less t c =
@@ -83,9 +83,9 @@ set-loop-less t c =
     let s = a .text .now in
     let pre = c .before .before .before .before .before .before .before .before .before .before .before .before .pre in
     let l = c .before .before .before .before .before .before .before .before .before .loop in
-    let o = subst (OperandSays N s (l .d .at) (l .lacks)) (c .before .before .before .before .before .before .x2 .given .1) (c .before .before .before .before .before .before .before .before .operand .ensures) in
+    let o = subst (OperandAnswer N s (l .d .at) (l .lacks)) (c .before .before .before .before .before .before .x2 .given .1) (c .before .before .before .before .before .before .before .before .operand .ensures) in
     let b = c .before .before .before .before .skip-blanks .ensures in
-    let k = subst (TokenSays s (c .before .before .before .before .skip-blanks .result .at) 124) (c .before .g .given .1) (c .before .before .before .token .ensures) in
+    let k = subst (TokenAnswer s (c .before .before .before .before .skip-blanks .result .at) 124) (c .before .g .given .1) (c .before .before .before .token .ensures) in
     omega (arith, o .up, b .up, k .skipped .up, k .skipped .within)
 
 pub set-loop-again : (t : ℕ) → set-lts.Need-loop-again (set-claims t) (set-at t) set.Post set-Inv-loop set-μ-loop
@@ -94,7 +94,7 @@ set-loop-again t c =
     let N = namesIn (a .table .now) in
     let s = a .text .now in
     let l = c .before .before .before .before .before .before .before .before .before .loop in
-    let o = subst (OperandSays N s (l .d .at) (l .lacks)) (c .before .before .before .before .before .before .x2 .given .1) (c .before .before .before .before .before .before .before .before .operand .ensures) in
+    let o = subst (OperandAnswer N s (l .d .at) (l .lacks)) (c .before .before .before .before .before .before .x2 .given .1) (c .before .before .before .before .before .before .before .before .operand .ensures) in
     let b = c .before .before .before .before .skip-blanks .ensures in
-    let k = subst (TokenSays s (c .before .before .before .before .skip-blanks .result .at) 124) (c .before .g .given .1) (c .before .before .before .token .ensures) in
+    let k = subst (TokenAnswer s (c .before .before .before .before .skip-blanks .result .at) 124) (c .before .g .given .1) (c .before .before .before .token .ensures) in
     pending-more (l .inv) o b k

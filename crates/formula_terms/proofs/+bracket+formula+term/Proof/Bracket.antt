@@ -6,9 +6,9 @@ use mathlib.Core.Logic.{inl, inr}
 use Prim.Native.Nat.{ℕ}
 use native.Mathlib.Omega.{arith}
 use borrow.Author.Needs.{needs}
-use Rattle.formula_cursor.specs.CursorReplies.{MarkSays}
+use Rattle.formula_cursor.specs.CursorReplies.{MarkAnswer}
 use Rattle.actl.specs.Readers.{namesIn}
-use Rattle.formula_terms.specs.TermReplies.{FormulaSays}
+use Rattle.formula_terms.specs.TermReplies.{FormulaAnswer}
 use Rattle.formula_terms.proofs.+bracket+formula+term.Proof.Measures.{bracket-at, bracket-claims}
 
 pub bracket-formula-requires : (t : ℕ) → bracket-lts.Need-formula-requires (bracket-claims t) (bracket-at t) bracket.Post
@@ -43,8 +43,8 @@ bracket-returns t c =
       end = _;
       m = _;
       left = _;
-      contents = (subst (FormulaSays N s at (a .n) (a .lost) e (c .before .before .before .before .before .before .formula .last .1 .1 .0)) (c .before .before .before .before .x2 .given .1) (c .before .before .before .before .before .before .formula .ensures));
-      other = subst (MarkSays s f 41) (c .enum-told .given .1) (c .before .before .mark .ensures);
+      contents = (subst (FormulaAnswer N s at (a .n) (a .lost) e (c .before .before .before .before .before .before .formula .last .1 .1 .0)) (c .before .before .before .before .x2 .given .1) (c .before .before .before .before .before .before .formula .ensures));
+      other = subst (MarkAnswer s f 41) (c .enum-told .given .1) (c .before .before .mark .ensures);
     })
 
 pub bracket-returns-2 : (t : ℕ) → bracket-lts.Need-returns-2 (bracket-claims t) (bracket-at t) bracket.Post
@@ -54,7 +54,7 @@ bracket-returns-2 t c =
     let s = a .text .now in
     let e = a .cells .now in
     let at = a .c .at in
-    inl (subst (FormulaSays N s at (a .n) (a .lost) e (c .before .before .before .formula .last .1 .1 .0)) (c .before .x .given .1) (c .before .before .before .formula .ensures))
+    inl (subst (FormulaAnswer N s at (a .n) (a .lost) e (c .before .before .before .formula .last .1 .1 .0)) (c .before .x .given .1) (c .before .before .before .formula .ensures))
 
 pub bracket-returns-3 : (t : ℕ) → bracket-lts.Need-returns-3 (bracket-claims t) (bracket-at t) bracket.Post
 bracket-returns-3 t c =
@@ -67,6 +67,6 @@ bracket-returns-3 t c =
     record {
       end = _;
       behind = f;
-      contents = (subst (FormulaSays N s at (a .n) (a .lost) e (c .before .before .before .before .before .before .before .formula .last .1 .1 .0)) (c .before .before .before .before .before .x2 .given .1) (c .before .before .before .before .before .before .before .formula .ensures));
-      shut = subst (MarkSays s f 41) (c .before .f .given .1) (c .before .before .before .mark .ensures);
+      contents = (subst (FormulaAnswer N s at (a .n) (a .lost) e (c .before .before .before .before .before .before .before .formula .last .1 .1 .0)) (c .before .before .before .before .before .x2 .given .1) (c .before .before .before .before .before .before .before .formula .ensures));
+      shut = subst (MarkAnswer s f 41) (c .before .f .given .1) (c .before .before .before .mark .ensures);
     }

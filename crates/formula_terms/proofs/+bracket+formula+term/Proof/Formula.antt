@@ -6,9 +6,9 @@ use Prim.Native.Nat.{ℕ, _-_}
 use native.Mathlib.Omega.{arith}
 use borrow.Author.Needs.{needs}
 use lib.ListN.{length}
-use Rattle.formula_cursor.specs.CursorReplies.{TokenSays}
+use Rattle.formula_cursor.specs.CursorReplies.{TokenAnswer}
 use Rattle.actl.specs.Readers.{namesIn}
-use Rattle.formula_terms.specs.TermReplies.{TermSays}
+use Rattle.formula_terms.specs.TermReplies.{TermAnswer}
 use Rattle.formula_sets.proofs.ReadingChains.{Awaiting, awaiting-first, await-room, formula-fails, formula-read, join-fits, join-above, awaiting-more}
 use Rattle.formula_terms.proofs.+bracket+formula+term.Proof.Measures.{formula-at, formula-claims}
 
@@ -45,7 +45,7 @@ formula-returns t c =
     let pre = c .before .before .before .before .before .before .before .before .pre in
     let l = c .before .before .before .before .before .loop in
     let y = c .before .before .before .term .last .1 .1 .0 in
-    let o = subst (TermSays N s (l .d .at) (l .k) (l .lacks) (l .cells) y) (c .before .x .given .1) (c .before .before .before .term .ensures) in
+    let o = subst (TermAnswer N s (l .d .at) (l .k) (l .lacks) (l .cells) y) (c .before .x .given .1) (c .before .before .before .term .ensures) in
     formula-fails (l .inv) (pre .1 .1) o
 
 pub formula-enum-known-x-2 : (t : ℕ) → formula-lts.Need-enum-known-x-2 (formula-claims t) (formula-at t) formula.Post formula-Inv-loop formula-μ-loop
@@ -58,7 +58,7 @@ formula-skip-blanks-requires t c κs =
     let s = a .text .now in
     let l = c .before .before .before .before .before .loop in
     let y = c .before .before .before .term .last .1 .1 .0 in
-    let o = subst (TermSays N s (l .d .at) (l .k) (l .lacks) (l .cells) y) (c .before .x2 .given .1) (c .before .before .before .term .ensures) in
+    let o = subst (TermAnswer N s (l .d .at) (l .k) (l .lacks) (l .cells) y) (c .before .x2 .given .1) (c .before .before .before .term .ensures) in
     o .moves .within
 
 pub formula-token-requires : (t : ℕ) → formula-lts.Need-token-requires (formula-claims t) (formula-at t) formula.Post formula-Inv-loop formula-μ-loop
@@ -78,9 +78,9 @@ formula-returns-2 t c =
     let pre = c .before .before .before .before .before .before .before .before .before .before .before .before .pre in
     let l = c .before .before .before .before .before .before .before .before .before .loop in
     let y = c .before .before .before .before .before .before .before .term .last .1 .1 .0 in
-    let o = subst (TermSays N s (l .d .at) (l .k) (l .lacks) (l .cells) y) (c .before .before .before .before .before .x2 .given .1) (c .before .before .before .before .before .before .before .term .ensures) in
+    let o = subst (TermAnswer N s (l .d .at) (l .k) (l .lacks) (l .cells) y) (c .before .before .before .before .before .x2 .given .1) (c .before .before .before .before .before .before .before .term .ensures) in
     let f = c .before .before .before .skip-blanks .result .at in
-    formula-read (l .inv) (pre .1 .1) o (c .before .before .before .skip-blanks .ensures) (subst (TokenSays s f 124) (c .enum-told .given .1) (c .before .before .token .ensures))
+    formula-read (l .inv) (pre .1 .1) o (c .before .before .before .skip-blanks .ensures) (subst (TokenAnswer s f 124) (c .enum-told .given .1) (c .before .before .token .ensures))
 
 pub formula-join-requires : (t : ℕ) → formula-lts.Need-join-requires (formula-claims t) (formula-at t) formula.Post formula-Inv-loop formula-μ-loop
 formula-join-requires t c κs =
@@ -90,9 +90,9 @@ formula-join-requires t c κs =
     let pre = c .before .before .before .before .before .before .before .before .before .before .before .before .before .before .pre in
     let l = c .before .before .before .before .before .before .before .before .before .before .before .loop in
     let y = c .before .before .before .before .before .before .before .before .before .term .last .1 .1 .0 in
-    let o = subst (TermSays N s (l .d .at) (l .k) (l .lacks) (l .cells) y) (c .before .before .before .before .before .before .before .x2 .given .1) (c .before .before .before .before .before .before .before .before .before .term .ensures) in
+    let o = subst (TermAnswer N s (l .d .at) (l .k) (l .lacks) (l .cells) y) (c .before .before .before .before .before .before .before .x2 .given .1) (c .before .before .before .before .before .before .before .before .before .term .ensures) in
     let b = c .before .before .before .before .before .skip-blanks .ensures in
-    let g = subst (TokenSays s (c .before .before .before .before .before .skip-blanks .result .at) 124) (c .before .before .g .given .1) (c .before .before .before .before .token .ensures) in
+    let g = subst (TokenAnswer s (c .before .before .before .before .before .skip-blanks .result .at) 124) (c .before .before .g .given .1) (c .before .before .before .before .token .ensures) in
     let h = pre .1 .1 in
     (o .written .long ∙ await-room (l .inv) h .long, join-above (l .inv) h o b g (pre .1 .0 .short), join-fits (l .inv) h o b g (pre .1 .0 .short))
 
@@ -104,9 +104,9 @@ formula-add-k t c =
     let pre = c .before .before .before .before .before .before .before .before .before .before .before .before .before .before .before .pre in
     let l = c .before .before .before .before .before .before .before .before .before .before .before .before .loop in
     let y = c .before .before .before .before .before .before .before .before .before .before .term .last .1 .1 .0 in
-    let o = subst (TermSays N s (l .d .at) (l .k) (l .lacks) (l .cells) y) (c .before .before .before .before .before .before .before .before .x2 .given .1) (c .before .before .before .before .before .before .before .before .before .before .term .ensures) in
+    let o = subst (TermAnswer N s (l .d .at) (l .k) (l .lacks) (l .cells) y) (c .before .before .before .before .before .before .before .before .x2 .given .1) (c .before .before .before .before .before .before .before .before .before .before .term .ensures) in
     let b = c .before .before .before .before .before .before .skip-blanks .ensures in
-    let g = subst (TokenSays s (c .before .before .before .before .before .before .skip-blanks .result .at) 124) (c .before .before .before .g .given .1) (c .before .before .before .before .before .token .ensures) in
+    let g = subst (TokenAnswer s (c .before .before .before .before .before .before .skip-blanks .result .at) 124) (c .before .before .before .g .given .1) (c .before .before .before .before .before .token .ensures) in
     omega (arith, join-fits (l .inv) (pre .1 .1) o b g (pre .1 .0 .short))
 
 pub formula-loop-less : (t : ℕ) → formula-lts.Need-loop-less (formula-claims t) (formula-at t) formula.Post formula-Inv-loop formula-μ-loop
@@ -117,9 +117,9 @@ formula-loop-less t c =
     let pre = c .before .before .before .before .before .before .before .before .before .before .before .before .before .before .before .pre in
     let l = c .before .before .before .before .before .before .before .before .before .before .before .before .loop in
     let y = c .before .before .before .before .before .before .before .before .before .before .term .last .1 .1 .0 in
-    let o = subst (TermSays N s (l .d .at) (l .k) (l .lacks) (l .cells) y) (c .before .before .before .before .before .before .before .before .x2 .given .1) (c .before .before .before .before .before .before .before .before .before .before .term .ensures) in
+    let o = subst (TermAnswer N s (l .d .at) (l .k) (l .lacks) (l .cells) y) (c .before .before .before .before .before .before .before .before .x2 .given .1) (c .before .before .before .before .before .before .before .before .before .before .term .ensures) in
     let b = c .before .before .before .before .before .before .skip-blanks .ensures in
-    let g = subst (TokenSays s (c .before .before .before .before .before .before .skip-blanks .result .at) 124) (c .before .before .before .g .given .1) (c .before .before .before .before .before .token .ensures) in
+    let g = subst (TokenAnswer s (c .before .before .before .before .before .before .skip-blanks .result .at) 124) (c .before .before .before .g .given .1) (c .before .before .before .before .before .token .ensures) in
     omega (arith, o .up, b .up, g .skipped .up, g .skipped .within)
 
 pub formula-loop-again : (t : ℕ) → formula-lts.Need-loop-again (formula-claims t) (formula-at t) formula.Post formula-Inv-loop formula-μ-loop
@@ -130,7 +130,7 @@ formula-loop-again t c =
     let pre = c .before .before .before .before .before .before .before .before .before .before .before .before .before .before .before .pre in
     let l = c .before .before .before .before .before .before .before .before .before .before .before .before .loop in
     let y = c .before .before .before .before .before .before .before .before .before .before .term .last .1 .1 .0 in
-    let o = subst (TermSays N s (l .d .at) (l .k) (l .lacks) (l .cells) y) (c .before .before .before .before .before .before .before .before .x2 .given .1) (c .before .before .before .before .before .before .before .before .before .before .term .ensures) in
+    let o = subst (TermAnswer N s (l .d .at) (l .k) (l .lacks) (l .cells) y) (c .before .before .before .before .before .before .before .before .x2 .given .1) (c .before .before .before .before .before .before .before .before .before .before .term .ensures) in
     let b = c .before .before .before .before .before .before .skip-blanks .ensures in
-    let g = subst (TokenSays s (c .before .before .before .before .before .before .skip-blanks .result .at) 124) (c .before .before .before .g .given .1) (c .before .before .before .before .before .token .ensures) in
+    let g = subst (TokenAnswer s (c .before .before .before .before .before .before .skip-blanks .result .at) 124) (c .before .before .before .g .given .1) (c .before .before .before .before .before .token .ensures) in
     awaiting-more (l .inv) (pre .1 .1) o b g (pre .1 .0 .short) (c .join .ensures)

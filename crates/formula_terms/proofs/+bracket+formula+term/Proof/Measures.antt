@@ -1,6 +1,7 @@
 -- The measures of the readers, which are the unread bytes, and what each may ask of the others.
 use borrow.Fn.Kinds.{In}
 use borrow.Fn.PlainCycle.{Measures, is, falls, and}
+use Rattle.actl.specs.Sizes.{cellLength}
 use Rattle.formula_terms.proofs.bracket.Reads as bracket
 use Rattle.formula_terms.proofs.bracket.Kinds as bracket-kinds
 use Rattle.formula_terms.proofs.+bracket+formula+term.Lts-bracket as bracket-lts
@@ -20,13 +21,13 @@ use Prim.Native.Nat.{ℕ, _+_, _*_, _-_, _<_}
 use lib.ListN.{length}
 
 abbrev pub μ-bracket : Measures 3 bracket-kinds.ps ℕ
-μ-bracket κs a = (length (a .1 .0 .now) - a .1 .1 .1 .0 .at) * 3 + 2
+μ-bracket κs a = (length (a .1 .0 .now) - a .1 .1 .1 .0 .at) * cellLength + 2
 
 abbrev pub μ-formula : Measures 3 formula-kinds.ps ℕ
-μ-formula κs a = (length (a .1 .0 .now) - a .1 .1 .1 .0 .at) * 3 + 1
+μ-formula κs a = (length (a .1 .0 .now) - a .1 .1 .1 .0 .at) * cellLength + 1
 
 abbrev pub μ-term : Measures 3 term-kinds.ps ℕ
-μ-term κs a = (length (a .1 .0 .now) - a .1 .1 .1 .0 .at) * 3
+μ-term κs a = (length (a .1 .0 .now) - a .1 .1 .1 .0 .at) * cellLength
 
 abbrev pub bracket-at : ℕ → In 3 bracket-kinds.ps
 bracket-at t = and 3 bracket-kinds.ps (is 3 bracket-kinds.ps μ-bracket t) bracket.Pre

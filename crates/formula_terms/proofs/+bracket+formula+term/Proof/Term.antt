@@ -5,9 +5,9 @@ use mathlib.Core.Path.{subst}
 use Prim.Native.Nat.{ℕ}
 use native.Mathlib.Omega.{arith}
 use borrow.Author.Needs.{needs}
-use Rattle.formula_cursor.specs.CursorReplies.{MarkSays, TokenSays}
+use Rattle.formula_cursor.specs.CursorReplies.{MarkAnswer, TokenAnswer}
 use Rattle.actl.specs.Readers.{namesIn}
-use Rattle.formula_heads.specs.HeadReplies.{HeadSays}
+use Rattle.formula_heads.specs.HeadReplies.{HeadAnswer}
 use Rattle.formula_cursor.proofs.ReadingMoves.{skipped-token}
 use Rattle.formula_sets.proofs.ReadingSets.{token-behind}
 use Rattle.formula_terms.proofs.ReadingTerms.{node-fits, term-true, inner-room, token-fits, arm-room, term-not, term-paren, head-fits, head-up, term-modal}
@@ -27,7 +27,7 @@ term-put-requires t c κs =
     let e = a .cells .now in
     let at = a .c .at in
     let pre = c .before .before .before .before .before .before .before .pre in
-    let k = subst (MarkSays s at 84) (c .before .before .d .given .1) (c .before .before .before .before .mark .ensures) in
+    let k = subst (MarkAnswer s at 84) (c .before .before .d .given .1) (c .before .before .before .before .mark .ensures) in
     (pre .1 .1 .long, node-fits N s at (a .n) (a .lost) e (pre .1 .1) (pre .1 .0 .short) (k .within))
 
 pub term-add-t21 : (t : ℕ) → term-lts.Need-add-t21 (term-claims t) (term-at t) term.Post
@@ -38,7 +38,7 @@ term-add-t21 t c =
     let e = a .cells .now in
     let at = a .c .at in
     let pre = c .before .before .before .before .before .before .before .before .pre in
-    let k = subst (MarkSays s at 84) (c .before .before .before .d .given .1) (c .before .before .before .before .before .mark .ensures) in
+    let k = subst (MarkAnswer s at 84) (c .before .before .before .d .given .1) (c .before .before .before .before .before .mark .ensures) in
     omega (arith, node-fits N s at (a .n) (a .lost) e (pre .1 .1) (pre .1 .0 .short) (k .within))
 
 pub term-returns : (t : ℕ) → term-lts.Need-returns (term-claims t) (term-at t) term.Post
@@ -49,7 +49,7 @@ term-returns t c =
     let e = a .cells .now in
     let at = a .c .at in
     let pre = c .before .before .before .before .before .before .before .before .pre in
-    let k = subst (MarkSays s at 84) (c .before .before .before .d .given .1) (c .before .before .before .before .before .mark .ensures) in
+    let k = subst (MarkAnswer s at 84) (c .before .before .before .d .given .1) (c .before .before .before .before .before .mark .ensures) in
     term-true N s at (a .n) (a .lost) e (pre .1 .1) (pre .1 .0 .short) k (c .put .ensures)
 
 pub term-enum-told : (t : ℕ) → term-lts.Need-enum-told (term-claims t) (term-at t) term.Post
@@ -69,7 +69,7 @@ term-put-requires-2 t c κs =
     let e = a .cells .now in
     let at = a .c .at in
     let pre = c .before .before .before .before .before .before .before .before .before .before .pre in
-    let k = subst (TokenSays s at 126) (c .before .before .d2 .given .1) (c .before .before .before .before .token .ensures) in
+    let k = subst (TokenAnswer s at 126) (c .before .before .d2 .given .1) (c .before .before .before .before .token .ensures) in
     (pre .1 .1 .long, token-fits N s at (a .n) (a .lost) e (pre .1 .1) (pre .1 .0 .short) k)
 
 pub term-add-term : (t : ℕ) → term-lts.Need-add-term (term-claims t) (term-at t) term.Post
@@ -80,7 +80,7 @@ term-add-term t c =
     let e = a .cells .now in
     let at = a .c .at in
     let pre = c .before .before .before .before .before .before .before .before .before .before .before .before .pre in
-    let k = subst (TokenSays s at 126) (c .before .before .before .before .d2 .given .1) (c .before .before .before .before .before .before .token .ensures) in
+    let k = subst (TokenAnswer s at 126) (c .before .before .before .before .d2 .given .1) (c .before .before .before .before .before .before .token .ensures) in
     omega (arith, token-fits N s at (a .n) (a .lost) e (pre .1 .1) (pre .1 .0 .short) k)
 
 pub term-term-requires : (t : ℕ) → term-lts.Need-term-requires (term-claims t) (term-at t) term.Post
@@ -91,7 +91,7 @@ term-term-requires t c κs =
     let e = a .cells .now in
     let at = a .c .at in
     let pre = c .before .before .before .before .before .before .before .before .before .before .before .before .pre in
-    let k = subst (TokenSays s at 126) (c .before .before .before .before .d2 .given .1) (c .before .before .before .before .before .before .token .ensures) in
+    let k = subst (TokenAnswer s at 126) (c .before .before .before .before .d2 .given .1) (c .before .before .before .before .before .before .token .ensures) in
     let u = k .skipped .up in
     (omega (arith, pre .0, k .skipped .within), (record { table = pre .1 .0 .table; short = pre .1 .0 .short; token = token-behind k }, arm-room N s at (a .n) (a .lost) e (pre .1 .1) (pre .1 .0 .short) 2 0 0 (token-fits N s at (a .n) (a .lost) e (pre .1 .1) (pre .1 .0 .short) k) (c .before .put2 .ensures) (omega arith)))
 
@@ -103,7 +103,7 @@ term-returns-2 t c =
     let e = a .cells .now in
     let at = a .c .at in
     let pre = c .before .before .before .before .before .before .before .before .before .before .before .before .before .pre in
-    let k = subst (TokenSays s at 126) (c .before .before .before .before .before .d2 .given .1) (c .before .before .before .before .before .before .before .token .ensures) in
+    let k = subst (TokenAnswer s at 126) (c .before .before .before .before .before .d2 .given .1) (c .before .before .before .before .before .before .before .token .ensures) in
     term-not N s at (a .n) (a .lost) e (pre .1 .1) (pre .1 .0 .short) k (c .before .before .put2 .ensures) (c .term .last .1 .1 .0) (c .term .result) (c .term .ensures)
 
 pub term-enum-told-2 : (t : ℕ) → term-lts.Need-enum-told-2 (term-claims t) (term-at t) term.Post
@@ -123,7 +123,7 @@ term-bracket-requires t c κs =
     let e = a .cells .now in
     let at = a .c .at in
     let pre = c .before .before .before .before .before .before .before .before .before .before .before .before .before .pre in
-    let k = subst (TokenSays s at 40) (c .before .before .d3 .given .1) (c .before .before .before .before .token2 .ensures) in
+    let k = subst (TokenAnswer s at 40) (c .before .before .d3 .given .1) (c .before .before .before .before .token2 .ensures) in
     (omega (arith, pre .0, k .skipped .up, k .skipped .within), (record { table = pre .1 .0 .table; short = pre .1 .0 .short; token = token-behind k }, inner-room N s at (a .n) (a .lost) e (pre .1 .1) (pre .1 .0 .short) k))
 
 pub term-returns-3 : (t : ℕ) → term-lts.Need-returns-3 (term-claims t) (term-at t) term.Post
@@ -134,7 +134,7 @@ term-returns-3 t c =
     let e = a .cells .now in
     let at = a .c .at in
     let pre = c .before .before .before .before .before .before .before .before .before .before .before .before .before .before .pre in
-    let k = subst (TokenSays s at 40) (c .before .before .before .d3 .given .1) (c .before .before .before .before .before .token2 .ensures) in
+    let k = subst (TokenAnswer s at 40) (c .before .before .before .d3 .given .1) (c .before .before .before .before .before .token2 .ensures) in
     term-paren N s at (a .n) (a .lost) e (pre .1 .1) (pre .1 .0 .short) k (c .bracket .last .1 .1 .0) (c .bracket .result) (c .bracket .ensures)
 
 pub term-enum-told-3 : (t : ℕ) → term-lts.Need-enum-told-3 (term-claims t) (term-at t) term.Post
@@ -148,9 +148,9 @@ term-head-requires t c κs =
     let pre = c .before .before .before .before .before .before .before .before .before .before .before .pre in (
       pre .1 .0,
       record {
-        no-true = subst (MarkSays s at 84) (c .before .before .before .before .before .before .enum-told .given .1) (c .before .before .before .before .before .before .before .before .mark .ensures);
-        no-not = subst (TokenSays s at 126) (c .before .before .before .enum-told2 .given .1) (c .before .before .before .before .before .token .ensures);
-        no-paren = subst (TokenSays s at 40) (c .enum-told3 .given .1) (c .before .before .token2 .ensures);
+        no-true = subst (MarkAnswer s at 84) (c .before .before .before .before .before .before .enum-told .given .1) (c .before .before .before .before .before .before .before .before .mark .ensures);
+        no-not = subst (TokenAnswer s at 126) (c .before .before .before .enum-told2 .given .1) (c .before .before .before .before .before .token .ensures);
+        no-paren = subst (TokenAnswer s at 40) (c .enum-told3 .given .1) (c .before .before .token2 .ensures);
       },
     )
 
@@ -166,7 +166,7 @@ term-skip-blanks-requires t c κs =
     let N = namesIn (a .table .now) in
     let s = a .text .now in
     let at = a .c .at in
-    let h = subst (HeadSays N s at (a .lost)) (c .before .x2 .given .1) (c .before .before .before .head .ensures) in
+    let h = subst (HeadAnswer N s at (a .lost)) (c .before .x2 .given .1) (c .before .before .before .head .ensures) in
     h .moves .within
 
 pub term-put-requires-3 : (t : ℕ) → term-lts.Need-put-requires-3 (term-claims t) (term-at t) term.Post
@@ -177,7 +177,7 @@ term-put-requires-3 t c κs =
     let e = a .cells .now in
     let at = a .c .at in
     let pre = c .before .before .before .before .before .before .before .before .before .before .before .before .before .before .before .before .before .pre in
-    let h = subst (HeadSays N s at (a .lost)) (c .before .before .before .x2 .given .1) (c .before .before .before .before .before .head .ensures) in
+    let h = subst (HeadAnswer N s at (a .lost)) (c .before .before .before .x2 .given .1) (c .before .before .before .before .before .head .ensures) in
     let b = c .before .skip-blanks .ensures in
     (pre .1 .1 .long, head-fits N s at (a .n) (a .lost) e (pre .1 .1) (pre .1 .0 .short) h b)
 
@@ -189,7 +189,7 @@ term-add-term-2 t c =
     let e = a .cells .now in
     let at = a .c .at in
     let pre = c .before .before .before .before .before .before .before .before .before .before .before .before .before .before .before .before .before .before .before .pre in
-    let h = subst (HeadSays N s at (a .lost)) (c .before .before .before .before .before .x2 .given .1) (c .before .before .before .before .before .before .before .head .ensures) in
+    let h = subst (HeadAnswer N s at (a .lost)) (c .before .before .before .before .before .x2 .given .1) (c .before .before .before .before .before .before .before .head .ensures) in
     let b = c .before .before .before .skip-blanks .ensures in
     omega (arith, head-fits N s at (a .n) (a .lost) e (pre .1 .1) (pre .1 .0 .short) h b)
 
@@ -201,7 +201,7 @@ term-term-requires-2 t c κs =
     let e = a .cells .now in
     let at = a .c .at in
     let pre = c .before .before .before .before .before .before .before .before .before .before .before .before .before .before .before .before .before .before .before .pre in
-    let h = subst (HeadSays N s at (a .lost)) (c .before .before .before .before .before .x2 .given .1) (c .before .before .before .before .before .before .before .head .ensures) in
+    let h = subst (HeadAnswer N s at (a .lost)) (c .before .before .before .before .before .x2 .given .1) (c .before .before .before .before .before .before .before .head .ensures) in
     let b = c .before .before .before .skip-blanks .ensures in
     let u = head-up N s at (a .n) (a .lost) e (pre .1 .1) (pre .1 .0 .short) h b in
     (omega (arith, pre .0, b .within), (record { table = pre .1 .0 .table; short = pre .1 .0 .short; token = skipped-token b }, arm-room N s at (a .n) (a .lost) e (pre .1 .1) (pre .1 .0 .short) _ _ _ (head-fits N s at (a .n) (a .lost) e (pre .1 .1) (pre .1 .0 .short) h b) (c .before .put3 .ensures) u))
@@ -212,7 +212,7 @@ term-returns-4 t c =
     let N = namesIn (a .table .now) in
     let s = a .text .now in
     let at = a .c .at in
-    let h = subst (HeadSays N s at (a .lost)) (c .before .x .given .1) (c .before .before .before .head .ensures) in
+    let h = subst (HeadAnswer N s at (a .lost)) (c .before .x .given .1) (c .before .before .before .head .ensures) in
     h
 
 pub term-returns-5 : (t : ℕ) → term-lts.Need-returns-5 (term-claims t) (term-at t) term.Post
@@ -223,6 +223,6 @@ term-returns-5 t c =
     let e = a .cells .now in
     let at = a .c .at in
     let pre = c .before .before .before .before .before .before .before .before .before .before .before .before .before .before .before .before .before .before .before .before .pre in
-    let h = subst (HeadSays N s at (a .lost)) (c .before .before .before .before .before .before .x2 .given .1) (c .before .before .before .before .before .before .before .before .head .ensures) in
+    let h = subst (HeadAnswer N s at (a .lost)) (c .before .before .before .before .before .before .x2 .given .1) (c .before .before .before .before .before .before .before .before .head .ensures) in
     let b = c .before .before .before .before .skip-blanks .ensures in
     term-modal N s at (a .n) (a .lost) e (pre .1 .1) (pre .1 .0 .short) h b (c .before .before .put3 .ensures) (c .term2 .last .1 .1 .0) (c .term2 .result) (c .term2 .ensures)

@@ -3,6 +3,7 @@ use mathlib.Core.Path.{_≡_, refl, ap, _∙_, subst}
 use Prim.Native.Nat.{_+_, _-_, _*_, _≤_}
 use native.Mathlib.Omega.{arith}
 use lib.ListN.{length, getD, take, length-set}
+use Rattle.actl.specs.Sizes.{nodeSlotLength}
 use Rattle.actl.specs.Walk.{kindsIn}
 use Rattle.actl.proofs.Laws.Lists.{filled-more}
 use Rattle.formulas.proofs.walk.kinds_in.Statement.{statement}
@@ -41,7 +42,7 @@ loop-again c =
     let kinds = c .before .before .loop .kinds in
     let k = c .before .before .loop .k in
     let inv = c .before .before .loop .inv in
-    (omega arith, length-set kinds k (getD b (1 + k * 17) 0) ∙ inv .1, filled-more (λ i. getD b (1 + i * 17) 0) kinds k (omega arith) (inv .2))
+    (omega arith, length-set kinds k (getD b (1 + k * nodeSlotLength) 0) ∙ inv .1, filled-more (λ i. getD b (1 + i * nodeSlotLength) 0) kinds k (omega arith) (inv .2))
 
 returns : tie.Need-returns Inv-loop μ-loop
 returns c =

@@ -1,4 +1,5 @@
 use borrow.Author.Needs.{needs}
+use Rattle.automaton.specs.Bytes.{edgeLength}
 use Rattle.listing_text.proofs.print.write_edge.Statement.{statement}
 use Rattle.listing_text.proofs.print.write_edge.Tie as tie
 use Rattle.listing_text.proofs.print.write_edge.Reads as reads
@@ -59,8 +60,8 @@ returns c =
     let a = first .before .before .before .args in
     let e = a .edges .now in
     let j = a .j in
-    let z : j * 5 + 3 + 1 ≡ j * 5 + 4 = omega arith in
-    let line = three 0 (first .pair .ensures) (second .wide .ensures .0) (third .pair2 .ensures ∙ ap (λ k. getD e (j * 5 + 3) 0 + getD e k 0 * 256) z) in
+    let z : j * edgeLength + 3 + 1 ≡ j * edgeLength + 4 = omega arith in
+    let line = three 0 (first .pair .ensures) (second .wide .ensures .0) (third .pair2 .ensures ∙ ap (λ k. getD e (j * edgeLength + 3) 0 + getD e k 0 * 256) z) in
     (w .ensures .0 ∙ ap (λ l. a .at + length (numbersLine (take 3 l))) line, w .ensures .1 .0 ∙ ap (λ l. pasted (a .out .now) (a .at) (numbersLine (take 3 l))) line)
 
 pub write-edge-spec : {M : Type 1} → statement M

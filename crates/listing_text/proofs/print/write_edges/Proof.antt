@@ -1,3 +1,4 @@
+use Rattle.automaton.specs.Bytes.{edgeLength}
 use Rattle.listing_text.proofs.print.write_edges.Statement.{statement}
 use Rattle.listing_text.proofs.print.write_edges.Tie as tie
 use Rattle.listing_text.proofs.print.write_edges.Reads as reads
@@ -37,7 +38,7 @@ loop-again c =
     let l = c .before .before .before .before .before .loop in
     let w = c .before .before .write-edge in
     let b = c .before .before .before .before .before .before .before .shared-slice-known .given in
-    let line : length (edgeText (c .before .before .before .before .before .before .before .before .args .edges .now) (l .j)) ≡ 19 = three-wide _ _ _ (omega (arith, b (l .j * 5), b (l .j * 5 + 1))) (omega (arith, b (l .j * 5 + 2))) (omega (arith, b (l .j * 5 + 3), b (l .j * 5 + 4))) in
+    let line : length (edgeText (c .before .before .before .before .before .before .before .before .args .edges .now) (l .j)) ≡ 19 = three-wide _ _ _ (omega (arith, b (l .j * edgeLength), b (l .j * edgeLength + 1))) (omega (arith, b (l .j * edgeLength + 2))) (omega (arith, b (l .j * edgeLength + 3), b (l .j * edgeLength + 4))) in
     (lines-more (l .inv .0) (w .last .1 .1 .0) (w .result) (w .ensures .1) (w .ensures .0) line (omega (arith, l .inv .0 .wide)), omega arith)
 
 same-length : tie.Need-same-length Inv-loop μ-loop

@@ -1,3 +1,4 @@
+use Rattle.automaton.specs.Bytes.{rowLength}
 use Rattle.listing_text.proofs.print.write_rows.Statement.{statement}
 use Rattle.listing_text.proofs.print.write_rows.Tie as tie
 use Rattle.listing_text.proofs.print.write_rows.Reads as reads
@@ -37,7 +38,7 @@ loop-again c =
     let l = c .before .before .before .before .before .loop in
     let w = c .before .before .write-row in
     let b = c .before .before .before .before .before .before .before .shared-slice-known .given in
-    let line : length (rowText (c .before .before .before .before .before .before .before .before .args .rows .now) (l .i)) ≡ 25 = four-wide _ _ _ _ (omega arith) (omega (arith, b (l .i * 3))) (omega (arith, b (l .i * 3 + 1))) (omega (arith, b (l .i * 3 + 2))) in
+    let line : length (rowText (c .before .before .before .before .before .before .before .before .args .rows .now) (l .i)) ≡ 25 = four-wide _ _ _ _ (omega arith) (omega (arith, b (l .i * rowLength))) (omega (arith, b (l .i * rowLength + 1))) (omega (arith, b (l .i * rowLength + 2))) in
     (lines-more (l .inv .0) (w .last .1 .1 .0) (w .result) (w .ensures .1) (w .ensures .0) line (omega (arith, l .inv .0 .wide)), omega arith)
 
 same-length : tie.Need-same-length Inv-loop μ-loop

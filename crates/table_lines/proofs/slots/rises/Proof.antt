@@ -3,6 +3,7 @@ use borrow.Author.Needs.{needs}
 use mathlib.Core.Path.{_≡_, sym, ap, _∙_}
 use Prim.Native.Nat.{suc, _+_, _-_, _*_}
 use native.Mathlib.Omega.{arith}
+use Rattle.lts.specs.Sizes.{transitionLength}
 use Rattle.lts.specs.Slots.{risesAfter}
 use Rattle.tables.specs.Access.{stepIn}
 use Rattle.table_lines.proofs.slots.rises.Statement.{statement}
@@ -22,7 +23,7 @@ shared-slice-read-t9 : tie.Need-shared-slice-read-t9
 shared-slice-read-t9 c = search needs
 
 cast-t7 : tie.Need-cast-t7
-cast-t7 c = omega (arith, c .shared-slice-known2 .given ((c .before .before .before .args .count - 1) * 3))
+cast-t7 c = omega (arith, c .shared-slice-known2 .given ((c .before .before .before .args .count - 1) * transitionLength))
 
 add-t10 : tie.Need-add-t10
 add-t10 c = search needs
@@ -31,7 +32,7 @@ shared-slice-read-t12 : tie.Need-shared-slice-read-t12
 shared-slice-read-t12 c = search needs
 
 cast-t13 : tie.Need-cast-t13
-cast-t13 c = omega (arith, c .shared-slice-known3 .given ((c .before .before .before .before .args .count - 1) * 3 + 1))
+cast-t13 c = omega (arith, c .shared-slice-known3 .given ((c .before .before .before .before .args .count - 1) * transitionLength + 1))
 
 add-t14 : tie.Need-add-t14
 add-t14 c = search needs
@@ -40,7 +41,7 @@ shared-slice-read-t16 : tie.Need-shared-slice-read-t16
 shared-slice-read-t16 c = search needs
 
 cast-t17 : tie.Need-cast-t17
-cast-t17 c = omega (arith, c .shared-slice-known4 .given ((c .before .before .before .before .before .args .count - 1) * 3 + 2))
+cast-t17 c = omega (arith, c .shared-slice-known4 .given ((c .before .before .before .before .before .args .count - 1) * transitionLength + 2))
 
 below-requires : tie.Need-below-requires
 below-requires c κs = search needs

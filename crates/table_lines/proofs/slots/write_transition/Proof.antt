@@ -6,6 +6,7 @@ use mathlib.Core.List.{[], _∷_, append-assoc}
 use lib.ListN.{take, drop, length-set}
 use lib.Seq.{sets-eq}
 use native.Mathlib.Omega.{arith}
+use Rattle.lts.specs.Sizes.{transitionLength}
 use Rattle.table_lines.proofs.slots.write_transition.Statement.{statement}
 use Rattle.table_lines.proofs.slots.write_transition.Tie as tie
 
@@ -42,7 +43,7 @@ same-length c = search needs
 returns : tie.Need-returns
 returns c =
     let a = c .before .before .before .args in
-    let i = a .count * 3 in
+    let i = a .count * transitionLength in
     let l = a .slots .now in
     let second : i + 1 ≡ suc i = omega arith in
     let third : i + 2 ≡ suc (suc i) = omega arith in

@@ -3,6 +3,7 @@ use mathlib.Core.Path.{_≡_, refl, sym, _∙_}
 use Prim.Native.Nat.{_+_, _-_, _*_}
 use native.Mathlib.Omega.{arith}
 use lib.ListN.{length, getD}
+use Rattle.lts.specs.Sizes.{nameSlotLength}
 use Rattle.lts.specs.Slots.{storedName}
 use Rattle.lts.proofs.Laws.Compare.{SameFrom, same-starts, same-stops, same-goes-on, same-ends}
 use Rattle.lts.proofs.Laws.Names.{stored-differs, stored-length, stored-byte}
@@ -10,7 +11,7 @@ use Rattle.tables.proofs.names.same_name.Statement.{statement}
 use Rattle.tables.proofs.names.same_name.Tie as tie
 
 abbrev Inv-loop : tie.InvT-loop
-Inv-loop slots k name at i₀ i = (at ≡ k * 16 + 1) × (getD slots (k * 16) 0 ≡ length name) × SameFrom (storedName slots k) name i
+Inv-loop slots k name at i₀ i = (at ≡ k * nameSlotLength + 1) × (getD slots (k * nameSlotLength) 0 ≡ length name) × SameFrom (storedName slots k) name i
 
 abbrev μ-loop : tie.MeasureT-loop
 μ-loop slots k name at i₀ i = length name - i
@@ -22,7 +23,7 @@ shared-slice-read-if1 : tie.Need-shared-slice-read-if1 Inv-loop μ-loop
 shared-slice-read-if1 c = omega arith
 
 cast-if1 : tie.Need-cast-if1 Inv-loop μ-loop
-cast-if1 c = omega (arith, c .shared-slice-known .given (c .before .args .k * 16))
+cast-if1 c = omega (arith, c .shared-slice-known .given (c .before .args .k * nameSlotLength))
 
 returns : tie.Need-returns Inv-loop μ-loop
 returns c =
