@@ -12,6 +12,6 @@ pub mod Reader
 pub mod Readers
 pub mod Reading
 pub mod Shaped
+pub mod Sizes
 pub mod Walk
 pub mod Writing
-pub mod Sizes

@@ -7,6 +7,7 @@ pub mod Listing
 pub mod Paths
 pub mod Places
 pub mod Positions
+pub mod Sizes
 pub mod Witnesses
 pub mod Words
-pub mod Sizes
+pub mod WordAsked

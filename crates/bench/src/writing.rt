@@ -4,8 +4,8 @@ use explanations::sizes::EDGES_LENGTH;
 use explanations::sizes::ROWS_LENGTH;
 use explanations::sizes::TEXT_LENGTH;
 use libc::STDOUT_FILENO;
-use listing_text::print::write_listing;
-use listing_text::print::write_refusal;
+use listing_text::write_listing;
+use listing_text::write_refusal;
 
 pub fn print(text: &[u8]) {
     io::write_all(STDOUT_FILENO, text);

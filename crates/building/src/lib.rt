@@ -4,7 +4,6 @@ use formula_check::inputs::Unprepared;
 use formula_check::inputs::check_inputs;
 
 mod building;
-mod slots;
 
 ghost use mathlib.Core.Path.{_≡_};
 ghost use Rattle.building.specs.Replies.{buildReply};

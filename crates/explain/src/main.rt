@@ -3,11 +3,11 @@ use explanations::sizes::KEPT;
 use explanations::sizes::TEXT_LENGTH;
 use lts::sizes::ENOUGH_TABLE_TEXT;
 ghost use Rattle.io.specs.Counts.{Counts};
+use files::Scanned;
+use files::explain_files;
+use files::scan_chunk;
+use files::scan_start;
 use libc::STDOUT_FILENO;
-use listing_text::files::Scanned;
-use listing_text::files::explain_files;
-use listing_text::files::scan_chunk;
-use listing_text::files::scan_start;
 
 // The formula file so far, and whether there may be more of it.
 struct Portion {

@@ -4,7 +4,7 @@ ghost use Rattle.lts.specs.TableReading.{tableReplied, tableLeft};
 ghost use Rattle.actl.specs.FormulaReading.{formulaReplied, formulaLeft};
 ghost use Rattle.labelling.specs.Replies.{verdictReplied};
 ghost use Rattle.automaton.specs.Build.{buildReplied, rowsLeft, edgesLeft};
-ghost use Rattle.words.specs.Replies.{wordReplied};
+ghost use Rattle.automaton.specs.WordAsked.{wordReplied};
 ghost use Rattle.replies.specs.Interface.{numberIn, figureIn, edgesIn};
 use building::build;
 use formula_text::read_formula;

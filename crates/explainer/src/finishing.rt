@@ -9,7 +9,7 @@ ghost use Rattle.explanations.specs.BothTexts.{Read, HoldsBoth, listingOf, Clas
 use crate::ExplainReply;
 use building::build;
 use bytes::copy;
-use formulas::walk::shape_of;
+use formula_classes::shape_of;
 use labelling::verdict;
 use replies::build_edges;
 use replies::build_figure;

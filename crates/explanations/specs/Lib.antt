@@ -5,5 +5,5 @@ pub mod Explanation
 pub mod Positions
 pub mod Printed
 pub mod Shown
-pub mod Traces
 pub mod Sizes
+pub mod Traces

@@ -2,9 +2,9 @@
 use actl::sizes::FORMULA_LENGTH;
 use actl::sizes::NODE_SLOT;
 use actl::sizes::NODES;
+use formula_classes::spelled;
 use formulas::node::mask;
 use formulas::node::node_count;
-use formulas::walk::spelled;
 use table_check::zeros;
 ghost use mathlib.Core.Path.{_≡_};
 ghost use mathlib.Core.Bool.{_&&_, _||_};

@@ -13,8 +13,8 @@ ghost use Rattle.columns.specs.Write.{pasted};
 ghost use Rattle.actl.specs.Writing.{nodeBytes, cellBytes, cellKinds, preparedBytes};
 ghost use Rattle.formula_text.specs.FormulaAnswers.{FormulaAnsweredWith};
 use crate::FormulaReply;
-use formulas::walk::Classless;
-use formulas::walk::highest_classless;
+use formula_classes::Classless;
+use formula_classes::highest_classless;
 
 // A mask, low byte first.
 fn put_mask(formula: &mut [u8], at: usize, mask: u64)

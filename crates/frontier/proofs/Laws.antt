@@ -4,3 +4,4 @@ pub mod Bits
 pub mod Frontiers
 pub mod Reaching
 pub mod Through
+pub mod Left

@@ -2,7 +2,7 @@
 use formula_check::inputs::Inputs;
 use formula_check::inputs::Unprepared;
 use formula_check::inputs::check_inputs;
-use formulas::walk::shape_of;
+use formula_classes::shape_of;
 use tables::prepared::start_state;
 use tables::steps::steps_of;
 

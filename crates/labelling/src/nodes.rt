@@ -2,10 +2,10 @@
 use crate::steps::label_at_once;
 use actl::sizes::NODE_POSITIONS;
 use actl::sizes::NODES;
+use formula_classes::right_arm;
 use formulas::node::Node;
 use formulas::node::node_at;
 use formulas::node::node_count;
-use formulas::walk::right_arm;
 use lts::sizes::FIRSTS;
 use lts::sizes::STATES;
 use lts::sizes::STEPS;

@@ -8,8 +8,8 @@ pub mod Prepared
 pub mod Range
 pub mod Reading
 pub mod Reply
+pub mod Sizes
 pub mod Slots
 pub mod Steps
 pub mod TableReading
 pub mod Text
-pub mod Sizes

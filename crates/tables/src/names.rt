@@ -1,9 +1,9 @@
 // Names of labels: where a name ends in a text, whether two are equal, and where one stands in slots of names. A slot has 16 bytes:
 // the name's length, its bytes, zeros. Nothing else knows the bytes of a name or how names are compared.
+use crate::prepared::label_count;
 use lts::sizes::HEAD;
 use lts::sizes::NAME_SLOT;
 use lts::sizes::TRANSITIONS_AT;
-use crate::prepared::label_count;
 ghost use mathlib.Core.Path.{_≡_};
 ghost use Prim.Native.Nat.{_+_, _*_, _≤_};
 ghost use lib.ListN.{length};

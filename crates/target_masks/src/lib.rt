@@ -5,13 +5,13 @@ use actl::sizes::NODES;
 use automaton::sizes::COLUMNS;
 use automaton::sizes::MASKS_LENGTH;
 use automaton::sizes::PLACES;
+use formula_classes::right_arm;
 use formulas::conditions::in_set;
 use formulas::conditions::meets;
 use formulas::conditions::passes;
 use formulas::node::Node;
 use formulas::node::node_at;
 use formulas::node::node_count;
-use formulas::walk::right_arm;
 
 pub mod places;
 

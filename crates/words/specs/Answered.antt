@@ -11,7 +11,8 @@ use Rattle.actl.specs.Prepared.{preparedFormula}
 use Rattle.actl.specs.Reading.{unlessFound}
 use Rattle.automaton.specs.Words.{accepts}
 use Rattle.automaton.specs.Bytes.{bitOf}
-use Rattle.words.specs.Replies.{wordReply, badLetter}
+use Rattle.words.specs.Replies.{wordReply}
+use Rattle.automaton.specs.WordAsked.{badLetter}
 use Rattle.words.specs.declared.WordReply.{WordReply}
 
 -- 01: "Word checks give 13"; else the answer.

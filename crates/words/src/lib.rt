@@ -1,23 +1,19 @@
 // Whether the automaton accepts a word: the positions that its letters reach, as a mask of places for each state. No rows are built.
-use crate::frontiers::has;
-use crate::reading::read_word;
-use crate::reading::wide;
 use automaton::sizes::LONGEST_WORD;
 use automaton::sizes::PLACES;
 use formula_check::inputs::Inputs;
 use formula_check::inputs::Unprepared;
 use formula_check::inputs::check_inputs;
-use formulas::walk::shape_of;
+use formula_classes::shape_of;
 use tables::names::Lookup;
 use tables::prepared::label_count;
 use tables::prepared::start_state;
 use tables::steps::steps_of;
 use target_masks::final_places;
 use target_masks::target_masks;
-
-mod frontiers;
-mod reading;
-
+use word_reading::frontiers::has;
+use word_reading::read_word;
+use word_reading::wide;
 ghost use mathlib.Core.Path.{_≡_};
 ghost use Prim.Native.Nat.{_≤_};
 ghost use Rattle.actl.specs.Sizes.{mostNodes};
@@ -28,7 +24,8 @@ ghost use Rattle.tables.specs.Access.{foundIn};
 ghost use Rattle.lts.specs.HoldsTable.{HoldsTable};
 ghost use Rattle.actl.specs.HoldsFormula.{HoldsFormula};
 ghost use Rattle.automaton.specs.Bytes.{bitOf};
-ghost use Rattle.words.specs.Replies.{badLetter, wordReply, wordReplied};
+ghost use Rattle.words.specs.Replies.{wordReply};
+ghost use Rattle.automaton.specs.WordAsked.{badLetter, wordReplied};
 ghost use Rattle.frontier.specs.Reached.{finalPlace, someFinal, Letters, AcceptsAnswer};
 ghost use Rattle.words.specs.Answered.{Answered};
 

@@ -18,8 +18,8 @@ use Rattle.actl.specs.Formulas.{Formula, tru, not, or, ex, ax, eu, euThen, size
 use Rattle.actl.specs.Prepared.{slotOf, slotAt, preparedFormula}
 use Rattle.formulas.specs.Access.{slotOfNode}
 use Rattle.actl.specs.Shaped.{shaped}
-use Rattle.formulas.specs.WalkReplies.{ShapeOf}
-use Rattle.formulas.specs.declared.walk.Shape.{Shape}
+use Rattle.formula_classes.specs.WalkReplies.{ShapeOf}
+use Rattle.formula_classes.specs.declared.Shape.{Shape}
 use Rattle.formulas.specs.declared.node.Node.{Node}
 use Rattle.actl.proofs.Subformulas.{at-node, at-lt}
 use Rattle.actl.proofs.Nodes.{size-pos}

@@ -8,7 +8,7 @@ use Rattle.lts.specs.Steps.{Table}
 use Rattle.actl.specs.Formulas.{Formula}
 use Rattle.formula_check.specs.Inputs.{inputsReply}
 use Rattle.formula_check.proofs.Laws.Inputs.{checked, Both, both, goes-on, unprepared-again}
-use Rattle.words.specs.Replies.{wordReplied}
+use Rattle.automaton.specs.WordAsked.{wordReplied}
 use Rattle.words.specs.Answered.{wordAnswer}
 use Rattle.words.proofs.accepts.Statement.{statement}
 use Rattle.words.proofs.accepts.Tie as tie

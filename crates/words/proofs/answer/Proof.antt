@@ -7,8 +7,8 @@ use Rattle.tables.specs.Access.{foundIn}
 use Rattle.actl.specs.Reading.{unlessFound}
 use Rattle.automaton.specs.Bytes.{bitOf}
 use Rattle.automaton.specs.Words.{accepts}
-use Rattle.words.specs.Replies.{badLetter}
-use Rattle.words.proofs.Laws.Left.{letters-few}
+use Rattle.automaton.specs.WordAsked.{badLetter}
+use Rattle.frontier.proofs.Laws.Left.{letters-few}
 use borrow.Author.Needs.{needs}
 use Rattle.words.proofs.answer.Statement.{statement}
 use Rattle.words.proofs.answer.Tie as tie

@@ -4,8 +4,8 @@ use Prim.Native.Nat.{_≤_, _<_, _-_}
 use native.Mathlib.Omega.{arith}
 use borrow.Author.Needs.{needs}
 use lib.ListN.{length}
-use Rattle.words.specs.Replies.{badLetter}
-use Rattle.words.proofs.Laws.Left.{badLeft, bad-start, bad-over, bad-full, bad-here, bad-later}
+use Rattle.automaton.specs.WordAsked.{badLetter}
+use Rattle.frontier.proofs.Laws.Left.{badLeft, bad-start, bad-over, bad-full, bad-here, bad-later}
 use Rattle.words.proofs.bad_letter.Statement.{statement}
 use Rattle.words.proofs.bad_letter.Tie as tie
 

@@ -3,7 +3,7 @@ use Rattle.explainer.proofs.finishing.class_of.Statement.{statement}
 use Rattle.explainer.proofs.finishing.class_of.Tie as tie
 use Rattle.explainer.proofs.finishing.class_of.Reads as reads
 use Rattle.explainer.proofs.finishing.class_of.Lts as lts
-use Rattle.formulas.proofs.walk.shape_of.Reads as shape-of-reads
+use Rattle.formula_classes.proofs.shape_of.Reads as shape-of-reads
 use Rattle.explainer.proofs.finishing.wide.Reads as wide-reads
 use mathlib.Core.Path.{ap, _∙_}
 use Rattle.actl.specs.Formulas.{classOf}

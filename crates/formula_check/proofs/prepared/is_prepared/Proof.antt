@@ -6,7 +6,7 @@ use borrow.Author.Tests.{not-true, not-false}
 use Rattle.actl.specs.Sizes.{nodeSlotLength}
 use Rattle.lts.specs.Answers.{Decides}
 use Rattle.actl.specs.Check.{slotsFit, zerosFrom, SpelledClassed}
-use Rattle.formulas.proofs.Laws.Decided.{short-bytes, many-nodes, slots-foreign, not-zeros, decided}
+use Rattle.formula_classes.proofs.Laws.Decided.{short-bytes, many-nodes, slots-foreign, not-zeros, decided}
 use borrow.Author.Needs.{needs}
 use Rattle.formula_check.proofs.prepared.is_prepared.Statement.{statement}
 use Rattle.formula_check.proofs.prepared.is_prepared.Tie as tie

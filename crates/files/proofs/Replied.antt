@@ -1,0 +1,75 @@
+-- The text of a reply of `explain` about the beginnings of two files is what the program writes for the files.
+use mathlib.Core.Path.{_≡_, refl, sym, ap, _∙_, subst}
+use mathlib.Core.List.{List, [], List·Memᴰ}
+use Prim.Native.Nat.{ℕ, _*_, _≤_, _<_}
+use native.Mathlib.Omega.{arith}
+use lib.ListN.{length, take, drop, replicate, length-append, length-drop}
+use lib.Seq.{length-take-le}
+use Rattle.actl.specs.Sizes.{formulaLength}
+use Rattle.explanations.specs.Sizes.{rowsLent, edgesLent, rowsLength, edgesLength, keptLength}
+use Rattle.lts.specs.Sizes.{tableLength}
+use Rattle.lts.specs.Reply.{Reply, accepted, refusal}
+use Rattle.lts.proofs.Laws.Texts.{text-of-read}
+use Rattle.actl.proofs.Laws.Accepted.{reading-leaves-form}
+use Rattle.automaton.specs.Listing.{Edge, Listing}
+use Rattle.automaton.specs.Bytes.{rowLength, edgeLength}
+use Rattle.breadth_first.proofs.Accepted.{formed-has-class}
+use Rattle.explanations.specs.Explanation.{Explanation, explaining, explanation, explainReplied, rowsExplained, edgesExplained}
+use Rattle.explainer.specs.Replies.{explainReply}
+use Rattle.files.specs.Files.{Begins, replyText, Few, PrefixLength}
+use Rattle.explanations.specs.Printed.{withoutEnd, printed, explainText, TextWritten}
+use Rattle.explainer.specs.declared.ExplainReply.{ExplainReply}
+use Rattle.explanations.proofs.Traced.{small-edges}
+use Rattle.explanations.proofs.Explained.{Accepted, explanation-accepted}
+use Rattle.explainer.proofs.Explaining.{explanation-of-readings}
+use Rattle.explainer.proofs.Promised.{long-enough}
+use Rattle.explanations.proofs.Lines.{listing-printed}
+use Rattle.explanations.proofs.Beginnings.{withLength, explanation-begun}
+
+module _ (tableText text table formula rows edges : List ℕ) (long : tableLength ≤ length table) (wide : formulaLength ≤ length formula) where
+  abbrev E : Reply Explanation
+  E = explaining tableText text table formula rows edges
+
+  is-explanation : E ≡ explanation tableText text rows edges
+  is-explanation = long-enough tableText text table formula rows edges long wide ∙ sym (explanation-of-readings tableText text rows edges)
+
+  stands : (e : Explanation) → E ≡ accepted e → Accepted tableText text rows edges e
+  stands e d = explanation-accepted tableText text rows edges e (sym is-explanation ∙ d)
+
+  small : (e : Explanation) → E ≡ accepted e → (d : Edge) → List·Memᴰ d (e .list .edges) → (d .row < 65536) × (d .target < 65536)
+  small e d =
+      let a = stands e d in
+      let form = reading-leaves-form (e .table .names) text [] (a .read-formula) in
+      subst (λ (L : Listing). (d : Edge) → List·Memᴰ d (L .edges) → (d .row < 65536) × (d .target < 65536)) (sym (a .is-listing))
+      (small-edges (e .table) (e .formula) (text-of-read tableText (e .table) (a .read-table) .1) (formed-has-class form) (form .few))
+
+  pub few-counts : length rows ≡ rowsLength → length edges ≡ edgesLength → (r : ExplainReply) → explainReply r ≡ explainReplied E → Few (explainReply r)
+  few-counts i j r e = subst Few (sym e) (by E refl)
+    where
+      by : (x : Reply Explanation) → E ≡ x → Few (explainReplied x)
+      by (refusal n g) d = tt
+      by (accepted x) d = (omega (arith, stands x d .rows-fit), omega (arith, stands x d .edges-fit))
+
+  pub reply-text : (n : ℕ) (r : ExplainReply) (rows′ edges′ : List ℕ) → explainReply r ≡ explainReplied E → rows′ ≡ rowsExplained E rows → edges′ ≡ edgesExplained E edges
+      → replyText (explainReply r) n rows′ edges′ ≡ printed (withLength n (explanation tableText text rows edges))
+  unfolding printed
+  reply-text n r rows′ edges′ e p q =
+      (λ i. replyText (e i) n (p i) (q i)) ∙ by E refl ∙ ap (λ x. printed (withLength n x)) is-explanation
+    where
+      by : (x : Reply Explanation) → E ≡ x → replyText (explainReplied x) n (rowsExplained x rows) (edgesExplained x edges) ≡ printed (withLength n x)
+      by (refusal k g) d = refl
+      by (accepted x) d = listing-printed x rows edges (small x d)
+
+pub files-text : (tablefile text table formula : List ℕ) (n : ℕ) → Begins tablefile table → text ≡ take keptLength (withoutEnd formula) → n ≡ length (withoutEnd formula)
+    → printed (withLength n (explanation tablefile text (replicate (rowsLent * rowLength) 0) (replicate (edgesLent * edgeLength) 0))) ≡ explainText table formula
+unfolding explainText
+files-text tablefile text table formula n (m, h, b) t e =
+    let rows : List ℕ = replicate (rowsLent * rowLength) 0 in
+    let edges : List ℕ = replicate (edgesLent * edgeLength) 0 in
+    (λ i. printed (withLength (e i) (explanation (b i) (t i) rows edges))) ∙ ap printed (explanation-begun rows edges m table (withoutEnd formula) h)
+
+-- A text that was written into a buffer has no more bytes than the buffer.
+pub written-counts : {text before out : List ℕ} {end : ℕ} → TextWritten text before out end → length out ≡ length before → PrefixLength end out
+written-counts {text} {before} {out} {end} w e =
+    let fits : end ≤ length out = omega (arith, w .ends, ap length (w .is), length-append text (drop (length text) before), length-drop (length text) before) in
+    (fits, sym (length-take-le end out fits))

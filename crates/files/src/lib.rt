@@ -1,0 +1,150 @@
+// What the program `explain` writes for its two files. They may be of any length: of the table 20,282 bytes are enough, of the formula
+// its first 513 bytes, its length and its last byte.
+use actl::sizes::FORMULA_LENGTH;
+use explanations::sizes::EDGES_LENGTH;
+use explanations::sizes::KEPT;
+use explanations::sizes::ROWS_LENGTH;
+use explanations::sizes::TEXT_LENGTH;
+use lts::sizes::TABLE_LENGTH;
+ghost use mathlib.Core.Path.{_≡_};
+ghost use mathlib.Core.List.{List, [], _++_};
+ghost use Prim.Native.Nat.{ℕ, _+_, _^_, _<_, min};
+ghost use lib.ListN.{length};
+ghost use Rattle.explanations.specs.Sizes.{keptLength};
+ghost use Rattle.explainer.specs.Replies.{explainReply};
+ghost use Rattle.files.specs.Files.{Begins, ScanOf, kept, replyText, Few, PrefixLength};
+ghost use Rattle.explanations.specs.Printed.{withoutEnd, explainText, TextWritten};
+use bytes::copy;
+use explainer::ExplainReply;
+use explainer::explain;
+use listing_text::write_listing;
+use listing_text::write_refusal;
+
+// How many bytes of a file were read, and the last of them.
+pub struct Scanned {
+    pub length: usize,
+    pub last: u8,
+}
+
+// Before the first byte.
+pub fn scan_start() -> Scanned
+    ensures { λ r. ⌜ ((head : List ℕ) → length head ≡ keptLength → ScanOf [] head r) ⌝ }
+{
+    Scanned { length: 0, last: 0 }
+}
+
+fn least(a: usize, b: usize) -> usize
+    ensures { λ r. ⌜ r ≡ min a b ⌝ }
+{
+    if a < b { a } else { b }
+}
+
+// Puts the bytes of a chunk that belong to the first 513 into `head`, if `at` bytes came before.
+fn keep(chunk: &[u8], head: &mut [u8], at: usize)
+    requires { ⌜ length (now head) ≡ keptLength ⌝ }
+    ensures { λ _. ⌜ now (head .exit) ≡ kept (now (head .entry)) at (now (chunk .entry)) ⌝ }
+{
+    if at < KEPT {
+        let n = least(chunk.len(), KEPT - at);
+        copy(&chunk[..n], &mut head[at..]);
+    }
+}
+
+// The sum, or the largest number where it does not fit.
+fn add(a: usize, b: usize) -> usize
+    ensures { λ r. ⌜ (a + b < 2 ^ 64 → r ≡ a + b) ⌝ }
+{
+    if b <= usize::MAX - a {
+        a + b
+    } else {
+        usize::MAX
+    }
+}
+
+// Takes in the next chunk of the formula file.
+pub fn scan_chunk(chunk: &[u8], head: &mut [u8; KEPT], scanned: Scanned) -> Scanned
+    ensures { λ r. ⌜ ((file : List ℕ) → ScanOf file (now (head .entry)) scanned → length file + length (now (chunk .entry)) < 2 ^ 64 → ScanOf (file ++ now (chunk .entry)) (now (head .exit)) r) ⌝ }
+{
+    let n = chunk.len();
+    if n == 0 {
+        return scanned;
+    }
+    keep(chunk, head, scanned.length);
+    Scanned {
+        length: add(scanned.length, n),
+        last: chunk[n - 1],
+    }
+}
+
+// The length of the formula's text: one LF at the end of the file is dropped.
+fn text_length(scanned: Scanned) -> usize
+    ensures { λ r. ⌜ ((file head : List ℕ) → ScanOf file head scanned → r ≡ length (withoutEnd file)) ⌝ }
+{
+    let n = scanned.length;
+    if n == 0 {
+        return 0;
+    }
+    if scanned.last == 10 {
+        return n - 1;
+    }
+    n
+}
+
+fn write_reply(
+    reply: ExplainReply,
+    length: usize,
+    rows: &[u8; ROWS_LENGTH],
+    edges: &[u8; EDGES_LENGTH],
+    out: &mut [u8; TEXT_LENGTH],
+) -> usize
+    requires { ⌜ Few (explainReply reply) ⌝ }
+    ensures { λ r. ⌜ TextWritten (replyText (explainReply reply) length (now (rows .entry)) (now (edges .entry))) (now (out .entry)) (now (out .exit)) r ⌝ }
+    ensures { λ r. ⌜ PrefixLength r (now (out .exit)) ⌝ }
+{
+    match reply {
+        ExplainReply::Explained(verdict, class, rowcount, edgecount) => write_listing(
+            verdict,
+            class,
+            rowcount as usize,
+            edgecount as usize,
+            rows,
+            edges,
+            out,
+        ),
+        ExplainReply::Refused(number, figure) => {
+            if number == 5 {
+                write_refusal(number, length as u64, out)
+            } else {
+                write_refusal(number, figure, out)
+            }
+        }
+    }
+}
+
+// Writes what the program writes at the start of `out`, and answers its length.
+pub fn explain_files(
+    tablefile: &[u8],
+    head: &[u8; KEPT],
+    scanned: Scanned,
+    out: &mut [u8; TEXT_LENGTH],
+) -> usize
+    ensures { λ r. ⌜ ((table formula : List ℕ) → Begins (now (tablefile .entry)) table → ScanOf formula (now (head .entry)) scanned → TextWritten (explainText table formula) (now (out .entry)) (now (out .exit)) r) ⌝ }
+    ensures { λ r. ⌜ PrefixLength r (now (out .exit)) ⌝ }
+{
+    let mut table = [0u8; TABLE_LENGTH];
+    let mut formula = [0u8; FORMULA_LENGTH];
+    let mut rows = [0u8; ROWS_LENGTH];
+    let mut edges = [0u8; EDGES_LENGTH];
+    let length = text_length(scanned);
+    let n = least(length, KEPT);
+    let whole = &head[..];
+    let reply = explain(
+        tablefile,
+        &whole[..n],
+        &mut table,
+        &mut formula,
+        &mut rows,
+        &mut edges,
+    );
+    write_reply(reply, length, &rows, &edges, out)
+}

@@ -1,0 +1,120 @@
+-- `reading::read_word` meets its contract: the letters below i are read.
+use mathlib.Core.Path.{_≡_, sym, ap, _∙_}
+use Prim.Native.Nat.{_+_, _-_, _≤_}
+use native.Mathlib.Omega.{arith}
+use lib.ListN.{length, drop}
+use borrow.Author.Needs.{needs}
+use Rattle.tables.specs.StepArray.{stepsIn}
+use Rattle.frontier.specs.Frontier.{nowhere, brought, allPlaces}
+use Rattle.frontier.specs.Reached.{wordRead, rootReached}
+use Rattle.frontier.proofs.Laws.Left.{word-turn, word-turns, word-over}
+use Rattle.word_reading.proofs.read_word.Statement.{statement}
+use Rattle.word_reading.proofs.read_word.Tie as tie
+
+abbrev Inv-loop : tie.InvT-loop
+Inv-loop steps firsts masks start word reached₀ next₀ i₀ reached next i =
+    (i ≤ length word) × (wordRead (stepsIn steps firsts) masks word (rootReached start) nowhere ≡ wordRead (stepsIn steps firsts) masks (drop i word) reached next)
+
+abbrev μ-loop : tie.MeasureT-loop
+μ-loop steps firsts masks start word reached₀ next₀ i₀ reached next i = length word - i
+
+bring-requires : tie.Need-bring-requires Inv-loop μ-loop
+bring-requires c κs = c .before .before .pre .1 .0
+
+loop-holds : tie.Need-loop-holds Inv-loop μ-loop
+loop-holds c =
+    let a = c .before .before .before .args in
+    (omega arith, ap (λ x. wordRead (stepsIn (a .steps .now) (a .firsts .now)) (a .masks .now) (a .word .now) x nowhere) (sym (c .bring .ensures)))
+
+add-loop : tie.Need-add-loop Inv-loop μ-loop
+add-loop c = omega (arith, c .loop .inv .0)
+
+shared-slice-read-read-letter : tie.Need-shared-slice-read-read-letter Inv-loop μ-loop
+shared-slice-read-read-letter c = omega (arith, c .before .loop-test .taken)
+
+read-letter-requires : tie.Need-read-letter-requires Inv-loop μ-loop
+read-letter-requires c κs =
+    let p = c .before .before .before .before .before .before .before .before .pre in
+    (p .0, p .1 .1 .few (c .before .before .before .before .loop .i) (omega (arith, c .before .before .before .loop-test .taken)))
+
+add-read-letter : tie.Need-add-read-letter Inv-loop μ-loop
+add-read-letter c = omega (arith, c .before .before .before .before .before .loop .inv .0)
+
+shared-slice-read-read-letter-2 : tie.Need-shared-slice-read-read-letter-2 Inv-loop μ-loop
+shared-slice-read-read-letter-2 c = c .before .before .before .before .before .loop-test .taken
+
+read-letter-requires-2 : tie.Need-read-letter-requires-2 Inv-loop μ-loop
+read-letter-requires-2 c κs =
+    let p = c .before .before .before .before .before .before .before .before .before .before .before .before .pre in
+    (p .0, p .1 .1 .few (c .before .before .before .before .before .before .before .before .loop .i + 1) (c .before .before .before .before .before .before .before .loop-test .taken))
+
+add-i : tie.Need-add-i Inv-loop μ-loop
+add-i c = omega (arith, c .before .before .before .before .before .before .before .before .loop-test .taken)
+
+loop-less : tie.Need-loop-less Inv-loop μ-loop
+loop-less c = omega (arith, c .before .before .before .before .before .before .before .before .loop-test .taken)
+
+loop-again : tie.Need-loop-again Inv-loop μ-loop
+loop-again c =
+    let a = c .before .before .before .before .before .before .before .before .before .before .before .before .before .args in
+    let loop = c .before .before .before .before .before .before .before .before .before .loop in
+    let taken = c .before .before .before .before .before .before .before .before .loop-test .taken in
+    let first = c .before .before .before .before .read-letter .ensures in (
+      omega (arith, taken),
+      loop .inv .1 ∙ word-turns (stepsIn (a .steps .now) (a .firsts .now)) (a .masks .now) (a .word .now) (loop .i) (loop .reached) (loop .next) taken _ _ first (c .read-letter2 .ensures),
+    )
+
+shared-slice-read-read-letter-3 : tie.Need-shared-slice-read-read-letter-3 Inv-loop μ-loop
+shared-slice-read-read-letter-3 c = c .before .if1 .taken
+
+read-letter-requires-3 : tie.Need-read-letter-requires-3 Inv-loop μ-loop
+read-letter-requires-3 c κs =
+    let p = c .before .before .before .before .before .before .before .before .before .pre in
+    (p .0, p .1 .1 .few (c .before .before .before .before .before .loop .i) (c .before .before .before .if1 .taken))
+
+all-places-requires : tie.Need-all-places-requires Inv-loop μ-loop
+all-places-requires c κs = search needs
+
+returns : tie.Need-returns Inv-loop μ-loop
+returns c =
+    let a = c .before .before .before .before .before .before .before .before .before .before .before .before .args in
+    let from = stepsIn (a .steps .now) (a .firsts .now) in
+    let loop = c .before .before .before .before .before .before .before .before .loop in
+    let taken = c .before .before .before .before .before .before .if1 .taken in
+    let last = word-turn from (a .masks .now) (a .word .now) (loop .i) (loop .reached) (loop .next) taken _ (c .before .before .read-letter3 .ensures) in
+    let over = word-over from (a .masks .now) (a .word .now) (loop .i + 1) _ (loop .reached) (c .before .before .before .before .before .before .before .loop-test .left) in
+    c .all-places .ensures ∙ ap allPlaces (sym (loop .inv .1 ∙ (last ∙ over)))
+
+all-places-requires-2 : tie.Need-all-places-requires-2 Inv-loop μ-loop
+all-places-requires-2 c κs = search needs
+
+returns-2 : tie.Need-returns-2 Inv-loop μ-loop
+returns-2 c =
+    let a = c .before .before .before .before .before .before .before .before .args in
+    let loop = c .before .before .before .before .loop in
+    let from = stepsIn (a .steps .now) (a .firsts .now) in
+    c .all-places2 .ensures ∙ ap allPlaces (sym (loop .inv .1 ∙ word-over from (a .masks .now) (a .word .now) (loop .i) (loop .reached) (loop .next) (c .before .before .if1 .left)))
+
+pub read-word-spec : {M : Type 1} → statement M
+read-word-spec =
+    tie.close
+    (tie.spec
+    Inv-loop
+    μ-loop
+    bring-requires
+    loop-holds
+    add-loop
+    shared-slice-read-read-letter
+    read-letter-requires
+    add-read-letter
+    shared-slice-read-read-letter-2
+    read-letter-requires-2
+    add-i
+    loop-less
+    loop-again
+    shared-slice-read-read-letter-3
+    read-letter-requires-3
+    all-places-requires
+    returns
+    all-places-requires-2
+    returns-2)
