@@ -16,17 +16,13 @@ use Rattle.actl.specs.Formulas.{Formula}
 use Rattle.actl.specs.Prepared.{preparedFormula}
 use Rattle.until_search.specs.Flags.{flagAt}
 use Rattle.automaton.specs.Listing.{onLabel}
-use Rattle.target_masks.specs.Masks.{bitAt, columnOf}
+use Rattle.target_masks.specs.Masks.{bitAt, maskOn}
 use Rattle.automaton.specs.Words.{accepts}
 use Rattle.frontier.specs.Frontier.{hasState, nowhere, emptied, brought, through}
 
--- The target places of place k on label l, as `target_masks` leaves them.
-abbrev pub maskAt : List ℕ → ℕ → ℕ → ℕ
-maskAt masks k l = getD masks (k * columnCount + columnOf l) 0
-
 -- The target places of a set of places: with those of place k, if it is in the set; and of all of them.
 abbrev pub targetsAdded : List ℕ → ℕ → ℕ → ℕ → ℕ → ℕ
-targetsAdded masks places l k found = cond (bitAt places k) (bitOr found (maskAt masks k l)) found
+targetsAdded masks places l k found = cond (bitAt places k) (bitOr found (maskOn masks k l)) found
 
 abbrev pub targetsOf : List ℕ → ℕ → ℕ → ℕ
 targetsOf masks places l = through (targetsAdded masks places l) placeCount 0 0

@@ -24,7 +24,7 @@ ghost use Rattle.automaton.specs.Sizes.{placeCount, columnCount};
 ghost use Rattle.lts.specs.Sizes.{mostLabels};
 ghost use Rattle.actl.specs.Formulas.{Formula};
 ghost use Rattle.actl.specs.Prepared.{slotAt};
-ghost use Rattle.target_masks.specs.Masks.{bitIf, columnOf, maskOfNode, finalOfNode, Spells, MasksFit, MasksOf, MasksOn, FinalsOf};
+ghost use Rattle.target_masks.specs.Masks.{bitIf, columnOf, maskOn, maskOfNode, finalOfNode, Spells, MasksFit, MasksOf, MasksOn, FinalsOf};
 
 // Bit k, if it is wanted.
 fn bit_if(wanted: bool, k: usize) -> u64
@@ -104,9 +104,17 @@ fn is_true(formula: &[u8], k: usize) -> bool
 // The column of a label among the masks of a place.
 pub fn column(label: usize) -> usize
     requires { ⌜ label ≤ mostLabels ⌝ }
-    ensures { λ r. ⌜ (r ≡ columnOf label) × (r < placeCount) ⌝ }
+    ensures { λ r. ⌜ (r ≡ columnOf label) × (r < columnCount) ⌝ }
 {
     label
+}
+
+// The target places of a place on a label.
+pub fn mask_on(masks: &[u64; MASKS_LENGTH], place: usize, label: usize) -> u64
+    requires { ⌜ (place ≤ mostNodes) × (label ≤ mostLabels) ⌝ }
+    ensures { λ r. ⌜ r ≡ maskOn (now (masks .entry)) place label ⌝ }
+{
+    masks[place * COLUMNS + column(label)]
 }
 
 // The masks of place k, from those of the places behind it.

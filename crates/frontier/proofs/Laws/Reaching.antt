@@ -18,13 +18,13 @@ use Rattle.lts.proofs.Lists.{some-of, some-to, and-true-of, and-true-to, upFrom
 use Rattle.lts.proofs.StepsFrom.{steps-are}
 use Rattle.actl.specs.Formulas.{Formula, size}
 use Rattle.automaton.specs.Listing.{leads, onLabel}
-use Rattle.target_masks.specs.Masks.{bitAt, MasksOf}
+use Rattle.target_masks.specs.Masks.{bitAt, MasksOf, maskOn}
 use Rattle.automaton.specs.Positions.{at, Joins}
 use Rattle.target_masks.proofs.Laws.MasksFound.{bit-or, bit-zero, target-bit}
 use Rattle.automaton.proofs.Moves.{leaving}
 use Rattle.automaton.proofs.Tests.{leads-of, leads-to}
 use Rattle.frontier.specs.Frontier.{hasState, emptied, brought, placesAdded, allPlaces}
-use Rattle.frontier.specs.Reached.{maskAt, targetsAdded, targetsOf, stepTaken, stepsTaken, placesRead, stateRead, letterRead}
+use Rattle.frontier.specs.Reached.{targetsAdded, targetsOf, stepTaken, stepsTaken, placesRead, stateRead, letterRead}
 use Rattle.frontier.proofs.Laws.Through.{or-none, through-adds, through-good}
 use Rattle.frontier.proofs.Laws.Frontiers.{reachedAt, reached-of, reached-to, and-no, emptied-reached, length-emptied, length-brought, brought-reached}
 
@@ -41,15 +41,15 @@ all-reached frontier q =
 -- The target places of a set of places.
 module _ (masks : List ℕ) (places l q : ℕ) where
   abbrev led : ℕ → Bool
-  led k = bitAt places k && bitAt (maskAt masks k l) q
+  led k = bitAt places k && bitAt (maskOn masks k l) q
 
-  targets-led : bitAt (targetsOf masks places l) q ≡ anyOf (λ k. bitAt places k && bitAt (maskAt masks k l) q) (upFrom 0 placeCount)
+  targets-led : bitAt (targetsOf masks places l) q ≡ anyOf (λ k. bitAt places k && bitAt (maskOn masks k l) q) (upFrom 0 placeCount)
   targets-led =
       through-adds (targetsAdded masks places l) (λ m. bitAt m q) led (λ m. Unit {0}) placeCount (λ k m h u. tt) (λ k m h u. adds k m (bitAt places k)) placeCount 0 0 (omega arith) tt
       ∙ ap (λ b. b || anyOf led (upFrom 0 placeCount)) (bit-zero q)
     where
-      adds : (k m : ℕ) (b : Bool) → bitAt (cond b (bitOr m (maskAt masks k l)) m) q ≡ (bitAt m q || (b && bitAt (maskAt masks k l) q))
-      adds k m true = bit-or m (maskAt masks k l) q
+      adds : (k m : ℕ) (b : Bool) → bitAt (cond b (bitOr m (maskOn masks k l)) m) q ≡ (bitAt m q || (b && bitAt (maskOn masks k l) q))
+      adds k m true = bit-or m (maskOn masks k l) q
       adds k m false = or-none (bitAt m q)
 
 -- A step with label l enters v.
@@ -150,7 +150,7 @@ module _ (t : Table) (w : InRange t) (masks : List ℕ) (l : ℕ) where
     -- The same as moves of the automaton, where only places of F are reached.
     module _ (F : Formula) (small : size F ≤ 40) (d : MasksOf F 0 masks) (few-labels : l ≤ 40) (reached next : List ℕ) (long : length next ≡ frontierLength)
         (within : (s k : ℕ) → s < 256 → reachedAt reached s k ≡ true → k ≤ size F) where
-      mask-leads : (k : ℕ) → k ≤ size F → bitAt (maskAt masks k l) q ≡ leads F k l q
+      mask-leads : (k : ℕ) → k ≤ size F → bitAt (maskOn masks k l) q ≡ leads F k l q
       mask-leads k h = ap (λ m. bitAt m q) (d .mask k l (omega arith) h few-labels) ∙ target-bit F k l q
 
       pub letter-of : reachedAt (letterRead (stepsFrom t) masks l reached next) v q ≡ true → (x : ℕ) × (x < 256) × ((j : ℕ) × (reachedAt reached x j ≡ true) × Joins t F (at j x) l (at q v))
@@ -162,7 +162,7 @@ module _ (t : Table) (w : InRange t) (masks : List ℕ) (l : ℕ) where
           let (st, n, y) = some-of (enters l v) (stepsFrom t s) c in
           let (e, o) = and-true-of (onLabel l st) (eqb v (st .to)) y in
           let (k, x, u) = some-of (led masks (getD reached s 0) l q) (upFrom 0 placeCount) (sym (targets-led masks (getD reached s 0) l q) ∙ g) in
-          let (has, goes) = and-true-of (bitAt (getD reached s 0) k) (bitAt (maskAt masks k l) q) u in
+          let (has, goes) = and-true-of (bitAt (getD reached s 0) k) (bitAt (maskOn masks k l) q) u in
           let from-here = reached-to reached s k i has in
           let (f, p) = steps-are t s st .0 n in
           let step : IsStep t (record { from = s; label = l; to = v }) =
@@ -179,7 +179,7 @@ module _ (t : Table) (w : InRange t) (masks : List ℕ) (l : ℕ) where
           let goes : bitAt (targetsOn (getD reached x 0)) q ≡ true =
           targets-led masks (getD reached x 0) l q
           ∙ some-to (led masks (getD reached x 0) l q) (upFrom 0 placeCount) (upFrom-to 0 placeCount j (omega arith) (omega arith))
-          (and-true-to (bitAt (getD reached x 0) j) (bitAt (maskAt masks j l) q) has (mask-leads j inside ∙ leads-to F j l q moves)) in
+          (and-true-to (bitAt (getD reached x 0) j) (bitAt (maskOn masks j l) q) has (mask-leads j inside ∙ leads-to F j l q moves)) in
           letter-reached reached next long
           ∙ some-to (brings reached) (upFrom 0 256) (upFrom-to 0 256 x (omega arith) (omega arith))
           (and-true-to (hasState reached x) _ i (and-true-to (bitAt (targetsOn (getD reached x 0)) q) _ goes enter))

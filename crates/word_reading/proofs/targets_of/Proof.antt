@@ -7,8 +7,8 @@ use native.Mathlib.Omega.{arith}
 use lib.Bits.{bitOr}
 use lib.ListN.{getD}
 use Rattle.automaton.specs.Sizes.{placeCount, columnCount}
-use Rattle.target_masks.specs.Masks.{bitAt}
-use Rattle.frontier.specs.Reached.{maskAt, targetsAdded, targetsOf}
+use Rattle.target_masks.specs.Masks.{bitAt, maskOn}
+use Rattle.frontier.specs.Reached.{targetsAdded, targetsOf}
 use Rattle.frontier.proofs.Laws.Bits.{BitsFrom, bits-all, bits-some, bits-first, bits-rest}
 use Rattle.frontier.proofs.Laws.Through.{left, left-over, left-skip, left-turn}
 use Rattle.word_reading.proofs.targets_of.Statement.{statement}
@@ -22,7 +22,7 @@ abbrev μ-loop : tie.MeasureT-loop
 μ-loop masks places label at found₀ rest₀ k₀ found rest k = placeCount - k
 
 idle : (masks : List ℕ) (places label k found : ℕ) → bitAt places k ≡ false → targetsAdded masks places label k found ≡ found
-idle masks places label k found e = ap (λ b. cond b (bitOr found (maskAt masks k label)) found) e
+idle masks places label k found e = ap (λ b. cond b (bitOr found (maskOn masks k label)) found) e
 
 column-requires : tie.Need-column-requires Inv-loop μ-loop
 column-requires c κs = omega (arith, c .pre)
@@ -73,7 +73,7 @@ loop-again c =
     let set = loop .inv .1 few in
     let next = c .next-bit2 .ensures in
     let first = bits-first (loop .inv .0) few set next in
-    let more = bitOr (loop .found) (maskAt (a .masks .now) (loop .k) (a .label)) in (
+    let more = bitOr (loop .found) (maskOn (a .masks .now) (loop .k) (a .label)) in (
       bits-rest (loop .inv .0) few set next,
       first .found,
       loop .inv .2
