@@ -1,4 +1,4 @@
-//! The samples, and what the README shows of them.
+//! The samples, and what the documents show of them.
 
 mod common;
 
@@ -34,28 +34,31 @@ fn shown(document: &str) -> Vec<String> {
 }
 
 #[test]
-fn the_readme_shows_the_changer_and_its_listing_byte_for_byte() {
-    let shown = shown(&read("README.md"));
+fn the_example_shows_the_changer_and_its_listing_byte_for_byte() {
+    let shown = shown(&read("docs/EXAMPLE.md"));
     let table = read("samples/changer/table.txt");
     let formula = read("samples/changer/formula.txt");
-    assert_eq!(shown[1..], [table, formula, listing("samples/changer")]);
+    assert_eq!(shown, [table, formula, listing("samples/changer")]);
 }
 
 #[test]
-fn the_changer_comes_to_wait_in_the_three_ways_that_the_readme_tells() {
-    let (readme, table) = (read("README.md"), read("samples/changer/table.txt"));
+fn the_changer_comes_to_wait_in_the_three_ways_that_the_documents_tell() {
+    let (readme, example) = (read("README.md"), read("docs/EXAMPLE.md"));
+    let table = read("samples/changer/table.txt");
     let formula = read("samples/changer/formula.txt");
     let question = question(&table, formula.trim_end());
     let names = ["req", "send", "clamp", "ack", "drop", "retry", "done"];
     for way in ["req send drop", "req send clamp drop", "req send drop retry drop"] {
-        assert!(readme.contains(&format!("`{way}`")), "{way}");
+        for document in [&readme, &example] {
+            assert!(document.contains(&format!("`{way}`")), "{way}");
+        }
         let label = |name| names.iter().position(|known| *known == name).expect("a name") as u8 + 1;
         let into_the_wait: Vec<u8> = way.split(' ').map(label).collect();
         assert!(question.accepts(&[into_the_wait.as_slice(), &[0]].concat()), "{way}");
     }
     for edge in ["2 5 5", "3 5 5", "2 5 4", "4 6 2", "5 0 7"] {
         let columns: String = edge.split(' ').map(|number| format!("{number:>6}")).collect();
-        assert!(readme.contains(&format!("`{edge}`")), "{edge}");
+        assert!(example.contains(&format!("`{edge}`")), "{edge}");
         assert!(listing("samples/changer").lines().any(|line| line == columns), "{edge}");
     }
 }
