@@ -51,6 +51,11 @@ no-such-name : overM "EX[a] T" ≡ refusal 7 3
 unfolding readFormula findFrom
 no-such-name = refl
 
+-- Of two names that the table lacks, the first.
+first-of-two-names : overM "EX[b] EX[a] T" ≡ refusal 7 3
+unfolding readFormula findFrom
+first-of-two-names = refl
+
 no-class : overM "T | ~T" ≡ refusal 9 0
 unfolding readFormula findFrom classOf highestWithoutClass
 no-class = refl

@@ -1,18 +1,22 @@
 -- Worked examples: what `explain` writes, from the two texts.
 use mathlib.Core.Path.{_≡_, refl}
 use mathlib.Core.List.{List, [], _∷_, _++_}
-use Prim.Native.Nat.{ℕ}
+use Prim.Native.Nat.{ℕ, _≤_}
+use native.Mathlib.Omega.{arith}
 use Rattle.columns.specs.Ascii.{ascii}
 use Rattle.columns.specs.Columns.{column, digitsWithin}
+use Rattle.lts.specs.Sizes.{tableLength}
 use Rattle.lts.specs.Names.{findFrom}
 use Rattle.lts.specs.Steps.{silent, stepsFrom}
 use Rattle.lts.specs.Text.{ended}
 use Rattle.lts.specs.Reading.{readTable, readLabels, readTransitions}
 use Rattle.lts.proofs.Examples.{lines, M-lines}
+use Rattle.actl.specs.Sizes.{formulaLength}
 use Rattle.actl.specs.Actions.{inSet, maskOf, meets, passes}
 use Rattle.actl.specs.Formulas.{classOf, highestWithoutClass}
 use Rattle.actl.specs.Reading.{readFormula}
 use Rattle.satisfaction.specs.Holds.{holds, within}
+use Rattle.automaton.specs.Bytes.{rowLength, edgeLength}
 use Rattle.automaton.specs.Listing.{finalOf, final, leadsOf, leads, targets, canFinish, numberOf, movesToAmong, movesOnAmong, movesFromAmong, visit, visits, expandAmong, searchAmong, positionsAmong, movesUptoAmong, listing}
 use Rattle.explanations.specs.Printed.{printed, explainText}
 
@@ -34,3 +38,7 @@ listing-of-M = refl
 refusal-line : explainText [] [] ≡ lines ("     1     1" ∷ [])
 unfolding explainText printed readTable column digitsWithin
 refusal-line = refl
+
+-- 01: "Each length in docs/ is one number, the same for every input and at most 16,777,216 bytes; a row or edge place takes at most 64 bytes."
+lengths-capped : (tableLength ≤ 16777216) × (formulaLength ≤ 16777216) × (rowLength ≤ 64) × (edgeLength ≤ 64)
+lengths-capped = (omega arith, omega arith, omega arith, omega arith)

@@ -96,3 +96,17 @@ name-used = refl
 not-above : readTable (lines ("     3     2     3     0" ∷ "     1 req" ∷ "     2 ack" ∷ "     0     1     1" ∷ "     0     1     1" ∷ [])) ≡ refusal 4 5
 unfolding readTable readLabels readTransitions column digitsWithin
 not-above = refl
+
+-- On a line: 1 before 2, 2 before 3 and before 4. A line with a blank behind it and out of turn; a name used, out of turn; a transition as before, to a state
+-- that is none.
+layout-before-turn : readTable (lines ("     3     2     3     0" ∷ "     2 req " ∷ [])) ≡ refusal 1 2
+unfolding readTable readLabels readTransitions column digitsWithin
+layout-before-turn = refl
+
+turn-before-name : readTable (lines ("     3     2     3     0" ∷ "     1 req" ∷ "     3 req" ∷ [])) ≡ refusal 2 3
+unfolding readTable readLabels readTransitions column digitsWithin
+turn-before-name = refl
+
+range-before-order : readTable (lines ("     3     1     2     0" ∷ "     1 req" ∷ "     1     1     1" ∷ "     0     1     3" ∷ [])) ≡ refusal 2 4
+unfolding readTable readLabels readTransitions column digitsWithin
+range-before-order = refl
