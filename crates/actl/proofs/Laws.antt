@@ -1,7 +1,9 @@
 -- Laws that several proofs cite, by topic.
 pub mod Accepted
+pub mod ByGrammar
 pub mod Checked
 pub mod Classed
+pub mod Foreign
 pub mod Forms
 pub mod Lists
 pub mod Masks
@@ -10,6 +12,7 @@ pub mod Parsing
 pub mod Polish
 pub mod Prepared
 pub mod Recoded
+pub mod Refusals
 pub mod Replies
 pub mod Sets
 pub mod Skeletons

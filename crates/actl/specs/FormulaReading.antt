@@ -34,9 +34,13 @@ onPrepared table formula next =
     withTable (preparedTable table) (λ t.
     withFormula (preparedFormula (labels t) formula) (λ F. next t F)))
 
+-- An entry over a prepared table, and a buffer lent for a prepared formula: the table in the bytes.
+abbrev pub onTable : {A : Type 0} → List ℕ → List ℕ → (Table → Reply A) → Reply A
+onTable table buffer next = longEnough table buffer (withTable (preparedTable table) next)
+
 -- `table` is the prepared table, `text` the formula's text, `buffer` what is lent for the prepared formula.
 unfoldable pub formulaReading : List ℕ → List ℕ → List ℕ → Reply Formula
-formulaReading table text buffer = longEnough table buffer (withTable (preparedTable table) (λ t. readFormula (t .names) text))
+formulaReading table text buffer = onTable table buffer (λ t. readFormula (t .names) text)
 
 abbrev pub formulaReplied : List ℕ → List ℕ → List ℕ → Reply (Unit {0})
 formulaReplied table text buffer = answers (λ F. tt) (formulaReading table text buffer)

@@ -1,6 +1,8 @@
 pub mod Actions
+pub mod ByGrammar
 pub mod Check
 pub mod Cursor
+pub mod Foreign
 pub mod FormulaReading
 pub mod Formulas
 pub mod Grammar

@@ -54,6 +54,10 @@ pub record IsForm (n : ℕ) (b : List ℕ) (F : Formula) : Type 0 where
   pub classed : (f : Formula) → List·Memᴰ f (nodes F) → classOf f ≡ 0 → ⊥
   pub within : (f : Formula) → List·Memᴰ f (nodes F) → slotWithin n (slotOf f) ≡ true
 
+-- Over a table of n labels, the bytes are the form of some formula.
+abbrev pub FormOfSome : ℕ → List ℕ → Type 0
+FormOfSome n b = (F : Formula) × IsForm n b F
+
 -- The formula in bytes. Preorder is Polish notation: the slots from the last to the first, over a stack of trees.
 abbrev pub number : ℕ → List ℕ → ℕ
 number zero b = 0

@@ -32,9 +32,13 @@ firstUnknown names f (m ∷ l) = unknownAt (lookup names (m .name .bytes)) (offs
 abbrev pub withClasses : Formula → Reply Formula
 withClasses F = unless (leb (size F) mostNodes) 8 (size F) (unlessFound (highestWithoutClass F) 9 (accepted F))
 
+-- Behind the grammar, of a text whose tree is f: 7, 8, 9, or the formula.
+abbrev pub onTree : List (List ℕ) → Disjunction → Reply Formula
+onTree names f = unlessFound (firstUnknown names f (namesF f [])) 7 (withClasses (formulaOf names f))
+
 abbrev pub onResult : List (List ℕ) → List ℕ → Result → Reply Formula
 onResult names text (refused rest) = refusal 6 (length text - length rest)
-onResult names text (whole f) = unlessFound (firstUnknown names f (namesF f [])) 7 (withClasses (formulaOf names f))
+onResult names text (whole f) = onTree names f
 
 unfoldable pub readFormula : List (List ℕ) → List ℕ → Reply Formula
 readFormula names text = unless (leb (length text) longestText) 5 (length text) (onResult names text (read text))

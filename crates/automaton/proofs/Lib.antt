@@ -19,6 +19,7 @@ pub mod PathWords
 pub mod Portions
 pub mod Pruned
 pub mod Reading
+pub mod Refusals
 pub mod Rows
 pub mod Search
 pub mod States

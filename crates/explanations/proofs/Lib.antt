@@ -2,6 +2,7 @@ pub mod Beginnings
 pub mod BenchSheet
 pub mod Examples
 pub mod Explained
+pub mod Grammatical
 pub mod Languages
 pub mod Lines
 pub mod Listed

@@ -12,7 +12,9 @@ ghost use Prim.Native.Nat.{_+_, _*_, _<_, _≤_};
 ghost use lib.Dec.{eqb, leb};
 ghost use lib.ListN.{length};
 ghost use Rattle.actl.specs.Sizes.{mostNodes, formulaLength};
-ghost use Rattle.actl.specs.Prepared.{maskWithin, slotAt};
+ghost use Rattle.lts.specs.Sizes.{mostLabels};
+ghost use Rattle.lts.specs.Answers.{Decides};
+ghost use Rattle.actl.specs.Prepared.{maskWithin, slotAt, FormOfSome};
 ghost use Rattle.actl.specs.Shaped.{firstUsed, secondUsed};
 ghost use Rattle.actl.specs.Check.{isPrepared, slotFits, slotsFit, zerosFrom};
 
@@ -91,6 +93,7 @@ fn zeros_from(formula: &[u8], from: usize) -> bool
 // 01: "formula bytes that aren't the one form, given in docs/, of 1 to 40 nodes in order, each with a class, sets within this table's labels"
 pub fn is_prepared(labels: usize, formula: &[u8]) -> bool
     ensures { λ r. ⌜ r ≡ isPrepared labels (now (formula .entry)) ⌝ }
+    ensures { λ r. ⌜ (labels ≤ mostLabels → Decides (FormOfSome labels (now (formula .entry))) r) ⌝ }
 {
     if formula.len() < FORMULA_LENGTH {
         return false;

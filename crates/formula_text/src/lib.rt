@@ -6,6 +6,7 @@ use lts::sizes::TABLE_LENGTH;
 ghost use mathlib.Core.Path.{_≡_};
 ghost use Rattle.formula_text.specs.Replies.{formulaReply};
 ghost use Rattle.actl.specs.FormulaReading.{formulaReplied, formulaLeft};
+ghost use Rattle.actl.specs.ByGrammar.{FormulaByGrammar};
 use crate::writing::answer;
 use formula_terms::Reading;
 use formula_terms::read_text;
@@ -28,6 +29,7 @@ pub enum FormulaReply {
 pub fn read_formula(table: &[u8], text: &[u8], formula: &mut [u8]) -> FormulaReply
     ensures { λ r. ⌜ formulaReply r ≡ formulaReplied (now (table .entry)) (now (text .entry)) (now (formula .entry)) ⌝ }
     ensures { λ r. ⌜ now (formula .exit) ≡ formulaLeft (now (table .entry)) (now (text .entry)) (now (formula .entry)) ⌝ }
+    ensures { λ r. ⌜ FormulaByGrammar (now (table .entry)) (now (text .entry)) (now (formula .entry)) (formulaReply r) (now (formula .exit)) ⌝ }
 {
     if table.len() < TABLE_LENGTH {
         return FormulaReply::BufferShort(TABLE_LENGTH);

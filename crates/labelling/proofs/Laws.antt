@@ -1,4 +1,5 @@
 -- Laws that several proofs cite, by topic.
 pub mod Nodes
 pub mod Prepared
+pub mod Refusals
 pub mod Rows

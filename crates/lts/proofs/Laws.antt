@@ -16,6 +16,7 @@ pub mod Pasted
 pub mod Prepared
 pub mod Reading
 pub mod ReadingLabels
+pub mod Refusals
 pub mod SlotBytes
 pub mod SlotNames
 pub mod Slots

@@ -9,9 +9,8 @@ use native.Mathlib.Omega.{arith}
 use lib.Dec.{leb, eqb, ltb}
 use lib.ListN.{length}
 use lib.Pow.{pow-pos}
-use lib.Seq.{take-at}
 use borrow.Author.Tests.{leb-true, lt-ltb}
-use Rattle.actl.specs.Sizes.{mostNodes, formulaLength, longestText}
+use Rattle.actl.specs.Sizes.{mostNodes, longestText}
 use Rattle.lts.specs.Reply.{Reply, accepted, refusal, unless}
 use Rattle.lts.proofs.Lists.{and-true-to}
 use Rattle.actl.specs.Actions.{Mask, Cond, silent, labels, maskOf}
@@ -23,8 +22,8 @@ use Rattle.actl.specs.Prepared.{slotOf, formulaBytes, maskWithin, slotWi
 use Rattle.actl.specs.Reader.{Result, whole, refused, read}
 use Rattle.actl.specs.Reading.{unlessFound, firstUnknown, withClasses, onResult, readFormula}
 use Rattle.actl.proofs.Laws.Classed.{all-classed}
-use Rattle.actl.proofs.Laws.Forms.{length-form}
 use Rattle.actl.proofs.Laws.Masks.{mask-within}
+use Rattle.actl.proofs.Laws.Prepared.{has-form}
 
 -- Sets within n labels, at every node.
 abbrev EachWithin : ℕ → List Formula → Type 0
@@ -114,12 +113,7 @@ unfolding readFormula
 reading-accepts names text e = result-accepts names text (read text) (unless-accepts (leb (length text) longestText) 5 (length text) (onResult names text (read text)) e .1)
 
 pub accepted-form : (n : ℕ) (F : Formula) (rest : List ℕ) → Accepts n F → IsForm n (formulaBytes F ++ rest) F
-accepted-form n F rest a = record {
-  form = take-at (formulaBytes F) rest formulaLength (length-form F (a .few));
-  few = a .few;
-  classed = all-classed F (a .no-classless);
-  within = a .within;
-}
+accepted-form n F rest a = has-form n F rest (a .few) (all-classed F (a .no-classless)) (a .within)
 
 pub reading-leaves-form : (names : List (List ℕ)) (text rest : List ℕ) {F : Formula} → readFormula names text ≡ accepted F → IsForm (length names) (formulaBytes F ++ rest) F
 reading-leaves-form names text rest {F} e = accepted-form (length names) F rest (reading-accepts names text e)

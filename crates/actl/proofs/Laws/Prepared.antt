@@ -1,7 +1,8 @@
 -- What a prepared formula's bytes hold: the node count, and in slot k the node k.
 use mathlib.Core.Path.{_≡_, refl, sym, ap, _∙_, subst}
-use mathlib.Core.Bool.{Bool, true, false, cond, not, _&&_}
-use mathlib.Core.List.{List, [], _∷_, _++_, map, append-nil}
+use mathlib.Core.Logic.{_↔_}
+use mathlib.Core.Bool.{Bool, true, false, true≢false, cond, not, _&&_}
+use mathlib.Core.List.{List, [], _∷_, _++_, map, append-nil, List·Memᴰ}
 use mathlib.Core.Option.{Option, none, some}
 use Prim.Native.Nat.{ℕ, zero, suc, _+_, _*_, _^_, _≤_, _<_}
 use native.Mathlib.Nat.{lt-of-lt-of-le}
@@ -9,22 +10,25 @@ use native.Mathlib.Omega.{arith}
 use lib.Dec.{leb, eqb}
 use lib.Pow.{pow-mono}
 use lib.ListN.{length, getD, take, length-map, List·getD-map}
-use lib.Seq.{getD-take, ext-getD}
+use lib.Seq.{getD-take, ext-getD, take-at}
 use borrow.Author.Tests.{leb-true, le-leb, eqb-false, ne-eqb, not-true}
 use Rattle.actl.specs.Sizes.{mostNodes, formulaLength}
+use Rattle.lts.specs.Sizes.{mostLabels}
+use Rattle.lts.specs.Answers.{isSome, Decides}
 use Rattle.columns.specs.Bytes.{sameBytes}
 use Rattle.lts.specs.Lists.{upFrom, bind, every}
+use Rattle.lts.proofs.Laws.Prepared.{is-some-of}
 use Rattle.lts.proofs.Lists.{and-true-of, and-true-to, every-of, every-to, getD-mem}
 use Rattle.actl.specs.Actions.{Mask}
 use Rattle.actl.specs.Formulas.{Formula, tru, size, nodes, classOf}
-use Rattle.actl.specs.Prepared.{Slot, slot, slotOf, formulaBytes, slotAt, maskWithin, slotWithin, IsForm, isForm, treesIn, formed, preparedFormula}
+use Rattle.actl.specs.Prepared.{Slot, slot, slotOf, formulaBytes, slotAt, maskWithin, slotWithin, IsForm, FormOfSome, isForm, treesIn, formed, preparedFormula}
 use Rattle.actl.specs.Shaped.{shaped, firstUsed, secondUsed}
 use Rattle.actl.proofs.Nodes.{length-nodes}
 use Rattle.actl.proofs.Laws.Lists.{length-upFrom, getD-upFrom, same-bytes-of, same-bytes-refl}
 use Rattle.actl.proofs.Laws.Masks.{within-low}
 use Rattle.actl.proofs.Laws.Slots.{slot-by-parts, node-shaped}
 use Rattle.actl.proofs.Laws.Polish.{clean, slotsOf, trees-of, tree-of-slots}
-use Rattle.actl.proofs.Laws.Forms.{StandsFor, slot-of-form, slot-of-front}
+use Rattle.actl.proofs.Laws.Forms.{StandsFor, slot-of-form, slot-of-front, length-form}
 
 formed-of : (n : ℕ) (b : List ℕ) (t : Option (List Formula)) {F : Formula} → formed n b t ≡ some F → (t ≡ some (F ∷ [])) × (isForm n b F ≡ true)
 formed-of n b none e = let z : _≡_ {A = ℕ} 0 1 = cc in absurd (omega arith)
@@ -123,3 +127,26 @@ module _ (n : ℕ) (b : List ℕ) (F : Formula) (h : IsForm n b F) where
   pub prepared-to : n ≤ 63 → preparedFormula n b ≡ some F
   unfolding preparedFormula
   prepared-to few = ap (λ l. formed n b (treesIn l)) (form-slots few) ∙ (ap (formed n b) (tree-of-slots F) ∙ ap (λ t. cond t (some F) none) (is-form-to n b F h))
+
+-- Over the labels that a table may have, prepared bytes are the forms: each of one formula, and each formula within the limits has one.
+pub prepared-is-form : (n : ℕ) → n ≤ mostLabels → (b : List ℕ) (F : Formula) → (preparedFormula n b ≡ some F) ↔ IsForm n b F
+prepared-is-form n few b F = (λ e. prepared-of n b e, λ h. prepared-to n b F h (omega arith))
+
+pub prepared-form : (n : ℕ) → n ≤ mostLabels → (b : List ℕ) → ((F : Formula) × (preparedFormula n b ≡ some F)) ↔ FormOfSome n b
+prepared-form n few b = (λ p. (p .0, prepared-is-form n few b (p .0) .0 (p .1)), λ p. (p .0, prepared-is-form n few b (p .0) .1 (p .1)))
+
+pub one-form : (n : ℕ) → n ≤ mostLabels → (b : List ℕ) (F G : Formula) → IsForm n b F → IsForm n b G → F ≡ G
+one-form n few b F G h k =
+    let e : some F ≡ some G = sym (prepared-is-form n few b F .1 h) ∙ prepared-is-form n few b G .1 k in
+    cc
+
+pub has-form : (n : ℕ) (F : Formula) (rest : List ℕ) → size F ≤ mostNodes → ((f : Formula) → List·Memᴰ f (nodes F) → classOf f ≡ 0 → ⊥)
+    → ((f : Formula) → List·Memᴰ f (nodes F) → slotWithin n (slotOf f) ≡ true) → IsForm n (formulaBytes F ++ rest) F
+has-form n F rest few classed within =
+    record { form = take-at (formulaBytes F) rest formulaLength (length-form F few); few = few; classed = classed; within = within }
+
+pub form-tested : (n : ℕ) → n ≤ mostLabels → (b : List ℕ) → Decides (FormOfSome n b) (isSome (preparedFormula n b))
+form-tested n few b = record {
+  yes = λ e. prepared-form n few b .0 (is-some-of (preparedFormula n b) e);
+  no = λ e h. let (F, d) = prepared-form n few b .1 h in true≢false (sym (ap isSome d) ∙ e);
+}

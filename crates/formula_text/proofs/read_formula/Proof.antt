@@ -6,9 +6,9 @@ use Prim.Native.Nat.{ℕ}
 use borrow.Author.Tests.{not-true, not-false}
 use lib.ListN.{length-replicate}
 use Rattle.actl.specs.Sizes.{cellsLength}
-use Rattle.lts.specs.Reply.{Reply, answers, leftIn}
-use Rattle.actl.specs.Formulas.{Formula}
-use Rattle.actl.specs.Prepared.{formulaBytes}
+use Rattle.actl.specs.FormulaReading.{formulaReading, formulaReplied, formulaLeft}
+use Rattle.actl.specs.ByGrammar.{FormulaByGrammar}
+use Rattle.actl.proofs.Laws.ByGrammar.{formula-by-grammar}
 use Rattle.formula_text.specs.Replies.{formulaReply}
 use Rattle.actl.specs.Readers.{namesIn}
 use Rattle.formula_terms.specs.TermReplies.{ReadingAnswer}
@@ -18,8 +18,10 @@ use Rattle.formula_text.proofs.ReadingEntry.{short-table, short-formula
 use Rattle.formula_text.proofs.read_formula.Statement.{statement}
 use Rattle.formula_text.proofs.read_formula.Tie as tie
 
-both : {a : Reply Formula} {e : List ℕ} {r : FormulaReply} {x : List ℕ} → FormulaAnswered a e r x → (formulaReply r ≡ answers (λ F. tt) a) × (x ≡ leftIn formulaBytes a e)
-both h = (h .replies, h .leaves)
+-- The reply and the bytes, by the definitions and by the grammar.
+both : {b s e : List ℕ} {r : FormulaReply} {x : List ℕ} → FormulaAnswered (formulaReading b s e) e r x
+    → (formulaReply r ≡ formulaReplied b s e) × ((x ≡ formulaLeft b s e) × FormulaByGrammar b s e (formulaReply r) x)
+both {b} {s} {e} h = (h .replies, (h .leaves, formula-by-grammar b s e (h .replies) (h .leaves)))
 
 returns : tie.Need-returns
 returns c =

@@ -25,7 +25,7 @@ returns : tie.Need-returns
 returns c =
     let read = c .before .before .before .before .read-formula in (
       c .formula-number .ensures ∙ ap numberIn (read .ensures .0),
-      (read .ensures .1, c .before .formula-figure .ensures ∙ ap (figureIn (λ _. 0)) (read .ensures .0)),
+      (read .ensures .1 .0, c .before .formula-figure .ensures ∙ ap (figureIn (λ _. 0)) (read .ensures .0)),
     )
 
 pub explainer-read-formula-spec : {M : Type 1} → statement M

@@ -86,7 +86,7 @@ returns-3 c =
     let x = table-read (a .tabletext .now) (a .table .now) (table .read-table .result) (table .read-table .last .1 .0) (table .read-table .ensures .0) (table .read-table .ensures .1) zero (start .pre .0) in
     let none : numberIn (formulaReply (read .read-formula .result)) ≡ 0 = omega (arith, number .formula-number .ensures) in
     let y = formula-read (table .read-table .last .1 .0) (a .formulatext .now) (a .formula .now) (start .pre .1) (x .whole) (x .table) (x .held)
-    (read .read-formula .result) (read .read-formula .last .1 .1 .0) (read .read-formula .ensures .0) (read .read-formula .ensures .1) none in
+    (read .read-formula .result) (read .read-formula .last .1 .1 .0) (read .read-formula .ensures .0) (read .read-formula .ensures .1 .0) none in
     both-read (a .tabletext .now) (a .formulatext .now) (x .table) (x .read) (y .formula) (y .read) _ _ (x .bytes) (y .bytes)
 
 pub read-both-spec : {M : Type 1} → statement M

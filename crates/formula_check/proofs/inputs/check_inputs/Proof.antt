@@ -50,7 +50,7 @@ returns-4 c =
     let third = last .before .before in
     let a = third .before .before .before .before .before .before .args in
     let known = sym (third .before .is-prepared .ensures) ∙ not-false _ (third .if3 .left) in
-    let found = tested (a .table .now) (a .formula .now) (last .before .label-count .ensures .count) (last .is-prepared2 .ensures) (not-true _ (c .if4 .taken)) in
+    let found = tested (a .table .now) (a .formula .now) (last .before .label-count .ensures .count) (last .is-prepared2 .ensures .0) (not-true _ (c .if4 .taken)) in
     sym (formula-foreign (a .table .now) (a .formula .now) next (third .before .before .before .if1 .left) (third .before .before .if2 .left) known found)
 
 returns-5 : tie.Need-returns-5
@@ -59,7 +59,7 @@ returns-5 c =
     let third = last .before .before in
     let a = third .before .before .before .before .before .before .args in
     let known = sym (third .before .is-prepared .ensures) ∙ not-false _ (third .if3 .left) in
-    let found = tested (a .table .now) (a .formula .now) (last .before .label-count .ensures .count) (last .is-prepared2 .ensures) (not-false _ (c .if4 .left)) in
+    let found = tested (a .table .now) (a .formula .now) (last .before .label-count .ensures .count) (last .is-prepared2 .ensures .0) (not-false _ (c .if4 .left)) in
     let (F, e) = is-some-of (preparedFormula (labels (tableIn (a .table .now))) (a .formula .now)) found in
     sym (both-prepared (a .table .now) (a .formula .now) next (third .before .before .before .if1 .left) (third .before .before .if2 .left) known F e)
 

@@ -1,24 +1,39 @@
 -- `is_prepared` meets its contract: each test fails only where there is no prepared formula, and all passed there is one.
 use mathlib.Core.Path.{_≡_, sym, ap, _∙_, subst}
-use Prim.Native.Nat.{_+_, _*_, _<_}
+use mathlib.Core.Bool.{Bool}
+use mathlib.Core.List.{List}
+use Prim.Native.Nat.{ℕ, _+_, _*_, _≤_, _<_}
 use native.Mathlib.Omega.{arith}
 use borrow.Author.Tests.{not-true, not-false}
 use Rattle.actl.specs.Sizes.{nodeSlotLength}
 use Rattle.lts.specs.Answers.{Decides}
-use Rattle.actl.specs.Check.{slotsFit, zerosFrom, SpelledClassed}
+use Rattle.lts.specs.Sizes.{mostLabels}
+use Rattle.actl.specs.Prepared.{FormOfSome}
+use Rattle.actl.specs.Check.{isPrepared, slotsFit, zerosFrom, SpelledClassed}
+use Rattle.actl.proofs.Laws.Prepared.{form-tested}
 use Rattle.formula_classes.proofs.Laws.Decided.{short-bytes, many-nodes, slots-foreign, not-zeros, decided}
 use borrow.Author.Needs.{needs}
 use Rattle.formula_check.proofs.prepared.is_prepared.Statement.{statement}
 use Rattle.formula_check.proofs.prepared.is_prepared.Tie as tie
 
+-- The answer is the test's, and so it tells whether the bytes are some formula's form.
+tested : (n : ℕ) (b : List ℕ) {r : Bool} → r ≡ isPrepared n b → (r ≡ isPrepared n b) × (n ≤ mostLabels → Decides (FormOfSome n b) r)
+tested n b e = (e, λ few. subst (Decides (FormOfSome n b)) (sym e) (form-tested n few b))
+
 returns : tie.Need-returns
-returns c = short-bytes (c .before .before .args .labels) (c .before .before .args .formula .now) (c .if1 .taken)
+returns c =
+    let n = c .before .before .args .labels in
+    let b = c .before .before .args .formula .now in
+    tested n b (short-bytes n b (c .if1 .taken))
 
 node-count-requires : tie.Need-node-count-requires
 node-count-requires c κs = search needs
 
 returns-2 : tie.Need-returns-2
-returns-2 c = many-nodes (c .before .before .before .before .args .labels) (c .before .before .before .before .args .formula .now) (subst (λ k. 40 < k) (c .before .node-count .ensures) (c .if2 .taken))
+returns-2 c =
+    let n = c .before .before .before .before .args .labels in
+    let b = c .before .before .before .before .args .formula .now in
+    tested n b (many-nodes n b (subst (λ k. 40 < k) (c .before .node-count .ensures) (c .if2 .taken)))
 
 slots-fit-requires : tie.Need-slots-fit-requires
 slots-fit-requires c κs = search needs
@@ -27,7 +42,7 @@ returns-3 : tie.Need-returns-3
 returns-3 c =
     let n = c .before .before .before .before .before .before .args .labels in
     let b = c .before .before .before .before .before .before .args .formula .now in
-    slots-foreign n b (sym (ap (slotsFit n b) (c .before .before .before .node-count .ensures)) ∙ (sym (c .before .slots-fit .ensures) ∙ not-true (c .before .slots-fit .result) (c .if3 .taken)))
+    tested n b (slots-foreign n b (sym (ap (slotsFit n b) (c .before .before .before .node-count .ensures)) ∙ (sym (c .before .slots-fit .ensures) ∙ not-true (c .before .slots-fit .result) (c .if3 .taken))))
 
 mul-zeros-from : tie.Need-mul-zeros-from
 mul-zeros-from c = search needs
@@ -42,7 +57,7 @@ returns-4 : tie.Need-returns-4
 returns-4 c =
     let n = c .before .before .before .before .before .before .before .before .args .labels in
     let b = c .before .before .before .before .before .before .before .before .args .formula .now in
-    not-zeros n b (sym (ap (λ k. zerosFrom b (1 + k * nodeSlotLength)) (c .before .before .before .before .before .node-count .ensures)) ∙ (sym (c .before .zeros-from .ensures) ∙ not-true (c .before .zeros-from .result) (c .if4 .taken)))
+    tested n b (not-zeros n b (sym (ap (λ k. zerosFrom b (1 + k * nodeSlotLength)) (c .before .before .before .before .before .node-count .ensures)) ∙ (sym (c .before .zeros-from .ensures) ∙ not-true (c .before .zeros-from .result) (c .if4 .taken))))
 
 spelled-requires : tie.Need-spelled-requires
 spelled-requires c κs = search needs
@@ -53,11 +68,11 @@ returns-5 c =
     let b = c .before .before .before .before .before .before .before .before .before .args .formula .now in
     let count = c .before .before .before .before .before .before .node-count .ensures in
     let few = c .before .before .before .before .before .if2 .left in
-    decided n b (c .before .before .before .before .before .before .before .if1 .left) (λ i. c .before .before .before .before .before .before .before .before .shared-slice-known .given i .fits) (omega arith)
+    tested n b (decided n b (c .before .before .before .before .before .before .before .if1 .left) (λ i. c .before .before .before .before .before .before .before .before .shared-slice-known .given i .fits) (omega arith)
     (sym (ap (slotsFit n b) count) ∙ (sym (c .before .before .before .before .slots-fit .ensures) ∙ not-false (c .before .before .before .before .slots-fit .result) (c .before .before .before .if3 .left)))
     (sym (ap (λ k. zerosFrom b (1 + k * nodeSlotLength)) count) ∙ (sym (c .before .before .zeros-from .ensures) ∙ not-false (c .before .before .zeros-from .result) (c .before .if4 .left)))
     (c .spelled .result)
-    (subst (λ k. Decides (SpelledClassed b k) (c .spelled .result)) count (c .spelled .ensures))
+    (subst (λ k. Decides (SpelledClassed b k) (c .spelled .result)) count (c .spelled .ensures)))
 
 pub is-prepared-spec : {M : Type 1} → statement M
 is-prepared-spec =
