@@ -7,6 +7,7 @@ pub mod FormulaReading
 pub mod Formulas
 pub mod Grammar
 pub mod HoldsFormula
+pub mod InPrepared
 pub mod Meaning
 pub mod Mentions
 pub mod Prepared

@@ -3,6 +3,7 @@ use mathlib.Core.Path.{_≡_, refl}
 use mathlib.Core.Bool.{Bool, true, false}
 use mathlib.Core.List.{List, [], _∷_}
 use Prim.Native.Nat.{ℕ}
+use native.Mathlib.Omega.{arith}
 use Rattle.columns.specs.Ascii.{ascii}
 use Rattle.lts.specs.Steps.{Step, Table, silent, stepsFrom}
 use Rattle.lts.proofs.Examples.{M, step}
@@ -12,6 +13,7 @@ use Rattle.satisfaction.specs.Holds.{holds, within}
 use Rattle.automaton.specs.Listing.{finalOf, final, leadsOf, leads, targets, canFinish, numberOf, movesToAmong, movesOnAmong, movesFromAmong, visit, visits, expandAmong, searchAmong, positionsAmong, movesUptoAmong, Row, Edge, Listing, listing}
 use Rattle.automaton.specs.DeadEnds.{wholeListing, dropDeadEnds, rowFinishes}
 use Rattle.automaton.specs.Words.{acceptsFrom, accepts}
+use Rattle.automaton.specs.AcceptsBytes.{AcceptsBytes}
 
 -- One state with loops a, b, c (labels 1, 2, 3).
 abbrev loops : Table
@@ -41,6 +43,16 @@ bare = record { rows = record { place = 0; state = 0; final = false } ∷ []; ed
 one-bare-row : listing M (euThen 6 0 tru) ≡ bare
 unfolding listing positionsAmong searchAmong expandAmong visits visit movesUptoAmong movesFromAmong movesOnAmong movesToAmong numberOf canFinish targets leads leadsOf final finalOf holds within stepsFrom meets passes inSet classOf silent
 one-bare-row = refl
+
+-- Two rows and one edge in lent places, as AX[ack] T leaves them on M: word 1 is accepted, and the empty word is not.
+abbrev AcceptedOnM : List ℕ → Type 0
+AcceptedOnM w = AcceptsBytes (record { rows = 2; edges = 1 }) (0 ∷ 0 ∷ 0 ∷ 2 ∷ 1 ∷ 1 ∷ []) (0 ∷ 0 ∷ 1 ∷ 1 ∷ 0 ∷ []) w
+
+word-in-bytes : AcceptedOnM (1 ∷ [])
+word-in-bytes = (omega arith, (0, 1, omega arith, refl, (omega arith, refl)))
+
+empty-word-not : AcceptedOnM [] → ⊥
+empty-word-not (b, e) = omega (arith, e)
 
 -- From state 0 label a (1) leads to states 1 and 2, and only state 1 has a step b (2): for EX[a] EX[b] T state 2 is a dead end. Row 2 is dropped,
 -- and row 3 becomes row 2.

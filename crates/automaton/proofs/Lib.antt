@@ -1,4 +1,5 @@
 pub mod Acceptance
+pub mod Accepted
 pub mod AllPositions
 pub mod Among
 pub mod Bytes
@@ -26,3 +27,4 @@ pub mod States
 pub mod Tests
 pub mod Unique
 pub mod Visits
+pub mod WordsAccepted

@@ -1,3 +1,4 @@
+pub mod AcceptsBytes
 pub mod Build
 pub mod Bytes
 pub mod DeadEnds
@@ -9,5 +10,5 @@ pub mod Places
 pub mod Positions
 pub mod Sizes
 pub mod Witnesses
-pub mod Words
 pub mod WordAsked
+pub mod Words

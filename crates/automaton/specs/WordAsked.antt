@@ -5,10 +5,13 @@ use mathlib.Core.Option.{Option, none, some}
 use Prim.Native.Nat.{ℕ, zero, suc}
 use lib.Dec.{ltb}
 use Rattle.automaton.specs.Sizes.{longestWord}
-use Rattle.lts.specs.Reply.{Reply, accepted}
+use Rattle.lts.specs.Reply.{Reply, accepted, refusal}
 use Rattle.lts.specs.Steps.{labels}
 use Rattle.actl.specs.Reading.{unlessFound}
 use Rattle.actl.specs.FormulaReading.{onPrepared}
+use Rattle.actl.specs.InPrepared.{InPrepared}
+use Rattle.satisfaction.specs.VerdictAsked.{TellsWhether}
+use Rattle.automaton.specs.Explains.{Explains}
 use Rattle.automaton.specs.Words.{accepts}
 use Rattle.automaton.specs.Bytes.{bitOf}
 
@@ -24,3 +27,8 @@ badLetter labels w = badFrom longestWord 0 labels w
 
 unfoldable pub wordReplied : List ℕ → List ℕ → List ℕ → Reply ℕ
 wordReplied table formula word = onPrepared table formula (λ t F. unlessFound (badLetter (labels t) word) 13 (accepted (bitOf (accepts t F word))))
+
+-- The answer on prepared bytes is 1 exactly if the word explains the verdict, and 0 exactly if it does not.
+abbrev pub WordAnswered : List ℕ → List ℕ → List ℕ → Reply ℕ → Type 0
+WordAnswered table formula word (accepted answer) = InPrepared table formula (λ t F. TellsWhether (Explains t F word) answer)
+WordAnswered table formula word (refusal number figure) = Unit {0}

@@ -33,7 +33,7 @@ use Rattle.explanations.specs.Explanation.{andThen}
 use Rattle.explainer.specs.Readings.{ReadBoth}
 use Rattle.explanations.specs.BothTexts.{Read, readings}
 use Rattle.explainer.specs.declared.readings.BothRead.the-variants.{Ready, Refused}
-use Rattle.explanations.proofs.Explained.{reading-leaves-table, reading-leaves-formula}
+use Rattle.explanations.proofs.Readings.{reading-leaves-table, reading-leaves-formula}
 
 -- A reply with the number 0 accepted; any other is the refusal that number and figure say.
 pub table-zero : (r : TableReply) → numberIn (lts.tableReply r) ≡ 0 → lts.tableReply r ≡ accepted tt

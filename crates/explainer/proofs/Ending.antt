@@ -16,7 +16,8 @@ use Rattle.formula_check.specs.Inputs.{unpreparedNumber}
 use Rattle.formula_check.specs.declared.inputs.Unprepared.{Unprepared}
 use Rattle.formula_check.specs.declared.inputs.Unprepared.the-variants.{TableForeign, FormulaForeign, BufferShort}
 use Rattle.satisfaction.specs.Holds as holds
-use Rattle.labelling.specs.Replies.{verdictReply, verdictReplied}
+use Rattle.satisfaction.specs.VerdictAsked.{verdictReplied}
+use Rattle.labelling.specs.Replies.{verdictReply}
 use Rattle.labelling.specs.declared.VerdictReply.{VerdictReply}
 use Rattle.automaton.specs.Listing.{Listing, listing}
 use Rattle.automaton.specs.Bytes.{rowsBytes, edgesBytes}

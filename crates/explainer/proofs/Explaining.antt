@@ -1,18 +1,15 @@
 -- What is built of the bytes that both readings left is what the explanation says.
-use mathlib.Core.Path.{_≡_, refl, sym, ap, _∙_, subst}
-use mathlib.Core.List.{List, [], _∷_, _++_, append-nil}
-use mathlib.Core.Option.{Option, none, some}
+use mathlib.Core.Path.{_≡_, refl, subst}
+use mathlib.Core.List.{List, [], append-nil}
+use mathlib.Core.Option.{some}
 use Prim.Native.Nat.{ℕ, _≤_}
 use native.Mathlib.Omega.{arith}
-use lib.Dec.{leb}
 use lib.ListN.{length, take}
 use lib.Seq.{take-all}
-use borrow.Author.Tests.{le-leb}
 use Rattle.actl.specs.Sizes.{formulaLength}
 use Rattle.lts.specs.Sizes.{tableLength}
 use Rattle.lts.specs.Reply.{Reply, accepted, refusal, answers}
 use Rattle.lts.specs.Steps.{Table, labels}
-use Rattle.lts.specs.Range.{InRange}
 use Rattle.lts.specs.Reading.{readTable}
 use Rattle.lts.specs.Prepared.{tableBytes, preparedTable}
 use Rattle.lts.proofs.Laws.TableBytes.{table-bytes-length}
@@ -21,15 +18,15 @@ use Rattle.lts.proofs.Laws.Prepared as tables
 use Rattle.actl.specs.Formulas.{Formula}
 use Rattle.actl.specs.Reading.{readFormula}
 use Rattle.actl.specs.Prepared.{formulaBytes, IsForm, preparedFormula}
-use Rattle.actl.specs.FormulaReading.{onPrepared, withTable, withFormula, longEnough}
+use Rattle.actl.specs.FormulaReading.{onPrepared}
 use Rattle.actl.proofs.Laws.Forms.{length-form}
+use Rattle.actl.proofs.Laws.Replies.{on-prepared-goes}
 use Rattle.actl.proofs.Laws.Prepared as formulas
 use Rattle.actl.proofs.Laws.Accepted.{reading-leaves-form}
-use Rattle.automaton.specs.Listing.{Listing, listing}
+use Rattle.automaton.specs.Listing.{listing}
 use Rattle.automaton.specs.Build.{fitted}
 use Rattle.explanations.specs.Explanation.{Explanation, andThen, explanation}
 use Rattle.explanations.specs.BothTexts.{Read, readings}
-use Rattle.explainer.proofs.BothTexts.{enough}
 
 abbrev both : Table → Formula → Read
 both t F = record { table = t; formula = F }
@@ -90,8 +87,4 @@ readings-prepared tableText formulaText x e = by-table (readTable tableText) ref
 
 -- An entry over prepared bytes goes on with what they hold.
 pub on-prepared : {A : Type 0} {table formula : List ℕ} {x : Read} → Prepared table formula x → (f : Table → Formula → Reply A) → onPrepared table formula f ≡ f (x .table) (x .formula)
-on-prepared {table} {formula} {x} p f =
-    enough (leb tableLength (length table)) 14 tableLength _ (le-leb tableLength (length table) (p .table-long))
-    ∙ enough (leb formulaLength (length formula)) 14 formulaLength _ (le-leb formulaLength (length formula) (p .formula-long))
-    ∙ ap (λ o. withTable o (λ t. withFormula (preparedFormula (labels t) formula) (λ F. f t F))) (p .is-table)
-    ∙ ap (λ o. withFormula o (λ F. f (x .table) F)) (p .is-formula)
+on-prepared {table} {formula} {x} p f = on-prepared-goes table formula (p .is-table) (p .is-formula) f (p .table-long) (p .formula-long)

@@ -1,8 +1,7 @@
 -- The promise of `explain`, for each way that it returns.
-use mathlib.Core.Path.{_≡_, refl, sym, ap, _∙_, subst, subst₃}
+use mathlib.Core.Path.{_≡_, refl, sym, ap, _∙_, subst, subst₂, subst₃}
 use mathlib.Core.Bool.{Bool, true, false}
 use mathlib.Core.List.{List}
-use mathlib.Core.Option.{some}
 use Prim.Native.Nat.{ℕ, _≤_, _<_}
 use native.Mathlib.Omega.{arith}
 use lib.Dec.{leb}
@@ -10,15 +9,12 @@ use lib.ListN.{length}
 use borrow.Author.Tests.{le-leb, lt-leb}
 use Rattle.actl.specs.Sizes.{formulaLength}
 use Rattle.lts.specs.Sizes.{tableLength}
-use Rattle.lts.specs.Reply.{Reply, accepted, refusal, unless, answers}
+use Rattle.lts.specs.Reply.{Reply, accepted, refusal, unless}
 use Rattle.lts.specs.Steps.{labels}
-use Rattle.lts.specs.Prepared.{tableBytes, preparedTable}
-use Rattle.actl.specs.Prepared.{formulaBytes, preparedFormula}
-use Rattle.actl.specs.FormulaReading.{longEnough}
-use Rattle.automaton.specs.Build.{Counts}
-use Rattle.explanations.specs.Explained.{FromTexts}
-use Rattle.explanations.specs.Explanation.{Explanation, andThen, countsOf, explainReplied, rowsExplained, edgesExplained, explanation, explaining}
-use Rattle.explainer.specs.Replies.{explainReply}
+use Rattle.lts.specs.Prepared.{preparedTable}
+use Rattle.actl.specs.Prepared.{preparedFormula}
+use Rattle.explanations.specs.Demands.{FromTexts}
+use Rattle.explanations.specs.Explanation.{Explanation, andThen, explainReplied, tableExplained, formulaExplained, explaining}
 use Rattle.explainer.specs.Readings.{ReadBoth, Outcome}
 use Rattle.explanations.specs.BothTexts.{Read, readings, HoldsBoth, listingOf}
 use Rattle.explainer.specs.Promise.{Promise}
@@ -27,7 +23,7 @@ use Rattle.explainer.specs.declared.ExplainReply.the-variants as replies
 use Rattle.explainer.specs.declared.readings.BothRead.the-variants.{Ready, Refused}
 use Rattle.explainer.proofs.BothTexts.{enough}
 use Rattle.explainer.proofs.Explaining.{explanation-of-readings, readings-prepared}
-use Rattle.explanations.proofs.Explained.{explain-explains}
+use Rattle.explanations.proofs.Demands.{explain-explains}
 
 stopped : {A : Type 0} (b : Bool) (n f : ℕ) (r : Reply A) → b ≡ false → unless b n f r ≡ refusal n f
 stopped true n f r e = absurd (let z : _≡_ {A = ℕ} 0 1 = cc in omega arith)
@@ -68,7 +64,10 @@ module _ (tableText formulaText table formula rows edges : List ℕ) where
       → Promise tableText formulaText table table′ formula formula′ rows rows′ edges edges′ r
   promised r table′ formula′ rows′ edges′ s = record {
     outcome = s;
-    runs = subst₃ (FromTexts tableText formulaText) (ap (answers countsOf) (sym (s .reply))) (sym (s .rows-left)) (sym (s .edges-left)) (explain-explains tableText formulaText table formula rows edges);
+    demands =
+        subst₃ (λ x y z. FromTexts tableText formulaText x y z rows′ edges′) (sym (s .reply)) (sym (s .table-left)) (sym (s .formula-left))
+        (subst₂ (FromTexts tableText formulaText (explainReplied E) (tableExplained E table) (formulaExplained E formula)) (sym (s .rows-left)) (sym (s .edges-left))
+        (explain-explains tableText formulaText table formula rows edges));
   }
 
   refusal-said : (n g : ℕ) (e : Reply Explanation) → e ≡ refusal n g → Outcome e (replies.Refused n g) table table formula formula rows rows edges edges

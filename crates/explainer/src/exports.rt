@@ -2,7 +2,7 @@
 ghost use mathlib.Core.Path.{_≡_};
 ghost use Rattle.lts.specs.TableReading.{tableReplied, tableLeft};
 ghost use Rattle.actl.specs.FormulaReading.{formulaReplied, formulaLeft};
-ghost use Rattle.labelling.specs.Replies.{verdictReplied};
+ghost use Rattle.satisfaction.specs.VerdictAsked.{verdictReplied};
 ghost use Rattle.automaton.specs.Build.{buildReplied, rowsLeft, edgesLeft};
 ghost use Rattle.automaton.specs.WordAsked.{wordReplied};
 ghost use Rattle.replies.specs.Interface.{numberIn, figureIn, edgesIn};

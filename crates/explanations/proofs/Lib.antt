@@ -1,11 +1,12 @@
 pub mod Beginnings
 pub mod BenchSheet
+pub mod Demands
 pub mod Examples
-pub mod Explained
 pub mod Grammatical
 pub mod Languages
 pub mod Lines
 pub mod Listed
 pub mod Printing
+pub mod Readings
 pub mod Runs
 pub mod Traced

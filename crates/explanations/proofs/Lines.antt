@@ -1,7 +1,7 @@
 -- The listing's text by the bytes in the lent places is the text of the explanation.
 use mathlib.Core.Path.{_≡_, refl, sym, ap, _∙_, subst}
 use mathlib.Core.Bool.{false}
-use mathlib.Core.List.{List, [], _∷_, _++_, List·Memᴰ}
+use mathlib.Core.List.{List, [], _∷_, _++_}
 use Prim.Native.Nat.{ℕ, suc, _+_, _*_, _<_}
 use native.Mathlib.Nat.{zero-add, add-zero}
 use native.Mathlib.Omega.{arith}
@@ -10,11 +10,11 @@ use Rattle.automaton.specs.Bytes.{rowLength, bitOf, rowsBytes, edgesBytes}
 use Rattle.columns.specs.Columns.{numbersLine}
 use Rattle.lts.specs.Lists.{upFrom, bind}
 use Rattle.lts.specs.Reply.{accepted, overwritten}
-use Rattle.automaton.specs.Listing.{Row, Edge, Listing}
+use Rattle.automaton.specs.Listing.{Row, Listing}
 use Rattle.automaton.specs.Listed.{rowAt}
+use Rattle.automaton.proofs.Bytes.{SmallEdges, noEdge, row-byte, edge-in}
 use Rattle.explanations.specs.Explanation.{Explanation, summary}
 use Rattle.explanations.specs.Printed.{rowLines, edgeLine, summaryLine, printed, rowText, edgeText, rowsText, edgesText, listingText}
-use Rattle.explanations.proofs.Traced.{noEdge, row-byte, edge-in}
 
 -- Lines by number are lines by member, for any text `out` that has a line for each member.
 module _ {A : Type 0} (d : A) (out : ℕ → List A → List ℕ) (f : ℕ → List ℕ) (line : ℕ → A → List ℕ)
@@ -38,10 +38,10 @@ module _ (L : Listing) (x y : List ℕ) where
       let place : getD (rowsBytes L ++ x) (i * rowLength) 0 ≡ rowAt L i .place = ap (λ k. getD (rowsBytes L ++ x) k 0) (sym (add-zero (i * rowLength))) ∙ row-byte L x y i 0 b (omega arith) in
       λ k. numbersLine (i ∷ place k ∷ row-byte L x y i 1 b (omega arith) k ∷ row-byte L x y i 2 b (omega arith) k ∷ []))
 
-  edges-printed : ((e : Edge) → List·Memᴰ e (L .edges) → (e .row < 65536) × (e .target < 65536)) → edgesText (edgesBytes L ++ y) (length (L .edges)) ≡ bind edgeLine (L .edges)
+  edges-printed : SmallEdges L → edgesText (edgesBytes L ++ y) (length (L .edges)) ≡ bind edgeLine (L .edges)
   edges-printed small = lines-are noEdge (λ k. bind edgeLine) (edgeText (edgesBytes L ++ y)) (λ k. edgeLine) (λ k. refl) (λ k e l. refl) (L .edges) (λ i b. ap edgeLine (edge-in L x y small i b))
 
-pub listing-printed : (e : Explanation) (rows edges : List ℕ) → ((d : Edge) → List·Memᴰ d (e .list .edges) → (d .row < 65536) × (d .target < 65536))
+pub listing-printed : (e : Explanation) (rows edges : List ℕ) → SmallEdges (e .list)
     → listingText (summary e) (overwritten (rowsBytes (e .list)) rows) (overwritten (edgesBytes (e .list)) edges) ≡ printed (accepted e)
 unfolding printed
 listing-printed e rows edges small =

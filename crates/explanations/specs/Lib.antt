@@ -1,6 +1,6 @@
 pub mod BenchSheet
 pub mod BothTexts
-pub mod Explained
+pub mod Demands
 pub mod Explanation
 pub mod Positions
 pub mod Printed

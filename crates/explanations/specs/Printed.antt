@@ -5,13 +5,12 @@ use mathlib.Core.List.{List, [], _∷_, _++_}
 use Prim.Native.Nat.{ℕ, zero, suc, _+_, _*_}
 use lib.Dec.{eqb}
 use lib.ListN.{length, getD, replicate}
-use Rattle.automaton.specs.Bytes.{rowLength, edgeLength, bitOf}
+use Rattle.automaton.specs.Bytes.{rowLength, edgeLength, bitOf, edgeAt}
 use Rattle.explanations.specs.Sizes.{rowsLent, edgesLent}
 use Rattle.columns.specs.Columns.{numbersLine}
 use Rattle.lts.specs.Lists.{upFrom, bind}
 use Rattle.lts.specs.Reply.{Reply, accepted, refusal, overwritten}
 use Rattle.automaton.specs.Listing.{Row, Edge, Listing}
-use Rattle.explanations.specs.Traces.{edgeAt}
 use Rattle.explanations.specs.Explanation.{Summary, Explanation, summary, explanation}
 
 -- "per row its number, place, state, final (1 or 0)"

@@ -1,7 +1,7 @@
 -- The text of a reply of `explain` about the beginnings of two files is what the program writes for the files.
 use mathlib.Core.Path.{_≡_, refl, sym, ap, _∙_, subst}
-use mathlib.Core.List.{List, [], List·Memᴰ}
-use Prim.Native.Nat.{ℕ, _*_, _≤_, _<_}
+use mathlib.Core.List.{List, []}
+use Prim.Native.Nat.{ℕ, _*_, _≤_}
 use native.Mathlib.Omega.{arith}
 use lib.ListN.{length, take, drop, replicate, length-append, length-drop}
 use lib.Seq.{length-take-le}
@@ -11,16 +11,17 @@ use Rattle.lts.specs.Sizes.{tableLength}
 use Rattle.lts.specs.Reply.{Reply, accepted, refusal}
 use Rattle.lts.proofs.Laws.Texts.{text-of-read}
 use Rattle.actl.proofs.Laws.Accepted.{reading-leaves-form}
-use Rattle.automaton.specs.Listing.{Edge, Listing}
+use Rattle.automaton.specs.Listing.{Listing}
 use Rattle.automaton.specs.Bytes.{rowLength, edgeLength}
-use Rattle.breadth_first.proofs.Accepted.{formed-has-class}
+use Rattle.automaton.proofs.Accepted.{formed-has-class}
+use Rattle.automaton.proofs.Bytes.{SmallEdges}
+use Rattle.automaton.proofs.WordsAccepted.{small-edges}
 use Rattle.explanations.specs.Explanation.{Explanation, explaining, explanation, explainReplied, rowsExplained, edgesExplained}
 use Rattle.explainer.specs.Replies.{explainReply}
 use Rattle.files.specs.Files.{Begins, replyText, Few, PrefixLength}
 use Rattle.explanations.specs.Printed.{withoutEnd, printed, explainText, TextWritten}
 use Rattle.explainer.specs.declared.ExplainReply.{ExplainReply}
-use Rattle.explanations.proofs.Traced.{small-edges}
-use Rattle.explanations.proofs.Explained.{Accepted, explanation-accepted}
+use Rattle.explanations.proofs.Demands.{Accepted, explanation-accepted}
 use Rattle.explainer.proofs.Explaining.{explanation-of-readings}
 use Rattle.explainer.proofs.Promised.{long-enough}
 use Rattle.explanations.proofs.Lines.{listing-printed}
@@ -36,11 +37,11 @@ module _ (tableText text table formula rows edges : List ℕ) (long : tableLengt
   stands : (e : Explanation) → E ≡ accepted e → Accepted tableText text rows edges e
   stands e d = explanation-accepted tableText text rows edges e (sym is-explanation ∙ d)
 
-  small : (e : Explanation) → E ≡ accepted e → (d : Edge) → List·Memᴰ d (e .list .edges) → (d .row < 65536) × (d .target < 65536)
+  small : (e : Explanation) → E ≡ accepted e → SmallEdges (e .list)
   small e d =
       let a = stands e d in
       let form = reading-leaves-form (e .table .names) text [] (a .read-formula) in
-      subst (λ (L : Listing). (d : Edge) → List·Memᴰ d (L .edges) → (d .row < 65536) × (d .target < 65536)) (sym (a .is-listing))
+      subst (λ (L : Listing). SmallEdges L) (sym (a .is-listing))
       (small-edges (e .table) (e .formula) (text-of-read tableText (e .table) (a .read-table) .1) (formed-has-class form) (form .few))
 
   pub few-counts : length rows ≡ rowsLength → length edges ≡ edgesLength → (r : ExplainReply) → explainReply r ≡ explainReplied E → Few (explainReply r)

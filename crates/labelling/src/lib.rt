@@ -15,7 +15,8 @@ ghost use Rattle.lts.specs.Prepared.{tableIn};
 ghost use Rattle.lts.specs.HoldsTable.{HoldsTable};
 ghost use Rattle.labelling.specs.Nodes.{AtStart};
 ghost use Rattle.actl.specs.HoldsFormula.{HoldsFormula};
-ghost use Rattle.labelling.specs.Replies.{verdictReply, verdictReplied};
+ghost use Rattle.satisfaction.specs.VerdictAsked.{verdictReplied, VerdictAnswered};
+ghost use Rattle.labelling.specs.Replies.{verdictReply};
 
 // What `verdict` answers. specs/Replies.antt lists the number and the figure of each case.
 pub enum VerdictReply {
@@ -38,8 +39,10 @@ fn holds_at_start(table: &[u8], formula: &[u8]) -> bool
     flags[start]
 }
 
+// 1 exactly if the formula holds at the start by Definition 3, and else 0; 14, 10 in this order.
 pub fn verdict(table: &[u8], formula: &[u8]) -> VerdictReply
     ensures { λ r. ⌜ verdictReply r ≡ verdictReplied (now (table .entry)) (now (formula .entry)) ⌝ }
+    ensures { λ r. ⌜ VerdictAnswered (now (table .entry)) (now (formula .entry)) (verdictReply r) ⌝ }
 {
     if let Inputs::Refused(why) = check_inputs(table, formula) {
         return VerdictReply::Refused(why);

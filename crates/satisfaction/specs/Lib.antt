@@ -2,3 +2,4 @@ pub mod Count
 pub mod Holds
 pub mod Runs
 pub mod Satisfaction
+pub mod VerdictAsked

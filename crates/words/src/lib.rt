@@ -25,7 +25,7 @@ ghost use Rattle.lts.specs.HoldsTable.{HoldsTable};
 ghost use Rattle.actl.specs.HoldsFormula.{HoldsFormula};
 ghost use Rattle.automaton.specs.Bytes.{bitOf};
 ghost use Rattle.words.specs.Replies.{wordReply};
-ghost use Rattle.automaton.specs.WordAsked.{badLetter, wordReplied};
+ghost use Rattle.automaton.specs.WordAsked.{badLetter, wordReplied, WordAnswered};
 ghost use Rattle.frontier.specs.Reached.{finalPlace, someFinal, Letters, AcceptsAnswer};
 ghost use Rattle.words.specs.Answered.{Answered};
 
@@ -119,6 +119,7 @@ fn answer(table: &[u8], formula: &[u8], word: &[u8]) -> WordReply
 // 01: "A word (at most 1,024 label numbers), given with a prepared table and formula, is answered 1 if their automaton accepts it, else 0."
 pub fn accepts(table: &[u8], formula: &[u8], word: &[u8]) -> WordReply
     ensures { λ r. ⌜ wordReply r ≡ wordReplied (now (table .entry)) (now (formula .entry)) (now (word .entry)) ⌝ }
+    ensures { λ r. ⌜ WordAnswered (now (table .entry)) (now (formula .entry)) (now (word .entry)) (wordReply r) ⌝ }
 {
     if let Inputs::Refused(why) = check_inputs(table, formula) {
         return WordReply::Refused(why);

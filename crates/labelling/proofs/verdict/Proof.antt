@@ -2,6 +2,7 @@
 use borrow.Author.Needs.{needs}
 use mathlib.Core.Path.{_≡_, sym, ap, _∙_, subst}
 use mathlib.Core.Bool.{cond}
+use mathlib.Core.List.{List}
 use Prim.Native.Nat.{ℕ}
 use Rattle.lts.specs.Reply.{Reply, accepted}
 use Rattle.lts.specs.Steps.{Table}
@@ -9,12 +10,23 @@ use Rattle.actl.specs.Formulas.{Formula}
 use Rattle.formula_check.specs.Inputs.{inputsReply}
 use Rattle.formula_check.proofs.Laws.Inputs.{checked, Both, both, goes-on, unprepared-again}
 use Rattle.satisfaction.specs.Holds.{verdict}
-use Rattle.labelling.specs.Replies.{verdictReplied}
+use Rattle.satisfaction.specs.VerdictAsked.{verdictReplied, VerdictAnswered}
+use Rattle.satisfaction.proofs.Verdicts.{verdict-answered}
+use Rattle.labelling.specs.Replies.{verdictReply}
+use Rattle.labelling.specs.declared.VerdictReply.{VerdictReply}
+use Rattle.labelling.specs.declared.VerdictReply.the-variants.{Holds, Fails, Refused}
 use Rattle.labelling.proofs.verdict.Statement.{statement}
 use Rattle.labelling.proofs.verdict.Tie as tie
 
 abbrev answer : Table → Formula → Reply ℕ
 answer t F = accepted (verdict t F)
+
+-- What the answer means follows from what it is.
+abbrev Promised : List ℕ → List ℕ → VerdictReply → Type 0
+Promised table formula r = (verdictReply r ≡ verdictReplied table formula) × VerdictAnswered table formula (verdictReply r)
+
+promised : (table formula : List ℕ) (r : VerdictReply) → verdictReply r ≡ verdictReplied table formula → Promised table formula r
+promised table formula r e = (e, subst (VerdictAnswered table formula) (sym e) (verdict-answered table formula))
 
 check-inputs-requires : tie.Need-check-inputs-requires
 check-inputs-requires c κs = search needs
@@ -28,7 +40,7 @@ returns c =
     let asked = c .before .before .before in
     let a = asked .before .before .before .args in
     let told = subst (λ r. inputsReply r ≡ checked (a .table .now) (a .formula .now)) (c .before .why .given .1) (asked .check-inputs .ensures) in
-    unprepared-again (a .table .now) (a .formula .now) answer (c .before .why .given .0 .0) told
+    promised (a .table .now) (a .formula .now) (Refused (c .before .why .given .0 .0)) (unprepared-again (a .table .now) (a .formula .now) answer (c .before .why .given .0 .0) told)
 
 enum-told : tie.Need-enum-told
 enum-told c = search needs
@@ -51,10 +63,10 @@ replied c =
     ∙ ap (λ h. accepted (cond h 1 0)) (sym (c .holds-at-start .ensures .answered (b .formula-in) (b .prepared)))
 
 returns-2 : tie.Need-returns-2
-returns-2 c = sym (replied (c .before) ∙ ap (λ h. accepted (cond h 1 0)) (c .if1 .taken))
+returns-2 c = promised _ _ Holds (sym (replied (c .before) ∙ ap (λ h. accepted (cond h 1 0)) (c .if1 .taken)))
 
 returns-3 : tie.Need-returns-3
-returns-3 c = sym (replied (c .before) ∙ ap (λ h. accepted (cond h 1 0)) (c .if1 .left))
+returns-3 c = promised _ _ Fails (sym (replied (c .before) ∙ ap (λ h. accepted (cond h 1 0)) (c .if1 .left)))
 
 pub verdict-spec : {M : Type 1} → statement M
 verdict-spec =

@@ -8,13 +8,24 @@ use Rattle.lts.specs.Steps.{Table}
 use Rattle.actl.specs.Formulas.{Formula}
 use Rattle.formula_check.specs.Inputs.{inputsReply}
 use Rattle.formula_check.proofs.Laws.Inputs.{checked, Both, both, goes-on, unprepared-again}
-use Rattle.automaton.specs.WordAsked.{wordReplied}
+use Rattle.automaton.specs.WordAsked.{wordReplied, WordAnswered}
+use Rattle.automaton.proofs.WordsAccepted.{word-answered}
 use Rattle.words.specs.Answered.{wordAnswer}
+use Rattle.words.specs.Replies.{wordReply}
+use Rattle.words.specs.declared.WordReply.{WordReply}
+use Rattle.words.specs.declared.WordReply.the-variants.{Refused}
 use Rattle.words.proofs.accepts.Statement.{statement}
 use Rattle.words.proofs.accepts.Tie as tie
 
 abbrev answered : List ℕ → Table → Formula → Reply ℕ
 answered w t F = wordAnswer t F w
+
+-- What the answer means follows from what it is.
+abbrev Promised : List ℕ → List ℕ → List ℕ → WordReply → Type 0
+Promised table formula word r = (wordReply r ≡ wordReplied table formula word) × WordAnswered table formula word (wordReply r)
+
+promised : (table formula word : List ℕ) (r : WordReply) → wordReply r ≡ wordReplied table formula word → Promised table formula word r
+promised table formula word r e = (e, subst (WordAnswered table formula word) (sym e) (word-answered table formula word))
 
 check-inputs-requires : tie.Need-check-inputs-requires
 check-inputs-requires c κs = search needs
@@ -28,7 +39,7 @@ returns c =
     let asked = c .before .before .before in
     let a = asked .before .before .before .before .args in
     let told = subst (λ r. inputsReply r ≡ checked (a .table .now) (a .formula .now)) (c .before .why .given .1) (asked .check-inputs .ensures) in
-    unprepared-again (a .table .now) (a .formula .now) (answered (a .word .now)) (c .before .why .given .0 .0) told
+    promised (a .table .now) (a .formula .now) (a .word .now) (Refused (c .before .why .given .0 .0)) (unprepared-again (a .table .now) (a .formula .now) (answered (a .word .now)) (c .before .why .given .0 .0) told)
 
 enum-told : tie.Need-enum-told
 enum-told c = search needs
@@ -47,7 +58,8 @@ unfolding wordReplied
 returns-2 c =
     let a = c .before .before .before .before .before .before .before .args in
     let b = prepared (c .before) in
-    c .answer .ensures .reply (b .formula-in) (b .prepared) ∙ sym (goes-on (a .table .now) (a .formula .now) (answered (a .word .now)) b (b .formula-in) (b .prepared))
+    promised (a .table .now) (a .formula .now) (a .word .now) (c .answer .result)
+    (c .answer .ensures .reply (b .formula-in) (b .prepared) ∙ sym (goes-on (a .table .now) (a .formula .now) (answered (a .word .now)) b (b .formula-in) (b .prepared)))
 
 pub accepts-spec : {M : Type 1} → statement M
 accepts-spec =

@@ -21,7 +21,7 @@ word-number-requires c κs = search needs
 returns : tie.Need-returns
 returns c =
     let told = c .before .before .accepts in
-    (c .word-number .ensures ∙ ap numberIn (told .ensures), c .before .word-figure .ensures ∙ ap (figureIn (λ accepted. accepted)) (told .ensures))
+    (c .word-number .ensures ∙ ap numberIn (told .ensures .0), c .before .word-figure .ensures ∙ ap (figureIn (λ accepted. accepted)) (told .ensures .0))
 
 pub explainer-accepts-spec : {M : Type 1} → statement M
 explainer-accepts-spec =

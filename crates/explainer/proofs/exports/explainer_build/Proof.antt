@@ -35,7 +35,7 @@ returns c =
       (
         told .ensures .1 .0,
         (
-          told .ensures .1 .1,
+          told .ensures .1 .1 .0,
           (
             c .before .before .build-figure .ensures ∙ ap (figureIn (λ counts. counts .rows)) (told .ensures .0),
             c .before .build-edges .ensures ∙ ap (edgesIn (c .before .before .before .before .before .before .before .before .before .before .before .before .before .before .before .args .count .now)) (told .ensures .0),

@@ -21,7 +21,7 @@ verdict-number-requires c κs = search needs
 returns : tie.Need-returns
 returns c =
     let told = c .before .before .verdict in
-    (c .verdict-number .ensures ∙ ap numberIn (told .ensures), c .before .verdict-figure .ensures ∙ ap (figureIn (λ holds. holds)) (told .ensures))
+    (c .verdict-number .ensures ∙ ap numberIn (told .ensures .0), c .before .verdict-figure .ensures ∙ ap (figureIn (λ holds. holds)) (told .ensures .0))
 
 pub explainer-verdict-spec : {M : Type 1} → statement M
 explainer-verdict-spec =

@@ -39,7 +39,7 @@ returns c = λ x held.
     let a = start .args in
     refused-said (a .t .now) (a .f .now) x held (omega (arith, start .pre .0 .0)) (omega (arith, start .pre .0 .1)) (a .rows .now) (a .edges .now) (told .build .result) (told .build .ensures .0)
     (λ e. omega (arith, number .build-number .ensures)) (number .build-number .result) (figure .build-figure .result) (number .build-number .ensures) (figure .build-figure .ensures)
-    _ _ _ _ (told .build .ensures .1 .0) (told .build .ensures .1 .1)
+    _ _ _ _ (told .build .ensures .1 .0) (told .build .ensures .1 .1 .0)
 
 verdict-requires : tie.Need-verdict-requires
 verdict-requires c κs = search needs
@@ -84,11 +84,11 @@ returns-2 c = λ x held.
     let start = told .before .before .before .before .before .before .before .before .before in
     let a = start .args in
     explained-said (a .t .now) (a .f .now) x held (omega (arith, start .pre .0 .0)) (omega (arith, start .pre .0 .1)) (a .rows .now) (a .edges .now) (told .build .result) (told .build .ensures .0)
-    (sym (number .build-number .ensures) ∙ (omega arith)) (verdict .verdict .result) (verdict .verdict .ensures)
+    (sym (number .build-number .ensures) ∙ (omega arith)) (verdict .verdict .result) (verdict .verdict .ensures .0)
     (holds .verdict-figure .result) (class .class-of .result) (figure .build-figure .result) (c .build-edges .result)
     (holds .verdict-figure .ensures) (class .class-of .ensures) (figure .build-figure .ensures) (c .build-edges .ensures)
     (a .table .now) _ (a .formula .now) _ _ _ (copied (a .t .now) (a .table .now) _ (first .copy .ensures .1)) (copied (a .f .now) (a .formula .now) _ (second .copy2 .ensures .1))
-    (told .build .ensures .1 .0) (told .build .ensures .1 .1) (never-zero (told .build .result))
+    (told .build .ensures .1 .0) (told .build .ensures .1 .1 .0) (never-zero (told .build .result))
 
 pub finish-spec : {M : Type 1} → statement M
 finish-spec =

@@ -1,44 +1,78 @@
--- Demand 3, whole: from the two texts through both readings to what building wrote, and of any prepared bytes that building accepts.
-use mathlib.Core.Path.{_≡_, refl, sym, ap, _∙_, subst}
-use mathlib.Core.List.{List, [], _∷_, _++_}
-use mathlib.Core.Option.{Option, none, some}
+-- Demands 2 and 3, whole: from the two texts through both readings to what building wrote, and of any prepared bytes that building accepts.
+use mathlib.Core.Path.{_≡_, refl, sym, subst}
+use mathlib.Core.Logic.{_↔_}
+use mathlib.Core.List.{List}
+use mathlib.Core.Option.{some}
 use Prim.Native.Nat.{ℕ, _/_, _≤_}
-use native.Mathlib.Omega.{arith}
-use lib.Dec.{leb}
-use lib.ListN.{length, take, drop}
-use lib.Seq.{take-at}
+use lib.ListN.{length, drop}
 use Rattle.lts.specs.Sizes.{tableLength}
-use Rattle.lts.specs.Reply.{Reply, accepted, refusal, unless, overwritten, leftIn, answers}
+use Rattle.actl.specs.Sizes.{formulaLength}
+use Rattle.lts.specs.Reply.{Reply, accepted, refusal, overwritten, leftIn, answers}
 use Rattle.lts.specs.Steps.{Table, labels}
 use Rattle.lts.specs.Range.{InRange}
 use Rattle.lts.specs.Reading.{readTable}
 use Rattle.lts.specs.Prepared.{tableBytes, preparedTable}
-use Rattle.lts.specs.TableReading.{tableReading, tableReplied, tableLeft}
+use Rattle.lts.specs.TableReading.{tableReplied, tableLeft}
 use Rattle.lts.proofs.Laws.Texts.{text-of-read}
-use Rattle.lts.proofs.Laws.TableBytes.{table-bytes-length}
-use Rattle.lts.proofs.Laws.Prepared as prepared-table
-use Rattle.actl.specs.Formulas.{Formula, size}
+use Rattle.actl.specs.Formulas.{Formula}
 use Rattle.actl.specs.Reading.{readFormula}
 use Rattle.actl.specs.Prepared.{formulaBytes, preparedFormula, IsForm}
-use Rattle.actl.specs.FormulaReading.{withTable, formulaReading, formulaReplied, formulaLeft}
-use Rattle.actl.proofs.Classes.{HasClass}
-use Rattle.actl.proofs.Laws.Accepted.{reading-leaves-form}
+use Rattle.actl.specs.FormulaReading.{formulaReplied, formulaLeft}
 use Rattle.actl.proofs.Laws.Prepared as prepared-formula
 use Rattle.automaton.specs.Listing.{Listing, listing}
 use Rattle.automaton.specs.Bytes.{rowLength, edgeLength, rowsBytes, edgesBytes}
 use Rattle.automaton.specs.Build.{Counts, counts, fitted, built, buildReplied, rowsLeft, edgesLeft}
-use Rattle.actl.proofs.Laws.Replies.{refusal-is-not-accepted, unless-accepted, long-enough-accepted, Prepared, on-prepared-accepted}
-use Rattle.breadth_first.proofs.Accepted.{prepared-in-range, formed-has-class, fitted-accepted}
-use Rattle.explanations.specs.Explained.{RunsTraced, FromTexts, FromPrepared}
+use Rattle.automaton.specs.Explains.{Explains}
+use Rattle.automaton.specs.WordAsked.{wordReplied, WordAnswered}
+use Rattle.actl.proofs.Laws.Replies.{refusal-is-not-accepted, accepted-lengths, long-enough-accepted, on-prepared-accepted, on-prepared-goes, in-prepared}
+use Rattle.satisfaction.specs.Holds.{verdict}
+use Rattle.satisfaction.specs.VerdictAsked.{verdictReplied, TellsWhether}
+use Rattle.satisfaction.proofs.Verdicts.{verdict-is}
+use Rattle.automaton.proofs.Accepted.{prepared-in-range, formed-has-class, fitted-accepted}
+use Rattle.automaton.proofs.WordsAccepted.{listing-accepts, word-answered}
+use Rattle.explanations.specs.Demands.{WordsAccepted, RunsTraced, WordRead, Explained, FromTexts, FromCalls, FromPrepared}
 use Rattle.explanations.specs.Explanation as explain
+use Rattle.explanations.proofs.Readings.{table-prepared, table-long, formula-form, formula-prepared, formula-long, reading-leaves-table, reading-leaves-formula}
 use Rattle.explanations.proofs.Traced.{listing-traces}
+
+abbrev WordsAndRuns : Table → Formula → Counts → List ℕ → List ℕ → Type 0
+WordsAndRuns t F c rows edges = WordsAccepted t F c rows edges × RunsTraced t F c rows edges
 
 -- What is written behind a listing's bytes does not matter.
 listing-explained : {t : Table} {F : Formula} {n : ℕ} {b : List ℕ} → InRange t → IsForm n b F → {L : Listing} → L ≡ listing t F → (rows edges : List ℕ)
-    → RunsTraced t F (counts L) (overwritten (rowsBytes L) rows) (overwritten (edgesBytes L) edges)
+    → WordsAndRuns t F (counts L) (overwritten (rowsBytes L) rows) (overwritten (edgesBytes L) edges)
 listing-explained {t} {F} w h {L} e rows edges =
-    subst (λ (K : Listing). RunsTraced t F (counts K) (overwritten (rowsBytes K) rows) (overwritten (edgesBytes K) edges)) (sym e)
-    (listing-traces t F w (formed-has-class h) (h .few) (drop (length (rowsBytes (listing t F))) rows) (drop (length (edgesBytes (listing t F))) edges))
+    let x = drop (length (rowsBytes (listing t F))) rows in
+    let y = drop (length (edgesBytes (listing t F))) edges in
+    subst (λ (K : Listing). WordsAndRuns t F (counts K) (overwritten (rowsBytes K) rows) (overwritten (edgesBytes K) edges)) (sym e)
+    (listing-accepts t F w (formed-has-class h) (h .few) x y, listing-traces t F w (formed-has-class h) (h .few) x y)
+
+-- An answer tells of one thing what it tells of another that is so exactly if the first is.
+tells-alike : {P Q : Type 0} {a : ℕ} → P ↔ Q → TellsWhether Q a → TellsWhether P a
+tells-alike h (one, nought) = ((λ e. h .1 (one .0 e), λ p. one .1 (h .0 p)), (λ e p. nought .0 e (h .0 p), λ n. nought .1 (λ q. n (h .1 q))))
+
+module _ (table formula : List ℕ) {t : Table} {F : Formula} (is-table : preparedTable table ≡ some t) (is-formula : preparedFormula (labels t) formula ≡ some F) where
+  word-read : (c : Counts) (rows edges : List ℕ) → WordsAccepted t F c rows edges → (w : List ℕ) → WordRead t F c rows edges w (wordReplied table formula w)
+  word-read c rows edges h w = by (wordReplied table formula w) (word-answered table formula w)
+    where
+      by : (r : Reply ℕ) → WordAnswered table formula w r → WordRead t F c rows edges w r
+      by (refusal n g) a = tt
+      by (accepted v) a =
+          let told : TellsWhether (Explains t F w) v = in-prepared table formula is-table is-formula (λ u G. TellsWhether (Explains u G w) v) a in
+          (tells-alike (h w) told, told)
+
+  explained-on : tableLength ≤ length table → formulaLength ≤ length formula → (c : Counts) (rows edges : List ℕ) → WordsAndRuns t F c rows edges
+      → Explained table formula t F (verdict t F) c rows edges
+  unfolding verdictReplied
+  explained-on long wide c rows edges (words, runs) = record {
+    is-table = is-table;
+    is-formula = is-formula;
+    verdict = verdict-is t F;
+    verdict-asked = on-prepared-goes table formula is-table is-formula (λ t F. accepted (verdict t F)) long wide;
+    words = words;
+    word-asked = word-read c rows edges words;
+    runs = runs;
+  }
 
 module _ (table formula rows edges : List ℕ) where
   abbrev explains : Reply Listing → Type 0
@@ -51,39 +85,18 @@ module _ (table formula rows edges : List ℕ) where
       let p = on-prepared-accepted table formula (λ t F. fitted (listing t F) rows edges) e in
       let t = p .table-in in
       let F = p .formula-in in
-      (t, F, p .is-table, p .is-formula, listing-explained (prepared-in-range table (p .is-table)) (prepared-formula.prepared-of (labels t) formula (p .is-formula)) (fitted-accepted (listing t F) rows edges (p .goes-on) .2) rows edges)
+      let (long, wide) = accepted-lengths table formula _ e in
+      let form = prepared-formula.prepared-of (labels t) formula (p .is-formula) in (
+        t,
+        F,
+        verdict t F,
+        explained-on table formula (p .is-table) (p .is-formula) long wide (counts L) (overwritten (rowsBytes L) rows) (overwritten (edgesBytes L) edges)
+            (listing-explained (prepared-in-range table (p .is-table)) form (fitted-accepted (listing t F) rows edges (p .goes-on) .2) rows edges),
+      )
 
   -- "it covers alike any other prepared bytes that building accepts"
   pub building-explains : FromPrepared table formula (buildReplied table formula rows edges) (rowsLeft table formula rows edges) (edgesLeft table formula rows edges)
   building-explains = prepared-explained (built table formula rows edges) refl
-
--- Readings leave prepared bytes.
-accepted-answer : {A B : Type 0} (f : A → B) (r : Reply A) {b : B} → answers f r ≡ accepted b → (a : A) × (r ≡ accepted a)
-accepted-answer f (accepted a) e = (a, refl)
-accepted-answer f (refusal n g) e = absurd (refusal-is-not-accepted e)
-
-module _ (text buffer : List ℕ) where
-  pub reading-leaves-table : tableReplied text buffer ≡ accepted tt → (t : Table) × (readTable text ≡ accepted t) × (preparedTable (tableLeft text buffer) ≡ some t)
-  unfolding tableReading
-  reading-leaves-table e =
-      let (t, d) = accepted-answer (λ t. tt) (tableReading text buffer) e in
-      let r = unless-accepted (leb tableLength (length buffer)) 14 tableLength (readTable text) d .1 in
-      let w = text-of-read text t r .1 in
-      let left : tableLeft text buffer ≡ overwritten (tableBytes t) buffer = ap (λ x. leftIn tableBytes x buffer) d in
-      (t, r, prepared-table.prepared-to (tableLeft text buffer) t w (ap (take tableLength) left ∙ take-at (tableBytes t) (drop (length (tableBytes t)) buffer) tableLength (table-bytes-length t w)))
-
-module _ (table text buffer : List ℕ) where
-  pub reading-leaves-formula : (t : Table) → preparedTable table ≡ some t → formulaReplied table text buffer ≡ accepted tt
-      → (F : Formula) × (readFormula (t .names) text ≡ accepted F) × IsForm (labels t) (formulaLeft table text buffer) F × (preparedFormula (labels t) (formulaLeft table text buffer) ≡ some F)
-  unfolding formulaReading
-  reading-leaves-formula t p e =
-      let (F, d) = accepted-answer (λ F. tt) (formulaReading table text buffer) e in
-      let r = long-enough-accepted table buffer (withTable (preparedTable table) (λ t. readFormula (t .names) text)) d in
-      let q : readFormula (t .names) text ≡ accepted F = sym (ap (λ o. withTable o (λ t. readFormula (t .names) text)) p) ∙ r in
-      let left : formulaLeft table text buffer ≡ overwritten (formulaBytes F) buffer = ap (λ x. leftIn formulaBytes x buffer) d in
-      let h : IsForm (labels t) (formulaLeft table text buffer) F = subst (λ (b : List ℕ). IsForm (labels t) b F) (sym left) (reading-leaves-form (t .names) text (drop (length (formulaBytes F)) buffer) q) in
-      let w = prepared-in-range table p in
-      (F, q, h, prepared-formula.prepared-to (labels t) (formulaLeft table text buffer) F h (omega (arith, w .few-labels)))
 
 -- "from the two texts through both readings to what building wrote, each call handed what the calls before it left"
 module _ (tableText formulaText table formula rows edges : List ℕ) where
@@ -94,19 +107,15 @@ module _ (tableText formulaText table formula rows edges : List ℕ) where
   abbrev formula-left : List ℕ
   formula-left = formulaLeft table-left formulaText formula
 
-  same-some : {A : Type 0} {a b : A} → some a ≡ some b → a ≡ b
-  same-some e = cc
-
   from-prepared : (r : Reply Counts) (x y : List ℕ) (t : Table) (F : Formula) → readTable tableText ≡ accepted t → readFormula (t .names) formulaText ≡ accepted F
-      → preparedTable table-left ≡ some t → preparedFormula (labels t) formula-left ≡ some F → FromPrepared table-left formula-left r x y → FromTexts tableText formulaText r x y
+      → preparedTable table-left ≡ some t → preparedFormula (labels t) formula-left ≡ some F
+      → FromPrepared table-left formula-left r x y → FromCalls tableText formulaText r table-left formula-left x y
   from-prepared (refusal n f) x y t F a b c d h = tt
-  from-prepared (accepted k) x y t F a b c d (u, G, e, g, h) =
-      let z : u ≡ t = same-some (sym e ∙ c) in
-      let q : G ≡ F = same-some (sym g ∙ (ap (λ v. preparedFormula (labels v) formula-left) z ∙ d)) in
-      (t, F, a, b, subst (λ (v : Table). RunsTraced v F k x y) z (subst (λ (H : Formula). RunsTraced u H k x y) q h))
+  from-prepared (accepted k) x y t F a b c d (u, G, v, h) =
+      (t, F, a, b, (v, in-prepared table-left formula-left c d (λ u G. Explained table-left formula-left u G v k x y) (u, G, h .is-table, h .is-formula, h)))
 
   pub texts-explained : tableReplied tableText table ≡ accepted tt → formulaReplied table-left formulaText formula ≡ accepted tt
-      → FromTexts tableText formulaText (buildReplied table-left formula-left rows edges) (rowsLeft table-left formula-left rows edges) (edgesLeft table-left formula-left rows edges)
+      → FromCalls tableText formulaText (buildReplied table-left formula-left rows edges) table-left formula-left (rowsLeft table-left formula-left rows edges) (edgesLeft table-left formula-left rows edges)
   texts-explained e d =
       let (t, a, c) = reading-leaves-table tableText table e in
       let (F, b, h, g) = reading-leaves-formula table-left formulaText formula t c d in
@@ -143,7 +152,7 @@ module _ (tableText formulaText rows edges : List ℕ) where
 
 module _ (tableText formulaText table formula rows edges : List ℕ) where
   abbrev explained : Reply explain.Explanation → Type 0
-  explained r = FromTexts tableText formulaText (answers explain.countsOf (explain.explainReplied r)) (explain.rowsExplained r rows) (explain.edgesExplained r edges)
+  explained r = FromTexts tableText formulaText (explain.explainReplied r) (explain.tableExplained r table) (explain.formulaExplained r formula) (explain.rowsExplained r rows) (explain.edgesExplained r edges)
 
   explanation-explains : (r : Reply explain.Explanation) → explain.explaining tableText formulaText table formula rows edges ≡ r → explained r
   unfolding explain.explaining
@@ -151,8 +160,22 @@ module _ (tableText formulaText table formula rows edges : List ℕ) where
   explanation-explains (accepted x) e =
       let d = long-enough-accepted table formula (explain.explanation tableText formulaText rows edges) e in
       let h = explanation-accepted tableText formulaText rows edges x d in
-      let form = reading-leaves-form (x .table .names) formulaText [] (h .read-formula) in
-      (x .table, x .formula, h .read-table, h .read-formula, listing-explained (text-of-read tableText (x .table) (h .read-table) .1) form (h .is-listing) rows edges)
+      let t = x .table in
+      let F = x .formula in
+      let w = text-of-read tableText t (h .read-table) .1 in
+      let form = formula-form t w formulaText F (h .read-formula) formula in (
+        t,
+        F,
+        h .read-table,
+        h .read-formula,
+        (
+          refl,
+          explained-on (overwritten (tableBytes t) table) (overwritten (formulaBytes F) formula)
+              (table-prepared tableText t (h .read-table) table) (formula-prepared t w formulaText F (h .read-formula) formula)
+              (table-long tableText t (h .read-table) table) (formula-long t w formulaText F (h .read-formula) formula)
+              (counts (x .list)) (overwritten (rowsBytes (x .list)) rows) (overwritten (edgesBytes (x .list)) edges) (listing-explained w form (h .is-listing) rows edges),
+        ),
+      )
 
   pub explain-explains : explained (explain.explaining tableText formulaText table formula rows edges)
   explain-explains = explanation-explains (explain.explaining tableText formulaText table formula rows edges) refl
