@@ -23,11 +23,7 @@ use Rattle.automaton.specs.Listing.{Listing, listing}
 use Rattle.automaton.specs.Build.{fitted}
 use Rattle.automaton.proofs.Refusals.{fitted-numbers}
 use Rattle.explanations.specs.Explanation.{Explanation, andThen, explanation}
-
--- A reply with the figure of refusal 5 put right.
-abbrev pub withLength : ℕ → Reply Explanation → Reply Explanation
-withLength n (accepted e) = accepted e
-withLength n (refusal number figure) = refusal number (cond (eqb number 5) n figure)
+use Rattle.explanations.specs.Printed.{withLength}
 
 -- Replies that are no refusal 5.
 abbrev NotLength : ℕ → Type 0

@@ -5,8 +5,8 @@ use mathlib.Core.List.{List, [], _∷_, _++_}
 use Prim.Native.Nat.{ℕ, zero, suc, _+_, _*_}
 use lib.Dec.{eqb}
 use lib.ListN.{length, getD, replicate}
-use Rattle.automaton.specs.Bytes.{rowLength, edgeLength, bitOf, edgeAt}
-use Rattle.explanations.specs.Sizes.{rowsLent, edgesLent}
+use Rattle.automaton.specs.Bytes.{rowLength, bitOf, edgeAt}
+use Rattle.explanations.specs.Sizes.{rowsLength, edgesLength}
 use Rattle.columns.specs.Columns.{numbersLine}
 use Rattle.lts.specs.Lists.{upFrom, bind}
 use Rattle.lts.specs.Reply.{Reply, accepted, refusal, overwritten}
@@ -61,7 +61,15 @@ withoutEnd [] = []
 withoutEnd (b ∷ []) = cond (eqb b 10) [] (b ∷ [])
 withoutEnd (b ∷ c ∷ l) = b ∷ withoutEnd (c ∷ l)
 
--- What `explain` writes for the contents of its two files. "The program lends places for 1,024 rows and 4,096 edges."
+-- "The program lends places for 1,024 rows and 4,096 edges."
+abbrev pub lentExplanation : List ℕ → List ℕ → Reply Explanation
+lentExplanation tableText formulaText = explanation tableText formulaText (replicate rowsLength 0) (replicate edgesLength 0)
+
+-- What `explain` writes for the contents of its two files.
 unfoldable pub explainText : List ℕ → List ℕ → List ℕ
-explainText tableFile formulaFile =
-    printed (explanation tableFile (withoutEnd formulaFile) (replicate (rowsLent * rowLength) 0) (replicate (edgesLent * edgeLength) 0))
+explainText tableFile formulaFile = printed (lentExplanation tableFile (withoutEnd formulaFile))
+
+-- A reply about the beginning of a formula of `n` bytes. "formula over 512 bytes": 5, "its length"
+abbrev pub withLength : ℕ → Reply Explanation → Reply Explanation
+withLength n (accepted e) = accepted e
+withLength n (refusal number figure) = refusal number (cond (eqb number 5) n figure)

@@ -1,31 +1,29 @@
--- The text of a reply of `explain` about the beginnings of two files is what the program writes for the files.
+-- The text of a reply of `explain` is what is printed of the explanation, with the length of the formula in refusal 5.
 use mathlib.Core.Path.{_≡_, refl, sym, ap, _∙_, subst}
 use mathlib.Core.List.{List, []}
-use Prim.Native.Nat.{ℕ, _*_, _≤_}
+use Prim.Native.Nat.{ℕ, _≤_}
 use native.Mathlib.Omega.{arith}
-use lib.ListN.{length, take, drop, replicate, length-append, length-drop}
+use lib.ListN.{length, take, drop, length-append, length-drop}
 use lib.Seq.{length-take-le}
 use Rattle.actl.specs.Sizes.{formulaLength}
-use Rattle.explanations.specs.Sizes.{rowsLent, edgesLent, rowsLength, edgesLength, keptLength}
+use Rattle.explanations.specs.Sizes.{rowsLength, edgesLength}
 use Rattle.lts.specs.Sizes.{tableLength}
 use Rattle.lts.specs.Reply.{Reply, accepted, refusal}
 use Rattle.lts.proofs.Laws.Texts.{text-of-read}
 use Rattle.actl.proofs.Laws.Accepted.{reading-leaves-form}
 use Rattle.automaton.specs.Listing.{Listing}
-use Rattle.automaton.specs.Bytes.{rowLength, edgeLength}
 use Rattle.automaton.proofs.Accepted.{formed-has-class}
 use Rattle.automaton.proofs.Bytes.{SmallEdges}
 use Rattle.automaton.proofs.WordsAccepted.{small-edges}
 use Rattle.explanations.specs.Explanation.{Explanation, explaining, explanation, explainReplied, rowsExplained, edgesExplained}
 use Rattle.explainer.specs.Replies.{explainReply}
-use Rattle.files.specs.Files.{Begins, replyText, Few, PrefixLength}
-use Rattle.explanations.specs.Printed.{withoutEnd, printed, explainText, TextWritten}
+use Rattle.files.specs.Writing.{replyText, Few, PrefixLength}
+use Rattle.explanations.specs.Printed.{printed, withLength, TextWritten}
 use Rattle.explainer.specs.declared.ExplainReply.{ExplainReply}
 use Rattle.explanations.proofs.Demands.{Accepted, explanation-accepted}
 use Rattle.explainer.proofs.Explaining.{explanation-of-readings}
 use Rattle.explainer.proofs.Promised.{long-enough}
 use Rattle.explanations.proofs.Lines.{listing-printed}
-use Rattle.explanations.proofs.Beginnings.{withLength, explanation-begun}
 
 module _ (tableText text table formula rows edges : List ℕ) (long : tableLength ≤ length table) (wide : formulaLength ≤ length formula) where
   abbrev E : Reply Explanation
@@ -60,14 +58,6 @@ module _ (tableText text table formula rows edges : List ℕ) (long : tableLengt
       by : (x : Reply Explanation) → E ≡ x → replyText (explainReplied x) n (rowsExplained x rows) (edgesExplained x edges) ≡ printed (withLength n x)
       by (refusal k g) d = refl
       by (accepted x) d = listing-printed x rows edges (small x d)
-
-pub files-text : (tablefile text table formula : List ℕ) (n : ℕ) → Begins tablefile table → text ≡ take keptLength (withoutEnd formula) → n ≡ length (withoutEnd formula)
-    → printed (withLength n (explanation tablefile text (replicate (rowsLent * rowLength) 0) (replicate (edgesLent * edgeLength) 0))) ≡ explainText table formula
-unfolding explainText
-files-text tablefile text table formula n (m, h, b) t e =
-    let rows : List ℕ = replicate (rowsLent * rowLength) 0 in
-    let edges : List ℕ = replicate (edgesLent * edgeLength) 0 in
-    (λ i. printed (withLength (e i) (explanation (b i) (t i) rows edges))) ∙ ap printed (explanation-begun rows edges m table (withoutEnd formula) h)
 
 -- A text that was written into a buffer has no more bytes than the buffer.
 pub written-counts : {text before out : List ℕ} {end : ℕ} → TextWritten text before out end → length out ≡ length before → PrefixLength end out

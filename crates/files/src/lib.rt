@@ -7,13 +7,14 @@ use explanations::sizes::ROWS_LENGTH;
 use explanations::sizes::TEXT_LENGTH;
 use lts::sizes::TABLE_LENGTH;
 ghost use mathlib.Core.Path.{_≡_};
-ghost use mathlib.Core.List.{List, [], _++_};
-ghost use Prim.Native.Nat.{ℕ, _+_, _^_, _<_, min};
+ghost use Prim.Native.Nat.{_+_, min};
 ghost use lib.ListN.{length};
 ghost use Rattle.explanations.specs.Sizes.{keptLength};
+ghost use Rattle.explanations.specs.Printed.{TextWritten};
 ghost use Rattle.explainer.specs.Replies.{explainReply};
-ghost use Rattle.files.specs.Files.{Begins, ScanOf, kept, replyText, Few, PrefixLength};
-ghost use Rattle.explanations.specs.Printed.{withoutEnd, explainText, TextWritten};
+ghost use Rattle.files.specs.Scan.{scanStart, largestCount, scannedAfter, keptAfter};
+ghost use Rattle.files.specs.Files.{lengthWithoutEnd, filesText};
+ghost use Rattle.files.specs.Writing.{replyText, Few, PrefixLength};
 use bytes::copy;
 use explainer::ExplainReply;
 use explainer::explain;
@@ -28,7 +29,7 @@ pub struct Scanned {
 
 // Before the first byte.
 pub fn scan_start() -> Scanned
-    ensures { λ r. ⌜ ((head : List ℕ) → length head ≡ keptLength → ScanOf [] head r) ⌝ }
+    ensures { λ r. ⌜ r ≡ scanStart ⌝ }
 {
     Scanned { length: 0, last: 0 }
 }
@@ -42,7 +43,7 @@ fn least(a: usize, b: usize) -> usize
 // Puts the bytes of a chunk that belong to the first 513 into `head`, if `at` bytes came before.
 fn keep(chunk: &[u8], head: &mut [u8], at: usize)
     requires { ⌜ length (now head) ≡ keptLength ⌝ }
-    ensures { λ _. ⌜ now (head .exit) ≡ kept (now (head .entry)) at (now (chunk .entry)) ⌝ }
+    ensures { λ _. ⌜ now (head .exit) ≡ keptAfter (now (head .entry)) at (now (chunk .entry)) ⌝ }
 {
     if at < KEPT {
         let n = least(chunk.len(), KEPT - at);
@@ -52,7 +53,7 @@ fn keep(chunk: &[u8], head: &mut [u8], at: usize)
 
 // The sum, or the largest number where it does not fit.
 fn add(a: usize, b: usize) -> usize
-    ensures { λ r. ⌜ (a + b < 2 ^ 64 → r ≡ a + b) ⌝ }
+    ensures { λ r. ⌜ r ≡ min (a + b) largestCount ⌝ }
 {
     if b <= usize::MAX - a {
         a + b
@@ -63,13 +64,14 @@ fn add(a: usize, b: usize) -> usize
 
 // Takes in the next chunk of the formula file.
 pub fn scan_chunk(chunk: &[u8], head: &mut [u8; KEPT], scanned: Scanned) -> Scanned
-    ensures { λ r. ⌜ ((file : List ℕ) → ScanOf file (now (head .entry)) scanned → length file + length (now (chunk .entry)) < 2 ^ 64 → ScanOf (file ++ now (chunk .entry)) (now (head .exit)) r) ⌝ }
+    ensures { λ r. ⌜ r ≡ scannedAfter scanned (now (chunk .entry)) ⌝ }
+    ensures { λ _. ⌜ now (head .exit) ≡ keptAfter (now (head .entry)) (scanned .length) (now (chunk .entry)) ⌝ }
 {
+    keep(chunk, head, scanned.length);
     let n = chunk.len();
     if n == 0 {
         return scanned;
     }
-    keep(chunk, head, scanned.length);
     Scanned {
         length: add(scanned.length, n),
         last: chunk[n - 1],
@@ -78,7 +80,7 @@ pub fn scan_chunk(chunk: &[u8], head: &mut [u8; KEPT], scanned: Scanned) -> Scan
 
 // The length of the formula's text: one LF at the end of the file is dropped.
 fn text_length(scanned: Scanned) -> usize
-    ensures { λ r. ⌜ ((file head : List ℕ) → ScanOf file head scanned → r ≡ length (withoutEnd file)) ⌝ }
+    ensures { λ r. ⌜ r ≡ lengthWithoutEnd scanned ⌝ }
 {
     let n = scanned.length;
     if n == 0 {
@@ -128,7 +130,7 @@ pub fn explain_files(
     scanned: Scanned,
     out: &mut [u8; TEXT_LENGTH],
 ) -> usize
-    ensures { λ r. ⌜ ((table formula : List ℕ) → Begins (now (tablefile .entry)) table → ScanOf formula (now (head .entry)) scanned → TextWritten (explainText table formula) (now (out .entry)) (now (out .exit)) r) ⌝ }
+    ensures { λ r. ⌜ TextWritten (filesText (now (tablefile .entry)) (now (head .entry)) scanned) (now (out .entry)) (now (out .exit)) r ⌝ }
     ensures { λ r. ⌜ PrefixLength r (now (out .exit)) ⌝ }
 {
     let mut table = [0u8; TABLE_LENGTH];

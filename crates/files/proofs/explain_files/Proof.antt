@@ -10,14 +10,14 @@ use Rattle.explainer.proofs.explain.Reads as explain-reads
 use Rattle.files.proofs.least.Reads as least-reads
 use Rattle.files.proofs.text_length.Reads as text-length-reads
 use Rattle.files.proofs.write_reply.Reads as write-reply-reads
-use mathlib.Core.Path.{ap, _∙_, subst}
+use mathlib.Core.Path.{_≡_, ap, _∙_, subst}
 use mathlib.Core.List.{List}
 use Prim.Native.Nat.{ℕ, min}
 use native.Mathlib.Omega.{arith}
 use lib.ListN.{take, replicate, length-take}
-use Rattle.explanations.specs.Printed.{TextWritten}
-use Rattle.files.proofs.Scanning.{scanned-text}
-use Rattle.files.proofs.Replied.{few-counts, reply-text, files-text}
+use Rattle.explanations.specs.Printed.{printed, lentExplanation, withLength, TextWritten}
+use Rattle.files.specs.Files.{filesText}
+use Rattle.files.proofs.Replied.{few-counts, reply-text}
 
 text-length-requires : tie.Need-text-length-requires
 text-length-requires c κs = search needs
@@ -51,6 +51,7 @@ write-reply-requires c κs =
     few-counts (a .tablefile .now) (take (n .result) (a .head .now)) (replicate tableLength 0) (replicate formulaLength 0) (replicate rowsLength 0) (replicate edgesLength 0) (omega arith) (omega arith) (omega arith) (omega arith) (call .result) (call .ensures .outcome .reply)
 
 returns : tie.Need-returns
+unfolding filesText
 returns c =
     let call = c .before .before .before .before .before .before .before .before .explain in
     let n = c .before .before .before .before .before .before .before .before .before .before .before .before .before .before .before .least in
@@ -58,12 +59,10 @@ returns c =
     let a = c .before .before .before .before .before .before .before .before .before .before .before .before .before .before .before .before .before .before .args in
     let part = take (n .result) (a .head .now) in
     let outcome = call .ensures .outcome in
-    let is = reply-text (a .tablefile .now) part (replicate tableLength 0) (replicate formulaLength 0) (replicate rowsLength 0) (replicate edgesLength 0) (omega arith) (omega arith) (long .result) (call .result) (call .last .1 .1 .1 .1 .0) (call .last .1 .1 .1 .1 .1 .0) (outcome .reply) (outcome .rows-left) (outcome .edges-left) in (
-      λ table formula b h.
-          let size = long .ensures formula (a .head .now) h in
-          let text = scanned-text formula (a .head .now) (a .scanned) h (n .result) (n .ensures ∙ ap (λ k. min k keptLength) size) in
-          subst (λ (l : List ℕ). TextWritten l (a .out .now) (c .write-reply .last .1 .1 .1 .1 .0) (c .write-reply .result))
-          (is ∙ files-text (a .tablefile .now) part table formula (long .result) b text size) (c .write-reply .ensures .0),
+    let is = reply-text (a .tablefile .now) part (replicate tableLength 0) (replicate formulaLength 0) (replicate rowsLength 0) (replicate edgesLength 0) (omega arith) (omega arith) (long .result) (call .result) (call .last .1 .1 .1 .1 .0) (call .last .1 .1 .1 .1 .1 .0) (outcome .reply) (outcome .rows-left) (outcome .edges-left) in
+    let kept = n .ensures ∙ ap (λ k. min k keptLength) (long .ensures) in (
+      subst (λ (l : List ℕ). TextWritten l (a .out .now) (c .write-reply .last .1 .1 .1 .1 .0) (c .write-reply .result))
+          (is ∙ (λ i. printed (withLength (long .ensures i) (lentExplanation (a .tablefile .now) (take (kept i) (a .head .now)))))) (c .write-reply .ensures .0),
       c .write-reply .ensures .1,
     )
 

@@ -50,7 +50,7 @@ returns c =
 returns-2 : tie.Need-returns-2
 returns-2 c =
     let start = c .before .before .before in
-    kept-whole (start .args .head .now) (start .args .chunk .now) (start .args .at) 0 (start .pre) (c .if1 .left)
+    kept-whole (start .args .head .now) (start .args .chunk .now) (start .args .at) (start .pre) (c .if1 .left)
 
 pub keep-spec : {M : Type 1} → statement M
 keep-spec =

@@ -5,20 +5,20 @@ use Rattle.files.proofs.scan_chunk.Reads as reads
 use Rattle.files.proofs.scan_chunk.Lts as lts
 use Rattle.files.proofs.add.Reads as add-reads
 use Rattle.files.proofs.keep.Reads as keep-reads
-use mathlib.Core.Path.{refl, subst, sym}
-use mathlib.Core.List.{List, _++_}
-use Prim.Native.Nat.{ℕ, _-_}
+use Prim.Native.Nat.{_-_}
 use native.Mathlib.Omega.{arith}
-use lib.ListN.{length, getD}
-use Rattle.files.specs.Files.{ScanOf}
-use Rattle.files.specs.declared.Scanned.{Scanned}
-use Rattle.files.proofs.Scanning.{scanned-none, scanned-more}
-
-returns : tie.Need-returns
-returns c file h fits = scanned-none file _ _ _ h (c .if1 .taken)
+use lib.ListN.{length}
+use Rattle.lts.proofs.Laws.Compare.{getD-any}
+use Rattle.files.proofs.Scanning.{scanned-none}
 
 keep-requires : tie.Need-keep-requires
 keep-requires c κs = search needs
+
+returns : tie.Need-returns
+returns c =
+    let start = c .before .before .before .before in
+    let a = start .args in
+    (scanned-none (a .scanned) (a .chunk .now) (omega (arith, start .good)) (c .if1 .taken), c .before .keep .ensures)
 
 add-requires : tie.Need-add-requires
 add-requires c κs = search needs
@@ -30,12 +30,11 @@ shared-slice-read-t12 : tie.Need-shared-slice-read-t12
 shared-slice-read-t12 c = search needs
 
 returns-2 : tie.Need-returns-2
-returns-2 c file h fits =
+returns-2 c =
     let a = c .before .before .before .before .before .before .args in
-    let more : Scanned = record { length = c .before .add .result; last = getD (a .chunk .now) (length (a .chunk .now) - 1) 0 } in
-    subst (λ (l : List ℕ). ScanOf (file ++ (a .chunk .now)) l more) (sym (c .before .before .keep .ensures))
-    (scanned-more file (a .head .now) (a .chunk .now) (a .scanned) more h (omega arith) (c .before .add .ensures (omega (arith, h .counted))) refl)
+    let some = getD-any 0 (a .scanned .last) (a .chunk .now) (length (a .chunk .now) - 1) (omega arith) in
+    ((λ i. record { length = c .before .add .ensures i; last = some i }), c .before .before .before .keep .ensures)
 
 pub scan-chunk-spec : {M : Type 1} → statement M
 scan-chunk-spec =
-    tie.close (tie.spec returns keep-requires add-requires sub-t10 shared-slice-read-t12 returns-2)
+    tie.close (tie.spec keep-requires returns add-requires sub-t10 shared-slice-read-t12 returns-2)

@@ -13,7 +13,7 @@ use Prim.Native.Nat.{ℕ}
 use lib.Dec.{eqb}
 use borrow.Author.Tests.{eq-eqb, ne-eqb}
 use Rattle.explainer.specs.Replies.{explainReply}
-use Rattle.files.specs.Files.{Few, replyText}
+use Rattle.files.specs.Writing.{Few, replyText}
 use Rattle.explanations.specs.Printed.{refusalLine, TextWritten}
 use Rattle.explainer.specs.declared.ExplainReply.{ExplainReply}
 use Rattle.explainer.specs.declared.ExplainReply.the-variants.{Refused}
