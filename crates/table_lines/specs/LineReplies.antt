@@ -2,6 +2,8 @@
 use mathlib.Core.Path.{_≡_}
 use mathlib.Core.List.{List}
 use Prim.Native.Nat.{ℕ, _+_}
+use lib.ListN.{getD}
+use Rattle.lts.specs.Steps.{Step}
 use Rattle.tables.specs.Access.{stepIn}
 use Rattle.lts.specs.Reading.{Header, headerOf, headerLaidOut, labelLaidOut, stepOf, stepLaidOut}
 use Rattle.table_lines.specs.declared.HeaderFields.{HeaderFields}
@@ -25,6 +27,11 @@ abbrev pub LabelAnswer : List ℕ → ℕ → LabelLine → Type 0
 LabelAnswer s at (Label number end) = Labelled s at number end
 LabelAnswer s at NoLabel = NoLineAt labelLaidOut s at
 
+-- The three numbers of a transition stand at `at`: they are a line if an LF stands behind them, and else there is none.
+pub record NumbersAt (s : List ℕ) (at : ℕ) (t : Step) : Type 0 where
+  pub ended : getD s (at + 18) 256 ≡ 10 → (l : List ℕ) × LineAt stepLaidOut s at (at + 19) l × (stepOf l ≡ t)
+  pub unended : (getD s (at + 18) 256 ≡ 10 → ⊥) → NoLineAt stepLaidOut s at
+
 abbrev pub TransitionAnswer : List ℕ → ℕ → TransitionLine → Type 0
-TransitionAnswer s at (Row t) = (l : List ℕ) × LineAt stepLaidOut s at (at + 19) l × (stepOf l ≡ stepIn t)
+TransitionAnswer s at (Row t) = NumbersAt s at (stepIn t)
 TransitionAnswer s at NoRow = NoLineAt stepLaidOut s at

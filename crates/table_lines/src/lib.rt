@@ -98,6 +98,7 @@ pub fn label_line(text: &[u8], at: usize) -> LabelLine
     }
 }
 
+// The three numbers of a transition's line. That the line ends behind them is tested apart.
 pub fn transition_line(text: &[u8], at: usize) -> TransitionLine
     requires { ⌜ at ≤ length (now text) ⌝ }
     ensures { λ r. ⌜ TransitionAnswer (now (text .entry)) at r ⌝ }
@@ -111,15 +112,11 @@ pub fn transition_line(text: &[u8], at: usize) -> TransitionLine
     let Column::Number(to) = columns::read_column(text, at + 12) else {
         return TransitionLine::NoRow;
     };
-    if stands(text, at + 18, 10) {
-        TransitionLine::Row(Transition {
-            from: from,
-            label: label,
-            to: to,
-        })
-    } else {
-        TransitionLine::NoRow
-    }
+    TransitionLine::Row(Transition {
+        from: from,
+        label: label,
+        to: to,
+    })
 }
 
 pub fn header_in_range(c: HeaderFields) -> bool

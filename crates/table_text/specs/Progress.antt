@@ -1,19 +1,21 @@
 -- What one more line, and all lines of a kind, make of a reading.
 use mathlib.Core.Path.{_≡_}
-use mathlib.Core.Bool.{true}
+use mathlib.Core.Bool.{Bool, true, false}
 use mathlib.Core.List.{List, [], _∷_, _++_}
 use Prim.Native.Nat.{ℕ, suc, _≤_}
 use lib.ListN.{length, drop}
-use Rattle.lts.specs.Reply.{Reply, accepted, refusal}
+use Rattle.lts.specs.Reply.{Reply, accepted, refusal, answers}
 use Rattle.lts.specs.Lists.{every}
 use Rattle.lts.specs.Steps.{Step, Table}
 use Rattle.lts.specs.Names.{isName}
 use Rattle.lts.specs.Reading.{Header, readLabels, readTransitions}
 use Rattle.table_text.specs.Replies.{tableReply}
 use Rattle.table_text.specs.declared.TableReply.{TableReply}
+use Rattle.table_text.specs.declared.TableReply.the-variants.{NotLaidOut, OutOfRange}
 use Rattle.table_text.specs.declared.Progress.{Progress}
 use Rattle.table_text.specs.declared.Progress.the-variants.{Next, Refused}
-use Rattle.lts.specs.Slots.{nameBytes, stepBytes}
+use Rattle.lts.specs.Slots.{nameBytes, stepBytes, headBytes}
+use Rattle.lts.specs.Prepared.{tableBytes}
 
 -- A reading that ends in the refusal that an answer says.
 pub record Refuses (r : Reply Table) (t : TableReply) : Type 0 where
@@ -78,3 +80,17 @@ StepsReads h s from names b (Refused t) = Refuses (readTransitions h names (h .t
 
 abbrev pub TransitionsRead : Header → List ℕ → ℕ → List ℕ → Progress → Type 0
 TransitionsRead h s from b r = (names : List (List ℕ)) → length names ≡ h .labels → StepsReads h s from names b r
+
+-- 01: "on each line 1, 2": the refusal of a line with a number out of range.
+abbrev pub numberRefused : Bool → ℕ → TableReply
+numberRefused true line = OutOfRange line
+numberRefused false line = NotLaidOut line
+
+-- The lines behind the first: what is answered, and that the slots of accepted ones are the prepared table's.
+pub record LinesRead (h : Header) (s names slots : List ℕ) (r : TableReply) : Type 0 where
+  pub replies : tableReply r ≡ answers (λ t. tt) (readLabels h (h .labels) [] (drop 25 s))
+  pub bytes : (t : Table) → readLabels h (h .labels) [] (drop 25 s) ≡ accepted t → headBytes h ++ (names ++ slots) ≡ tableBytes t
+
+abbrev pub isAccepted : {A : Type 0} → Reply A → Bool
+isAccepted (accepted a) = true
+isAccepted (refusal number figure) = false

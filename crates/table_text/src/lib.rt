@@ -13,7 +13,7 @@ ghost use Rattle.table_text.specs.Replies.{tableReply};
 ghost use Rattle.lts.specs.TableReading.{tableReplied, tableLeft};
 ghost use Rattle.lts.specs.Slots.{headBytes};
 ghost use Rattle.table_lines.specs.LineReplies.{header};
-ghost use Rattle.table_text.specs.Progress.{LabelProgress, LabelsRead, TransitionProgress, TransitionsRead};
+ghost use Rattle.table_text.specs.Progress.{LabelProgress, LabelsRead, TransitionProgress, TransitionsRead, LinesRead, isAccepted, numberRefused};
 ghost use Rattle.lts.specs.Reply.{overwritten};
 ghost use mathlib.Core.List.{_++_};
 use table_lines::HeaderFields;
@@ -27,6 +27,7 @@ use table_lines::slots::rises;
 use table_lines::slots::write_at;
 use table_lines::slots::write_name;
 use table_lines::slots::write_transition;
+use table_lines::stands;
 use table_lines::transition_in_range;
 use table_lines::transition_line;
 use tables::names::Lookup;
@@ -87,6 +88,17 @@ fn read_labels(text: &[u8], from: usize, counts: HeaderFields, names: &mut [u8])
     Progress::Next(at)
 }
 
+// 01: "on each line 1, 2": a number out of range counts only where the line is laid out.
+fn number_refused(laidout: bool, line: usize) -> TableReply
+    ensures { λ r. ⌜ r ≡ numberRefused laidout line ⌝ }
+{
+    if laidout {
+        TableReply::OutOfRange(line)
+    } else {
+        TableReply::NotLaidOut(line)
+    }
+}
+
 // The line of the transition after `count` others.
 fn read_transition(
     text: &[u8],
@@ -103,8 +115,12 @@ fn read_transition(
     let TransitionLine::Row(t) = transition_line(text, at) else {
         return Progress::Refused(TableReply::NotLaidOut(line));
     };
+    let ended = stands(text, at + 18, 10);
     if !transition_in_range(counts, t) {
-        return Progress::Refused(TableReply::OutOfRange(line));
+        return Progress::Refused(number_refused(ended, line));
+    }
+    if !ended {
+        return Progress::Refused(TableReply::NotLaidOut(line));
     }
     if !rises(slots, count, t) {
         return Progress::Refused(TableReply::NotRising(line));
@@ -152,6 +168,39 @@ fn write_table(table: &mut [u8], counts: HeaderFields, names: &[u8], slots: &[u8
     write_at(table, TRANSITIONS_AT, slots);
 }
 
+// The lines behind the first, into slots that are all zero.
+fn read_lines(text: &[u8], counts: HeaderFields, names: &mut [u8], slots: &mut [u8]) -> TableReply
+    requires { ⌜ (25 ≤ length (now text)) × ((now names ≡ replicate namesLength 0) × (now slots ≡ replicate transitionsLength 0)) ⌝ }
+    requires { ⌜ (counts .states ≤ mostStates) × ((counts .labels ≤ mostLabels) × (counts .transitions ≤ mostTransitions)) ⌝ }
+    ensures { λ r. ⌜ LinesRead (header counts) (now (text .entry)) (now (names .exit)) (now (slots .exit)) r ⌝ }
+{
+    let labels_read = read_labels(text, 25, counts, names);
+    match labels_read {
+        Progress::Refused(reply) => reply,
+        Progress::Next(at) => {
+            let transitions_read = read_transitions(text, at, counts, slots);
+            match transitions_read {
+                Progress::Refused(reply) => reply,
+                Progress::Next(_) => TableReply::Accepted,
+            }
+        }
+    }
+}
+
+// Whether the lent bytes are to be written.
+fn is_accepted(reply: TableReply) -> bool
+    ensures { λ r. ⌜ r ≡ isAccepted (tableReply reply) ⌝ }
+{
+    match reply {
+        TableReply::Accepted => true,
+        TableReply::NotLaidOut(_) => false,
+        TableReply::OutOfRange(_) => false,
+        TableReply::NameRepeated(_) => false,
+        TableReply::NotRising(_) => false,
+        TableReply::BufferShort(_) => false,
+    }
+}
+
 // Reads a table's text into the prepared bytes.
 pub fn read_table(text: &[u8], table: &mut [u8]) -> TableReply
     ensures { λ r. ⌜ tableReply r ≡ tableReplied (now (text .entry)) (now (table .entry)) ⌝ }
@@ -167,19 +216,10 @@ pub fn read_table(text: &[u8], table: &mut [u8]) -> TableReply
         return TableReply::OutOfRange(1);
     }
     let mut names = [0u8; NAMES_LENGTH];
-    let labels_read = read_labels(text, 25, counts, &mut names);
-    match labels_read {
-        Progress::Refused(reply) => reply,
-        Progress::Next(at) => {
-            let mut slots = [0u8; TRANSITIONS_LENGTH];
-            let transitions_read = read_transitions(text, at, counts, &mut slots);
-            match transitions_read {
-                Progress::Refused(reply) => reply,
-                Progress::Next(_) => {
-                    write_table(table, counts, &names, &slots);
-                    TableReply::Accepted
-                }
-            }
-        }
+    let mut slots = [0u8; TRANSITIONS_LENGTH];
+    let reply = read_lines(text, counts, &mut names, &mut slots);
+    if is_accepted(reply) {
+        write_table(table, counts, &names, &slots);
     }
+    reply
 }

@@ -1,7 +1,6 @@
 -- `transition_line` says what line of a transition stands at a place, or that none does.
 use borrow.Author.Needs.{needs}
 use mathlib.Core.Path.{sym, _∙_}
-use borrow.Author.Tests.{eqb-true, eqb-false}
 use Prim.Native.Nat.{_+_}
 use Rattle.lts.proofs.Laws.Layout.{transition-lies, no-transition}
 use Rattle.columns.proofs.Laws.ColumnsRead.{column-found, column-lacking}
@@ -59,28 +58,32 @@ returns-3 c =
     let at = c .before .before .before .before .before .before .before .before .before .before .before .before .args .at in
     no-transition s at (λ x y z p q r e. column-lacking s (at + 12) z (sym (c .before .before .read-column3 .ensures) ∙ c .enum-told3 .given .1) r)
 
-add-stands : tie.Need-add-stands
-add-stands c = search needs
+-- The numbers, as the columns hold them.
+abbrev third : tie.After-known-told3 → tie.After-to
+third c = c .before
 
-stands-requires : tie.Need-stands-requires
-stands-requires c κs = search needs
+abbrev second : tie.After-known-told3 → tie.After-label
+second c = c .before .before .before .before .before
+
+abbrev first : tie.After-known-told3 → tie.After-from
+first c = c .before .before .before .before .before .before .before .before .before
 
 returns-4 : tie.Need-returns-4
 returns-4 c =
-    let s = c .before .before .before .before .before .before .before .before .before .before .before .before .before .before .before .args .text .now in
-    let at = c .before .before .before .before .before .before .before .before .before .before .before .before .before .before .before .args .at in
-    transition-lies s at
-    (record { from = c .before .before .before .before .before .before .before .before .before .before .before .from .given .0 .0; label = c .before .before .before .before .before .before .before .label .given .0 .0; to = c .before .before .before .to .given .0 .0 })
-    (column-found s (at) (c .before .before .before .before .before .before .before .before .before .before .before .from .given .0 .0) (sym (c .before .before .before .before .before .before .before .before .before .before .before .before .before .read-column .ensures) ∙ c .before .before .before .before .before .before .before .before .before .before .before .from .given .1))
-    (column-found s (at + 6) (c .before .before .before .before .before .before .before .label .given .0 .0) (sym (c .before .before .before .before .before .before .before .before .before .read-column2 .ensures) ∙ c .before .before .before .before .before .before .before .label .given .1))
-    (column-found s (at + 12) (c .before .before .before .to .given .0 .0) (sym (c .before .before .before .before .before .read-column3 .ensures) ∙ c .before .before .before .to .given .1))
-    (eqb-true _ _ (sym (c .before .stands .ensures) ∙ c .if1 .taken))
-
-returns-5 : tie.Need-returns-5
-returns-5 c =
-    let s = c .before .before .before .before .before .before .before .before .before .before .before .before .before .before .before .args .text .now in
-    let at = c .before .before .before .before .before .before .before .before .before .before .before .before .before .before .before .args .at in
-    no-transition s at (λ x y z p q r e. eqb-false _ _ (sym (c .before .stands .ensures) ∙ c .if1 .left) e)
+    let a = c .before .before .before .before .before .before .before .before .before .before .before .before .before .args in
+    let s = a .text .now in
+    let at = a .at in
+    let x = first c .from .given in
+    let y = second c .label .given in
+    let z = third c .to .given in
+    record {
+      ended = λ e. transition-lies s at (record { from = x .0 .0; label = y .0 .0; to = z .0 .0 })
+          (column-found s at (x .0 .0) (sym (first c .before .before .read-column .ensures) ∙ x .1))
+          (column-found s (at + 6) (y .0 .0) (sym (second c .before .before .read-column2 .ensures) ∙ y .1))
+          (column-found s (at + 12) (z .0 .0) (sym (third c .before .before .read-column3 .ensures) ∙ z .1))
+          e;
+      unended = λ n. no-transition s at (λ x y z p q r e. n e);
+    }
 
 pub transition-line-spec : {M : Type 1} → statement M
 transition-line-spec =
@@ -100,7 +103,4 @@ transition-line-spec =
     enum-known-to
     enum-told-3
     returns-3
-    add-stands
-    stands-requires
-    returns-4
-    returns-5)
+    returns-4)

@@ -12,7 +12,7 @@ use Rattle.lts.specs.Reply.{Reply, refusal, unless}
 use Rattle.lts.specs.Steps.{Step, Table}
 use Rattle.lts.specs.Reading.{Header, Line, missing, line, firstLine, onLine, labelLaidOut, used, stepOf, stepLaidOut, stepInRange, above, readTransitions, readLabels}
 use Rattle.lts.specs.Lines.{LineAt, NoLineAt}
-use Rattle.table_text.specs.Progress.{Refuses}
+use Rattle.table_text.specs.Progress.{Refuses, numberRefused}
 use Rattle.lts.proofs.Lists.{and-true-of}
 use Rattle.table_text.specs.declared.TableReply.the-variants.{NotLaidOut, OutOfRange, NameRepeated, NotRising}
 
@@ -111,6 +111,12 @@ module _ (h : Header) (s : List ℕ) (at left : ℕ) (names : List (List ℕ)) (
 
     pub transition-accepted : stepInRange h st ≡ true → above steps st ≡ true → readTransitions h names (suc left) steps (drop at s) ≡ readTransitions h names left (steps ++ (st ∷ [])) (drop to s)
     transition-accepted d u = in-range-opened d ∙ passed (above steps st) 4 (2 + length names + length steps) (readTransitions h names left (steps ++ (st ∷ [])) (drop to s)) u
+
+  -- A number out of range, in a line that is laid out or not.
+  pub transition-number-refused : (to : ℕ) (st : Step) (laid : Bool) → (laid ≡ true → (l : List ℕ) × LineAt stepLaidOut s at to l × (stepOf l ≡ st)) → (laid ≡ false → NoLineAt stepLaidOut s at)
+      → stepInRange h st ≡ false → (n : ℕ) → n ≡ length names + length steps + 2 → Refuses (readTransitions h names (suc left) steps (drop at s)) (numberRefused laid n)
+  transition-number-refused to st true x y d n f = let (l, g, v) = x refl in transition-out-of-range to l g st v n f d
+  transition-number-refused to st false x y d n f = transition-refused n f (y refl)
 
 pub in-range : (h : Header) (st : Step) → stepInRange h st ≡ true → (st .from < h .states) × (st .label ≤ h .labels) × (st .to < h .states)
 in-range h st e =

@@ -1,6 +1,6 @@
 -- Laws of a whole reading: its header, and what the entry answers and leaves.
 use mathlib.Core.Path.{_≡_, refl, sym, ap, _∙_}
-use mathlib.Core.Bool.{Bool, true, false, _&&_}
+use mathlib.Core.Bool.{Bool, true, false, _&&_, true≢false, false≢true}
 use mathlib.Core.List.{List, [], _++_}
 use Prim.Native.Nat.{ℕ, _<_, _≤_}
 use native.Mathlib.Omega.{arith}
@@ -8,7 +8,7 @@ use borrow.Author.Tests.{ltb-true, leb-true, le-leb, lt-leb}
 use lib.Dec.{leb, ltb}
 use lib.ListN.{length, drop}
 use Rattle.lts.specs.Sizes.{mostStates, mostLabels, mostTransitions, tableLength}
-use Rattle.lts.specs.Reply.{accepted, refusal, unless, overwritten, leftIn, answers}
+use Rattle.lts.specs.Reply.{Reply, accepted, refusal, unless, overwritten, leftIn, answers}
 use Rattle.lts.specs.Steps.{Step, Table}
 use Rattle.lts.specs.Reading.{Header, firstLine, headerOf, headerLaidOut, headerInRange, readLabels, readTable}
 use Rattle.lts.specs.Prepared.{tableBytes}
@@ -16,9 +16,9 @@ use Rattle.table_text.specs.Replies.{tableReply}
 use Rattle.lts.specs.TableReading.{tableReading, tableReplied, tableLeft}
 use Rattle.lts.specs.Slots.{nameBytes, stepBytes, headBytes}
 use Rattle.lts.specs.Lines.{LineAt, NoLineAt}
-use Rattle.table_text.specs.Progress.{Refuses}
+use Rattle.table_text.specs.Progress.{Refuses, LinesRead, isAccepted}
 use Rattle.table_text.specs.declared.TableReply.{TableReply}
-use Rattle.table_text.specs.declared.TableReply.the-variants.{NotLaidOut, OutOfRange}
+use Rattle.table_text.specs.declared.TableReply.the-variants.{Accepted, NotLaidOut, OutOfRange}
 use Rattle.lts.proofs.Lists.{and-true-of}
 use Rattle.table_text.proofs.Laws.Progress.{no-line, a-line, passed, failed}
 
@@ -65,6 +65,31 @@ pub table-bytes : (h : Header) (names : List (List ℕ)) (steps : List Step) →
 unfolding tableBytes
 table-bytes h names steps e f = rw (e, f)
 
+-- The lines behind the first.
+abbrev acceptedOr : Table → Reply Table → Table
+acceptedOr d (accepted t) = t
+acceptedOr d (refusal number figure) = d
+
+module _ (h : Header) (s names slots : List ℕ) where
+  pub lines-refused : {t : TableReply} → Refuses (readLabels h (h .labels) [] (drop 25 s)) t → LinesRead h s names slots t
+  lines-refused r = record {
+    replies = r .says ∙ sym (ap (answers (λ t. tt)) (r .reply));
+    bytes = λ t e. absurd (false≢true (ap isAccepted (sym (r .reply) ∙ e)));
+  }
+
+  pub lines-accepted : (t : Table) → readLabels h (h .labels) [] (drop 25 s) ≡ accepted t → headBytes h ++ (names ++ slots) ≡ tableBytes t → LinesRead h s names slots Accepted
+  lines-accepted t e f = record { replies = sym (ap (answers (λ t. tt)) e); bytes = λ u g. f ∙ ap (λ r. tableBytes (acceptedOr t r)) (sym e ∙ g) }
+
+-- What is lent stays, or is written, as the reply says.
+module _ (b : List ℕ) (u : Reply (Unit {0})) where
+  left-unwritten : (a : Reply Table) → u ≡ answers (λ t. tt) a → isAccepted u ≡ false → b ≡ leftIn tableBytes a b
+  left-unwritten (accepted t) e f = absurd (true≢false (sym (ap isAccepted e) ∙ f))
+  left-unwritten (refusal number figure) e f = refl
+
+  left-written : (a : Reply Table) → u ≡ answers (λ t. tt) a → isAccepted u ≡ true → (x : List ℕ) → ((t : Table) → a ≡ accepted t → x ≡ tableBytes t) → overwritten x b ≡ leftIn tableBytes a b
+  left-written (accepted t) e f x g = ap (λ y. overwritten y b) (g t refl)
+  left-written (refusal number figure) e f x g = absurd (false≢true (sym (ap isAccepted e) ∙ f))
+
 -- The answer and the bytes.
 module _ (s b : List ℕ) where
   pub short-replies : length b < tableLength → (refusal 14 tableLength ≡ tableReplied s b) × (b ≡ tableLeft s b)
@@ -83,7 +108,15 @@ module _ (s b : List ℕ) where
         let refused = reading-is ∙ r .reply in
         (r .says ∙ ap (answers (λ t. tt)) (sym refused), ap (λ x. leftIn tableBytes x b) (sym refused))
 
-    pub accepted-replies : (t : Table) → readTable s ≡ accepted t → (d : List ℕ) → d ≡ overwritten (tableBytes t) b → (accepted tt ≡ tableReplied s b) × (d ≡ tableLeft s b)
-    accepted-replies t e d f =
-        let read = reading-is ∙ e in
-        (ap (answers (λ t. tt)) (sym read), f ∙ ap (λ x. leftIn tableBytes x b) (sym read))
+    module _ (f : Header) (names slots : List ℕ) (t : TableReply) (r : LinesRead f s names slots t) (e : readTable s ≡ readLabels f (f .labels) [] (drop 25 s)) where
+      lines-replied : tableReply t ≡ tableReplied s b
+      lines-replied = r .replies ∙ ap (answers (λ t. tt)) (sym (reading-is ∙ e))
+
+      pub unwritten-replies : isAccepted (tableReply t) ≡ false → (tableReply t ≡ tableReplied s b) × (b ≡ tableLeft s b)
+      unwritten-replies g = (lines-replied, left-unwritten b (tableReply t) (readLabels f (f .labels) [] (drop 25 s)) (r .replies) g ∙ ap (λ x. leftIn tableBytes x b) (sym (reading-is ∙ e)))
+
+      pub written-replies : isAccepted (tableReply t) ≡ true → (d : List ℕ) → d ≡ overwritten (headBytes f ++ (names ++ slots)) b → (tableReply t ≡ tableReplied s b) × (d ≡ tableLeft s b)
+      written-replies g d k = (
+        lines-replied,
+        k ∙ left-written b (tableReply t) (readLabels f (f .labels) [] (drop 25 s)) (r .replies) g (headBytes f ++ (names ++ slots)) (r .bytes) ∙ ap (λ x. leftIn tableBytes x b) (sym (reading-is ∙ e)),
+      )

@@ -1,18 +1,14 @@
 -- `read_table` answers `tableReplied` and leaves `tableLeft`.
 use borrow.Author.Needs.{needs}
 use Prim.Native.Nat.{ℕ}
-use mathlib.Core.Path.{_≡_, refl, sym, ap, ap₂, _∙_, subst}
+use mathlib.Core.Path.{_≡_, refl, sym, _∙_, subst}
 use borrow.Author.Tests.{not-true, not-false}
 use mathlib.Core.Bool.{true}
 use lib.ListN.{drop}
-use mathlib.Core.List.{List, [], _++_}
-use Rattle.table_text.proofs.Laws.Tables.{header-refused, header-out-of-range, header-accepted, HeaderBounds, header-bounds, table-bytes, short-replies, refused-replies, accepted-replies}
-use Rattle.table_text.proofs.Laws.Readings.{refuses-whole}
-use Rattle.lts.specs.Slots.{headBytes}
+use mathlib.Core.List.{List, []}
+use Rattle.table_text.proofs.Laws.Tables.{header-refused, header-out-of-range, header-accepted, HeaderBounds, header-bounds, short-replies, refused-replies, unwritten-replies, written-replies}
 use Rattle.lts.specs.Reading.{Header, headerInRange, readLabels, readTable}
 use Rattle.table_lines.specs.LineReplies.{header, HeaderAnswer}
-use Rattle.table_text.specs.Progress.{LabelsRead, NamesRead, TransitionsRead}
-use Rattle.lts.specs.Reply.{overwritten}
 use Rattle.table_text.proofs.read_table.Statement.{statement}
 use Rattle.table_text.proofs.read_table.Tie as tie
 
@@ -37,18 +33,9 @@ labels-left c =
     let (l, lies, values) = subst (HeaderAnswer (text c)) (c .before .before .before .counts .given .1) (c .before .before .before .before .before .header-line .ensures) in
     header-accepted (text c) l lies (fields c) values (in-range c)
 
--- All names read.
-abbrev begun : tie.After-labels-read2 → tie.Else2
-begun c = c .before .before .before .before .before
-
-abbrev behind : tie.After-labels-read2 → ℕ
-behind c = c .labels-read2 .given .0 .0
-
-abbrev name-slots : tie.After-labels-read2 → List ℕ
-name-slots c = c .before .before .before .read-labels .last .1 .1 .1 .0
-
-names : (c : tie.After-labels-read2) → NamesRead (fields (begun c)) (text (begun c)) 25 (behind c) (name-slots c)
-names c = subst (LabelsRead (fields (begun c)) (text (begun c)) 25 (name-slots c)) (c .labels-read2 .given .1) (c .before .before .before .read-labels .ensures)
+-- The lines behind it are read.
+abbrev begun : tie.After-is-accepted → tie.Else2
+begun c = c .before .before .before .before .before .before
 
 returns : tie.Need-returns
 returns c = let a = c .before .before .before .args in short-replies (a .text .now) (a .table .now) (c .if1 .taken)
@@ -79,35 +66,22 @@ returns-3 c =
     let (l, lies, values) = subst (HeaderAnswer s) (c .before .before .before .counts .given .1) (c .before .before .before .before .before .header-line .ensures) in
     refused-replies s (a .table .now) (c .before .before .before .before .before .before .if1 .left) (header-out-of-range s l lies h values (sym (c .before .header-in-range .ensures) ∙ not-true _ (c .if2 .taken)))
 
-slice-aggregate-read-labels : tie.Need-slice-aggregate-read-labels
-slice-aggregate-read-labels c = search needs
+slice-aggregate-read-lines : tie.Need-slice-aggregate-read-lines
+slice-aggregate-read-lines c = search needs
 
-read-labels-requires : tie.Need-read-labels-requires
-read-labels-requires c κs =
-    let s = text (c .before) in
-    let (l, lies, values) = subst (HeaderAnswer s) (c .before .before .before .before .counts .given .1) (c .before .before .before .before .before .before .header-line .ensures) in
-    (lies .within, (refl, bounds (c .before) .labels))
+slice-aggregate-read-lines-2 : tie.Need-slice-aggregate-read-lines-2
+slice-aggregate-read-lines-2 c = search needs
 
-enum-known-labels-read : tie.Need-enum-known-labels-read
-enum-known-labels-read c = search needs
+read-lines-requires : tie.Need-read-lines-requires
+read-lines-requires c κs =
+    let begin = c .before .before in
+    let s = text begin in
+    let (l, lies, values) = subst (HeaderAnswer s) (begin .before .before .before .counts .given .1) (begin .before .before .before .before .before .header-line .ensures) in
+    let fits = bounds begin in
+    ((lies .within, (refl, refl)), (fits .states, (fits .labels, fits .transitions)))
 
-enum-known-labels-read-2 : tie.Need-enum-known-labels-read-2
-enum-known-labels-read-2 c = search needs
-
-slice-aggregate-read-transitions : tie.Need-slice-aggregate-read-transitions
-slice-aggregate-read-transitions c = search needs
-
-read-transitions-requires : tie.Need-read-transitions-requires
-read-transitions-requires c κs =
-    let named = c .before .before in
-    let fits = bounds (begun named) in
-    ((names named .within, refl), (fits .states, (fits .labels, fits .transitions)))
-
-enum-known-transitions-read : tie.Need-enum-known-transitions-read
-enum-known-transitions-read c = search needs
-
-enum-told-2 : tie.Need-enum-told-2
-enum-told-2 c = search needs
+is-accepted-requires : tie.Need-is-accepted-requires
+is-accepted-requires c κs = search needs
 
 slice-aggregate-write-table : tie.Need-slice-aggregate-write-table
 slice-aggregate-write-table c = search needs
@@ -117,46 +91,31 @@ slice-aggregate-write-table-2 c = search needs
 
 write-table-requires : tie.Need-write-table-requires
 write-table-requires c κs =
-    let begin = c .before .before .before .before .before .before .before .before .before .before .before .before .before .before in
+    let answered = c .before .before .before .before in
+    let begin = begun answered in
     let fits = bounds begin in
-    let long = begin .before .before .before .before .before .before .if1 .left in
-    ((long, (c .before .before .before .before .before .before .before .before .before .before .before .before .read-labels .kept .1 .1 .1 .0, c .before .before .before .before .before .before .read-transitions .kept .1 .1 .1 .0)), (fits .states, (fits .labels, (fits .transitions, fits .start))))
-
-returns-4 : tie.Need-returns-4
-returns-4 c =
-    let begin = c .before .before .before .before .before .before in
-    let after = c .before .before .before .before .read-labels in
-    let refusal = subst (LabelsRead (fields begin) (text begin) 25 (after .last .1 .1 .1 .0)) (c .before .labels-read .given .1) (after .ensures) in
-    let long = begin .before .before .before .before .before .before .if1 .left in
-    refused-replies (text begin) (entry begin .args .table .now) long (refuses-whole (labels-left begin) refusal)
-
-returns-5 : tie.Need-returns-5
-returns-5 c =
-    let named = c .before .before .before .before .before .before .before in
-    let begin = begun named in
-    let after = c .before .before .before .before .read-transitions in
-    let refusal = subst (TransitionsRead (fields begin) (text begin) (behind named) (after .last .1 .1 .1 .0)) (c .before .transitions-read .given .1) (after .ensures) in
-    let long = begin .before .before .before .before .before .before .if1 .left in
-    refused-replies (text begin) (entry begin .args .table .now) long
-    (refuses-whole (labels-left begin ∙ names named .reads) (refusal (names named .names) (names named .counts)))
+    let kept = answered .before .before .before .read-lines .kept in
+    ((begin .before .before .before .before .before .before .if1 .left, (kept .1 .1 .0, kept .1 .1 .1 .0)), (fits .states, (fits .labels, (fits .transitions, fits .start))))
 
 same-length : tie.Need-same-length
 same-length c = search needs
 
-returns-6 : tie.Need-returns-6
-returns-6 c =
-    let named = c .before .before .before .before .before .before .before .before .before .before .before .before in
-    let begin = begun named in
-    let h = fields begin in
-    let b = entry begin .args .table .now in
-    let read = names named in
-    let after = c .before .before .before .before .before .before .before .before .before .read-transitions in
-    let rest = subst (TransitionsRead h (text begin) (behind named) (after .last .1 .1 .1 .0)) (c .before .before .before .before .before .before .enum-told2 .given .1) (after .ensures) in
-    let steps = rest (read .names) (read .counts) in
+returns-4 : tie.Need-returns-4
+returns-4 c =
+    let taken = c .before .before .before .before .before .before in
+    let answered = taken .before in
+    let begin = begun answered in
     let long = begin .before .before .before .before .before .before .if1 .left in
-    accepted-replies (text begin) b long _ (labels-left begin ∙ read .reads ∙ steps .reads) _
-    (c .before .before .write-table .ensures
-    ∙ ap (λ x. overwritten x b) (ap₂ (λ x y. headBytes h ++ (x ++ y)) (read .kept) (steps .kept) ∙ table-bytes h (read .names) (steps .steps) (read .counts) (steps .counts)))
+    written-replies (text begin) (entry begin .args .table .now) long (fields begin) _ _ _ (answered .before .before .before .read-lines .ensures) (labels-left begin)
+    (sym (answered .is-accepted .ensures) ∙ taken .if3 .taken) _ (c .before .before .write-table .ensures)
+
+returns-5 : tie.Need-returns-5
+returns-5 c =
+    let answered = c .before in
+    let begin = begun answered in
+    let long = begin .before .before .before .before .before .before .if1 .left in
+    unwritten-replies (text begin) (entry begin .args .table .now) long (fields begin) _ _ _ (answered .before .before .before .read-lines .ensures) (labels-left begin)
+    (sym (answered .is-accepted .ensures) ∙ c .if3 .left)
 
 pub read-table-spec : {M : Type 1} → statement M
 read-table-spec =
@@ -169,18 +128,13 @@ read-table-spec =
     returns-2
     header-in-range-requires
     returns-3
-    slice-aggregate-read-labels
-    read-labels-requires
-    enum-known-labels-read
-    enum-known-labels-read-2
-    slice-aggregate-read-transitions
-    read-transitions-requires
-    enum-known-transitions-read
-    enum-told-2
+    slice-aggregate-read-lines
+    slice-aggregate-read-lines-2
+    read-lines-requires
+    is-accepted-requires
     slice-aggregate-write-table
     slice-aggregate-write-table-2
     write-table-requires
-    returns-4
-    returns-5
     same-length
-    returns-6)
+    returns-4
+    returns-5)
