@@ -6,19 +6,20 @@ use mathlib.Core.List.{List, [], _∷_, _++_}
 use mathlib.Core.Option.{Option, none, some}
 use Prim.Native.Nat.{ℕ, zero, suc, _+_, _*_, _-_, _≤_, _<_}
 use lib.ListN.{length, take, drop}
-use Rattle.actl.specs.Sizes.{longestText, cellLength, cellsLength}
+use Rattle.actl.specs.Sizes.{longestText, nodeSlotLength, readingLength}
+use Rattle.columns.specs.Write.{pasted}
 use Rattle.lts.specs.Lists.{bind}
 use Rattle.lts.specs.Names.{lookup}
 use Rattle.lts.specs.Prepared.{tableIn}
 use Rattle.lts.specs.HoldsTable.{HoldsTable}
-use Rattle.actl.specs.Actions.{Mask, maskOf}
+use Rattle.actl.specs.Actions.{Cond, maskOf}
 use Rattle.actl.specs.Formulas.{Formula, size, nodes}
-use Rattle.actl.specs.Grammar.{gap, Set, Operand, Condition, Quantifier, existential, universal, Head, next, Disjunction, Term, showS, showO, showC, showH, showF, showT}
+use Rattle.actl.specs.Grammar.{gap, Set, Operand, Condition, Quantifier, Head, next, Disjunction, Term, showS, showO, showC, showH, showF, showT}
 use Rattle.actl.specs.Reader.{oFirst, InTerm, tFirst, tModal, termAt, afterNext, afterUntil, operandAt, afterSet, afterDisjunction, plugO, plugT, read, whole, refused}
 use Rattle.actl.specs.Mentions.{Mention, namesS, namesO, namesC, namesH, namesF, namesT}
-use Rattle.actl.specs.Meaning.{actionOfOperand, maskIn, modalOf, formulaOf, formulaOfTerm}
+use Rattle.actl.specs.Meaning.{actionOfOperand, maskIn, condOf, modalOf, formulaOf, formulaOfTerm}
 use Rattle.actl.specs.Reading.{unknownAt, firstUnknown}
-use Rattle.actl.specs.Prepared.{Slot, slot, slotOf}
+use Rattle.actl.specs.Prepared.{Slot, slot, slotOf, slotBytes}
 use Rattle.actl.specs.Cursor.{peek, Token, Moves, Marked}
 
 -- The label names of the table in prepared bytes.
@@ -73,36 +74,31 @@ pub record Unclosed (N : List (List ℕ)) (s : List ℕ) (at mark lost to : ℕ)
   pub contents : SetRead N s at lost to mask left
   pub other : peek s to ≡ mark → ⊥
 
--- The kind of a node for EX and AX; with a set it is one more (docs/FORMATS.md).
-abbrev pub nextKind : Quantifier → ℕ
-nextKind existential = 4
-nextKind universal = 6
-
--- The bracket of EX or AX.
-pub record NextRead (N : List (List ℕ)) (s : List ℕ) (at base lost to kind first second left : ℕ) : Type 0 where
+-- The bracket of EX or AX, and its step condition.
+pub record NextRead (N : List (List ℕ)) (s : List ℕ) (at lost to : ℕ) (met : Cond) (left : ℕ) : Type 0 where
   pub before : ℕ
   pub inside : ℕ
   pub condition : Condition
   pub behind : ℕ
   pub moves : Moves s at to (λ r. gap before (91 ∷ gap inside (showC condition (gap behind (93 ∷ r)))))
       (λ (p : Quantifier × InTerm). afterNext (p .0) (p .1) 0) (λ p. termAt (tModal (next (p .0) before inside condition behind) (p .1) 0))
-  pub means : (q : Quantifier) (f : Formula) → nextKind q ≡ base → slotOf (modalOf N (next q before inside condition behind) f) ≡ slot kind first second
+  pub means : condOf N condition ≡ met
   pub lacks : left ≡ earlier lost (unknownIn N (length s) (namesC condition (gap behind (93 ∷ drop to s))))
 
 -- The bracket of EU.
-pub record UntilRead (N : List (List ℕ)) (s : List ℕ) (at lost to kind first second left : ℕ) : Type 0 where
+pub record UntilRead (N : List (List ℕ)) (s : List ℕ) (at lost to : ℕ) (node : Slot) (left : ℕ) : Type 0 where
   pub value : Head
   pub text : List ℕ → List ℕ
   pub shows : (r : List ℕ) → showH value r ≡ 69 ∷ 85 ∷ text r
   pub moves : Moves s at to text (λ k. afterUntil k 0) (λ k. termAt (tModal value k 0))
-  pub means : (f : Formula) → slotOf (modalOf N value f) ≡ slot kind first second
+  pub means : (f : Formula) → slotOf (modalOf N value f) ≡ node
   pub lacks : left ≡ earlier lost (unknownIn N (length s) (namesH value (drop to s)))
 
-pub record HeadRead (N : List (List ℕ)) (s : List ℕ) (at lost to kind first second left : ℕ) : Type 0 where
+pub record HeadRead (N : List (List ℕ)) (s : List ℕ) (at lost to : ℕ) (node : Slot) (left : ℕ) : Type 0 where
   pub value : Head
   pub up : at < to
   pub moves : Moves s at to (showH value) termAt (λ k. termAt (tModal value k 0))
-  pub means : (f : Formula) → slotOf (modalOf N value f) ≡ slot kind first second
+  pub means : (f : Formula) → slotOf (modalOf N value f) ≡ node
   pub lacks : left ≡ earlier lost (unknownIn N (length s) (namesH value (drop to s)))
 
 -- A place at which no `T`, `~` or `(` stands: a term there begins with a keyword.
@@ -115,30 +111,28 @@ pub record NoMark (s : List ℕ) (at : ℕ) : Type 0 where
 abbrev pub NoKeyword : List ℕ → ℕ → ℕ → Type 0
 NoKeyword s at to = Marked s at 69 to ⊎ (Marked s at 65 to ⊎ ((peek s at ≡ 69 → ⊥) × (peek s at ≡ 65 → ⊥) × (to ≡ at)))
 
--- Three cells for each node: its kind and its masks.
-abbrev pub slotCells : Slot → List ℕ
-slotCells s = s .kind ∷ s .first ∷ s .second ∷ []
+-- The nodes of a formula as prepared bytes hold them.
+abbrev pub bytesOfNodes : Formula → List ℕ
+bytesOfNodes F = bind (λ f. slotBytes (slotOf f)) (nodes F)
 
-abbrev pub nodeCells : Formula → List ℕ
-nodeCells F = bind (λ f. slotCells (slotOf f)) (nodes F)
+-- Bytes with node k written anew.
+abbrev pub putAt : ℕ → Slot → List ℕ → List ℕ
+putAt k node b = pasted b (1 + k * nodeSlotLength) (slotBytes node)
 
--- Cells with node n written anew.
-abbrev pub putAt : ℕ → ℕ → Mask → Mask → List ℕ → List ℕ
-putAt n kind first second e = take (n * cellLength) e ++ (kind ∷ first ∷ second ∷ drop (n * cellLength + cellLength) e)
-
--- Cells with `|` written before the nodes from `start` up to n, which move up by one.
+-- Bytes with `|` written before the nodes from `start` up to n, which move up by one.
 abbrev pub joinedAt : ℕ → ℕ → List ℕ → List ℕ
-joinedAt start n e = take (start * cellLength) e ++ (3 ∷ 0 ∷ 0 ∷ (drop (start * cellLength) (take (n * cellLength) e) ++ drop (n * cellLength + cellLength) e))
+joinedAt start n b = pasted b (1 + start * nodeSlotLength) (slotBytes (slot 3 0 0) ++ drop (1 + start * nodeSlotLength) (take (1 + n * nodeSlotLength) b))
 
--- The cells x are the cells e up to node n, and then l up to node m.
-pub record CellsWritten (n m : ℕ) (e x l : List ℕ) : Type 0 where
-  pub long : length x ≡ length e
-  pub cells : take (m * cellLength) x ≡ take (n * cellLength) e ++ l
+-- The bytes x are the bytes e with l written from node n on, up to node m.
+pub record NodesWritten (n m : ℕ) (e x l : List ℕ) : Type 0 where
+  pub ends : 1 + m * nodeSlotLength ≡ 1 + n * nodeSlotLength + length l
+  pub fits : m ≤ longestText
+  pub made : x ≡ pasted e (1 + n * nodeSlotLength) l
 
 -- Room for the nodes of what is left of the text: there are no more nodes than bytes.
 pub record NodeRoom (e : List ℕ) (at n : ℕ) : Type 0 where
   pub below : n ≤ at
-  pub long : length e ≡ cellsLength
+  pub long : length e ≡ readingLength
 
 pub record TermRead (N : List (List ℕ)) (s : List ℕ) (at n lost : ℕ) (e : List ℕ) (to m left : ℕ) (x : List ℕ) : Type 0 where
   pub value : Term
@@ -146,7 +140,7 @@ pub record TermRead (N : List (List ℕ)) (s : List ℕ) (at n lost : ℕ) (e : 
   pub few : m + at ≤ n + to
   pub count : m ≡ n + size (formulaOfTerm N value)
   pub moves : Moves s at to (showT value) termAt (plugT value)
-  pub written : CellsWritten n m e x (nodeCells (formulaOfTerm N value))
+  pub written : NodesWritten n m e x (bytesOfNodes (formulaOfTerm N value))
   pub lacks : left ≡ earlier lost (unknownIn N (length s) (namesT value (drop to s)))
 
 -- A formula ends at one place, and the blanks behind it at the other.
@@ -159,7 +153,7 @@ pub record FormulaRead (N : List (List ℕ)) (s : List ℕ) (at n lost : ℕ) (e
   pub token : Token s to
   pub last : peek s to ≡ 124 → ⊥
   pub moves : Moves s at to (λ r. showF value (gap (to - end) r)) (λ k. termAt (tFirst k)) (λ k. afterDisjunction value k (to - end))
-  pub written : CellsWritten n m e x (nodeCells (formulaOf N value))
+  pub written : NodesWritten n m e x (bytesOfNodes (formulaOf N value))
   pub lacks : left ≡ earlier lost (unknownIn N (length s) (namesF value (gap (to - end) (drop to s))))
 
 -- A formula, and the `)` behind it.
@@ -176,13 +170,13 @@ pub record Unbracketed (N : List (List ℕ)) (s : List ℕ) (at n lost : ℕ) (e
   pub contents : FormulaRead N s at n lost e end to m left x
   pub other : peek s to ≡ 41 → ⊥
 
--- A whole text: its nodes, how many there are, and the first name that the table lacks.
-pub record WholeRead (N : List (List ℕ)) (s x : List ℕ) (n left : ℕ) : Type 0 where
+-- A whole text: its nodes in the bytes e, how many there are, and the first name that the table lacks.
+pub record WholeRead (N : List (List ℕ)) (s e x : List ℕ) (n left : ℕ) : Type 0 where
   pub value : Disjunction
   pub reads : read s ≡ whole value
   pub count : n ≡ size (formulaOf N value)
-  pub long : length x ≡ cellsLength
-  pub cells : take (n * cellLength) x ≡ nodeCells (formulaOf N value)
+  pub long : length x ≡ readingLength
+  pub made : x ≡ pasted e 1 (bytesOfNodes (formulaOf N value))
   pub lacks : left ≡ earlier 0 (firstUnknown N value (namesF value []))
 
 -- 01: "length of the longest beginning that some grammatical text, of any length, has"

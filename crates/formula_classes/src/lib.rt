@@ -96,7 +96,8 @@ fn walk(kinds: &[u8], k: usize, ends: &mut [u8], classes: &mut [u8]) -> Walked
         return Walked::Broken;
     }
     if kind == 1 {
-        note(ends, classes, k, k + 1, 1);
+        let class = class_from(kind, 0);
+        note(ends, classes, k, k + 1, class);
         return Walked::Node(k + 1, 3);
     }
     let Walked::Node(middle, left) = walk(kinds, k + 1, ends, classes) else {
@@ -133,18 +134,6 @@ fn last_none(classes: &[u8]) -> Classless
     Classless::At(found)
 }
 
-// 01: "a node without class": "the highest-numbered one". Of a formula, by the kinds of its nodes.
-pub fn highest_classless(kinds: &[u8]) -> Classless
-    requires { ⌜ length (now kinds) ≤ mostNodes ⌝ }
-    ensures { λ r. ⌜ IsHighest r (now (kinds .entry)) ⌝ }
-{
-    let mut ends = [0u8; NODES];
-    let mut classes = [0u8; NODES];
-    walk(kinds, 0, &mut ends, &mut classes);
-    let count = kinds.len();
-    last_none(&classes[..count])
-}
-
 // The kinds of a prepared formula's first nodes.
 fn kinds_in(formula: &[u8], count: usize) -> [u8; NODES]
     requires { ⌜ (formulaLength ≤ length (now formula)) × (count ≤ mostNodes) ⌝ }
@@ -157,6 +146,18 @@ fn kinds_in(formula: &[u8], count: usize) -> [u8; NODES]
         k += 1;
     }
     kinds
+}
+
+// 01: "a node without class": "the highest-numbered one". Of a formula, by the slots of its nodes.
+pub fn highest_classless(formula: &[u8], count: usize) -> Classless
+    requires { ⌜ (formulaLength ≤ length (now formula)) × (count ≤ mostNodes) ⌝ }
+    ensures { λ r. ⌜ IsHighest r (kindsIn (now (formula .entry)) count) ⌝ }
+{
+    let mut ends = [0u8; NODES];
+    let mut classes = [0u8; NODES];
+    let kinds = kinds_in(formula, count);
+    walk(&kinds[..count], 0, &mut ends, &mut classes);
+    last_none(&classes[..count])
 }
 
 // Whether the first nodes of prepared bytes, in order, are those of one formula with a class.

@@ -7,7 +7,7 @@ use native.Mathlib.Decide.{decLe}
 use native.Mathlib.Omega.{arith}
 use lib.ListN.{length, drop, length-drop, drop-of-length-le}
 use lib.Seq.{drop-cons}
-use Rattle.actl.specs.Sizes.{cellsLength}
+use Rattle.actl.specs.Sizes.{readingLength}
 use Rattle.actl.specs.Grammar.{gap, showF}
 use Rattle.actl.specs.Reader.{fTop, tFirst, termAt, afterDisjunction, stop, readByte, finishDisjunction, proceed, run, start, read, refused}
 use Rattle.actl.specs.Mentions.{namesF}
@@ -16,6 +16,7 @@ use Rattle.actl.specs.Readers.{unknownIn, earlier, FormulaRead, WholeRead, Refu
 use Rattle.formula_cursor.proofs.ReadingPlaces.{run-stop}
 use Rattle.formula_cursor.proofs.ReadingMoves.{on-other}
 use Rattle.actl.proofs.ReadingLabels.{first-unknown}
+use Rattle.actl.proofs.ReadingNodes.{written-length}
 
 pub refused-at : (s : List ℕ) (to : ℕ) → to ≤ length s → read s ≡ refused (drop to s) → RefusedAt s to
 refused-at s to h e = record { rest = drop to s; reads = e; figure = omega (arith, length-drop to s) }
@@ -47,7 +48,7 @@ module _ {N : List (List ℕ)} {s e : List ℕ} {end to m l : ℕ} {x : List ℕ
           let d = drop-cons s to 256 (omega arith) in
           ap (λ r. run r (afterDisjunction (h .value) fTop (to - end))) d ∙ (ap (λ v. proceed v (run (drop (suc to) s)) (refused (peek s to ∷ drop (suc to) s))) stuck ∙ ap refused (sym d))
 
-  pub text-whole : length e ≡ cellsLength → end ≡ length s → WholeRead N s x m l
+  pub text-whole : length e ≡ readingLength → end ≡ length s → WholeRead N s e x m l
   text-whole long z =
       let w : to ≡ length s = omega (arith, h .blanks, h .moves .within) in
       let b : to - end ≡ 0 = omega arith in
@@ -57,7 +58,7 @@ module _ {N : List (List ℕ)} {s e : List ℕ} {end to m l : ℕ} {x : List ℕ
         value = h .value;
         reads = h .moves .reads fTop ∙ (λ i. run (d i) (afterDisjunction (h .value) fTop (b i)));
         count = h .count ∙ zero-add _;
-        long = h .written .long ∙ long;
-        cells = h .written .cells;
+        long = written-length long (h .written);
+        made = h .written .made;
         lacks = h .lacks ∙ (λ i. earlier 0 (unknownIn N (length (t i)) (namesF (h .value) (gap (b i) (d i))))) ∙ ap (earlier 0) (first-unknown N (h .value) (namesF (h .value) []));
       }

@@ -6,17 +6,23 @@ use Prim.Native.Nat.{ℕ, suc, _+_, _-_, _<_}
 use native.Mathlib.Numerals.{add-one}
 use native.Mathlib.Omega.{arith}
 use lib.ListN.{length, drop}
+use Rattle.actl.specs.Actions.{Cond, silent, labels}
 use Rattle.actl.specs.Formulas.{Formula}
 use Rattle.actl.specs.Grammar.{gap, dot, set, Quantifier, existential, universal, next, until, untilThen, showS, showQ}
 use Rattle.actl.specs.Reader.{InSet, sNext, sUntil, sThen, InTerm, tModal, oFirst, termAt, afterE, afterA, afterNext, afterUntil, bracketAt, afterDot, operandAt, afterSet}
-use Rattle.actl.specs.Meaning.{modalOf}
+use Rattle.actl.specs.Meaning.{condOf, nextOf}
 use Rattle.actl.specs.Mentions.{namesS}
-use Rattle.actl.specs.Prepared.{slot, slotOf}
+use Rattle.actl.specs.Prepared.{slot, nextSlot, slotOf}
 use Rattle.actl.specs.Cursor.{peek, Token, Skipped, Moves, Fails, Marked, Tokened, Keyword}
-use Rattle.actl.specs.Readers.{unknownIn, earlier, SetRead, EnclosedRead, Unclosed, nextKind, NextRead, UntilRead, NoMark, NoKeyword}
-use Rattle.formula_heads.specs.HeadReplies.{NextAnswer, UntilAnswer, HeadAnswer}
+use Rattle.actl.specs.Readers.{unknownIn, earlier, SetRead, EnclosedRead, Unclosed, NextRead, UntilRead, NoMark, NoKeyword}
+use Rattle.formula_heads.specs.HeadReplies.{NextAnswer, UntilAnswer, HeadAnswer, exNode, axNode, headingOf}
+use Rattle.formula_heads.specs.declared.Bracket.{Bracket}
+use Rattle.formula_heads.specs.declared.Bracket.the-variants.{Read, Refused}
 use Rattle.formula_heads.specs.declared.Heading.{Heading}
-use Rattle.formula_heads.specs.declared.Heading.the-variants.{Read, Refused}
+use Rattle.formula_heads.specs.declared.Heading.the-variants as heading
+use Rattle.formulas.specs.Access.{condIn, slotOfNode}
+use Rattle.formulas.specs.declared.node.Condition.{Condition}
+use Rattle.formulas.specs.declared.node.Node.{Node}
 use Rattle.formula_cursor.proofs.ReadingMoves.{on-other, then, fail, at-only, fail-only, written-as, skip, stops, alike, marked, tokened}
 use Rattle.formula_sets.proofs.ReadingSets.{set-stops}
 use Rattle.actl.proofs.ReadingLabels.{earlier-none, earlier-append}
@@ -25,7 +31,7 @@ use Rattle.actl.proofs.ReadingLabels.{earlier-none, earlier-append}
 abbrev pub Quantified : Type 0
 Quantified = Quantifier × InTerm
 
-module _ (N : List (List ℕ)) (s : List ℕ) (at base lost o : ℕ) (k : Skipped s at o) where
+module _ (N : List (List ℕ)) (s : List ℕ) (at lost o : ℕ) (k : Skipped s at o) where
   before-next : Moves s at o (gap (o - at)) (λ (p : Quantified). afterNext (p .0) (p .1) 0) (λ p. afterNext (p .0) (p .1) (o - at))
   before-next = skip (λ g p. afterNext (p .0) (p .1) g) (λ g p. refl) k
 
@@ -40,20 +46,16 @@ module _ (N : List (List ℕ)) (s : List ℕ) (at base lost o : ℕ) (k : Skippe
       behind-dot : Moves s at e (λ r. gap (o - at) (91 ∷ gap (d - (o + 1)) (46 ∷ gap (e - (d + 1)) r))) (λ (p : Quantified). afterNext (p .0) (p .1) 0) (λ p. afterDot (p .0) (o - at) (d - (o + 1)) (p .1) (e - (d + 1)))
       behind-dot = then in-next (tokened (λ g p. afterDot (p .0) (o - at) (d - (o + 1)) (p .1) g) u (omega arith) (λ p. refl) (λ g p. refl))
 
-      pub next-silent : {to : ℕ} → Marked s e 93 to → NextRead N s at base lost to base 0 0 lost
+      pub next-silent : {to : ℕ} → Marked s e 93 to → NextRead N s at lost to silent lost
       next-silent h = record {
         before = o - at;
         inside = d - (o + 1);
         condition = dot;
         behind = e - (d + 1);
         moves = then behind-dot (marked h (omega arith) (λ p. refl));
-        means = silent-slot;
+        means = refl;
         lacks = sym (earlier-none lost);
       }
-        where
-          silent-slot : (q : Quantifier) (f : Formula) → nextKind q ≡ base → slotOf (modalOf N (next q (o - at) (d - (o + 1)) dot (e - (d + 1))) f) ≡ slot base 0 0
-          silent-slot existential f z = ap (λ b. slot b 0 0) z
-          silent-slot universal f z = ap (λ b. slot b 0 0) z
 
       pub next-silent-open : (peek s e ≡ 93 → ⊥) → Fails s at e (λ (p : Quantified). afterNext (p .0) (p .1) 0)
       next-silent-open h = fail behind-dot (stops (u .skipped .within) (λ p. refl) (λ p. on-other (peek s e) 32 _ _ (u .skipped .past) ∙ on-other (peek s e) 93 _ _ h))
@@ -64,7 +66,7 @@ module _ (N : List (List ℕ)) (s : List ℕ) (at base lost o : ℕ) (k : Skippe
       at-set = then in-next (alike (t .skipped .within) (λ p. refl)
           (λ p. on-other (peek s d) 32 _ _ (t .skipped .past) ∙ (on-other (peek s d) 46 _ _ n ∙ sym (on-other (peek s d) 32 _ _ (t .skipped .past)))))
 
-      pub next-set-read : {to m l : ℕ} → EnclosedRead N s d 93 lost to m l → NextRead N s at base lost to (base + 1) m 0 l
+      pub next-set-read : {to m l : ℕ} → EnclosedRead N s d 93 lost to m l → NextRead N s at lost to (labels m) l
       next-set-read {to} {m} {l} h =
           let c = h .contents in
           let v : Moves s (h .end) to (λ r. 93 ∷ r) (λ (p : Quantified). afterSet (c .value) (sNext (p .0) (o - at) (p .1) (d - (o + 1))) (c .blanks)) (λ p. termAt (tModal (next (p .0) (o - at) (d - (o + 1)) (set (c .value)) (c .blanks)) (p .1) 0)) = marked (h .shut) (omega arith) (λ p. refl) in
@@ -74,13 +76,9 @@ module _ (N : List (List ℕ)) (s : List ℕ) (at base lost o : ℕ) (k : Skippe
             condition = set (c .value);
             behind = c .blanks;
             moves = then at-set (then (at-only (λ p. sNext (p .0) (o - at) (p .1) (d - (o + 1))) (c .moves)) v);
-            means = set-slot c;
+            means = ap labels (sym (c .means));
             lacks = c .lacks ∙ ap (λ r. earlier lost (unknownIn N (length s) (namesS (c .value) (gap (c .blanks) r)))) (v .text);
           }
-        where
-          set-slot : {e m l : ℕ} (c : SetRead N s d lost e m l) (q : Quantifier) (f : Formula) → nextKind q ≡ base → slotOf (modalOf N (next q (o - at) (d - (o + 1)) (set (c .value)) (c .blanks)) f) ≡ slot (base + 1) m 0
-          set-slot c existential f z = λ i. slot ((ap suc z ∙ sym (add-one base)) i) (sym (c .means) i) 0
-          set-slot c universal f z = λ i. slot ((ap suc z ∙ sym (add-one base)) i) (sym (c .means) i) 0
 
       pub next-set-fails : {to : ℕ} → Fails s d to (λ k. operandAt (oFirst k)) ⊎ Unclosed N s d 93 lost to → Fails s at to (λ (p : Quantified). afterNext (p .0) (p .1) 0)
       next-set-fails (inl h) = fail at-set (fail-only (λ p. sNext (p .0) (o - at) (p .1) (d - (o + 1))) h)
@@ -104,7 +102,7 @@ module _ (N : List (List ℕ)) (s : List ℕ) (at lost o : ℕ) (k : Skipped s a
       behind-set : Moves s at e (λ r. gap (o - at) (91 ∷ gap (d - (o + 1)) (showS (c .value) (gap (c .blanks) r)))) (λ i. afterUntil i 0) (λ i. afterSet (c .value) (sUntil (o - at) i (d - (o + 1))) (c .blanks))
       behind-set = then in-until (at-only (λ i. sUntil (o - at) i (d - (o + 1))) (c .moves))
 
-      pub until-read : {to : ℕ} → Marked s e 93 to → UntilRead N s at lost to 8 m 0 l
+      pub until-read : {to : ℕ} → Marked s e 93 to → UntilRead N s at lost to (slot 8 m 0) l
       until-read {to} h =
           let v : Moves s e to (λ r. 93 ∷ r) (λ i. afterSet (c .value) (sUntil (o - at) i (d - (o + 1))) (c .blanks)) (λ i. termAt (tModal (until (o - at) (d - (o + 1)) (c .value) (c .blanks)) i 0)) = marked h (omega arith) (λ i. refl) in
           record {
@@ -128,7 +126,7 @@ module _ (N : List (List ℕ)) (s : List ℕ) (at lost o : ℕ) (k : Skipped s a
         unfolding then-at
         at-then = tokened (λ n i. operandAt (oFirst (sThen (o - at) (d - (o + 1)) (c .value) (c .blanks) i n))) u (omega arith) (λ i. refl) (λ n i. refl)
 
-        pub then-read : {to m′ l′ : ℕ} → EnclosedRead N s g 93 l to m′ l′ → UntilRead N s at lost to 9 m m′ l′
+        pub then-read : {to m′ l′ : ℕ} → EnclosedRead N s g 93 l to m′ l′ → UntilRead N s at lost to (slot 9 m m′) l′
         unfolding then-at
         then-read {to} h =
             let y = h .contents in
@@ -163,28 +161,35 @@ module _ (N : List (List ℕ)) (s : List ℕ) (at lost : ℕ) where
   the-EU : {d : ℕ} → Keyword s at 69 85 d → Moves s at d (λ r. 69 ∷ 85 ∷ r) termAt (λ k. afterUntil k 0)
   the-EU h = then (marked {y = afterE} (h .one) (omega arith) (λ k. refl)) (marked (h .two) (omega arith) (λ k. refl))
 
-  head-next : (q : Quantifier) (d : ℕ) → Moves s at d (showQ q) termAt (λ k. afterNext q k 0) → at < d → (r : Heading) → NextAnswer N s d (nextKind q) lost r → HeadAnswer N s at lost r
-  head-next q d m u (Read c k a b l) h = record {
+  -- The slot of the node over a step condition is that of the formula.
+  Over : Quantifier → (Condition → Node) → Type 0
+  Over q node = (met : Cond) (x : Condition) (f : Formula) → met ≡ condIn x → slotOf (nextOf q met f) ≡ slotOfNode (node x)
+
+  head-next : (q : Quantifier) (node : Condition → Node) → Over q node → (d : ℕ) → Moves s at d (showQ q) termAt (λ k. afterNext q k 0) → at < d → (r : Bracket) → NextAnswer N s d lost r → HeadAnswer N s at lost (headingOf node r)
+  unfolding Over
+  head-next q node over d m u (Read c x l) h = record {
     value = next q (h .before) (h .inside) (h .condition) (h .behind);
     up = let w = h .moves .up in omega arith;
     moves = then m (at-only (λ k. (q, k)) (h .moves));
-    means = λ f. h .means q f refl;
+    means = λ f. over (condOf N (h .condition)) x f (h .means);
     lacks = h .lacks;
   }
-  head-next q d m u (Refused c) h = fail m (fail-only (λ k. (q, k)) h)
+  head-next q node over d m u (Refused c) h = fail m (fail-only (λ k. (q, k)) h)
 
-  pub head-EX : {d : ℕ} → Keyword s at 69 88 d → (r : Heading) → NextAnswer N s d 4 lost r → HeadAnswer N s at lost r
-  head-EX {d} h r n = head-next existential d (the-EX h) (let z = h .two .next in omega arith) r n
+  pub head-EX : {d : ℕ} → Keyword s at 69 88 d → (r : Bracket) → NextAnswer N s d lost r → HeadAnswer N s at lost (headingOf exNode r)
+  unfolding Over
+  head-EX {d} h r n = head-next existential exNode (λ met x f e. ap (nextSlot 4) e) d (the-EX h) (let z = h .two .next in omega arith) r n
 
-  pub head-AX : {d : ℕ} → Keyword s at 65 88 d → (r : Heading) → NextAnswer N s d 6 lost r → HeadAnswer N s at lost r
-  head-AX {d} h r n = head-next universal d (the-AX h) (let z = h .two .next in omega arith) r n
+  pub head-AX : {d : ℕ} → Keyword s at 65 88 d → (r : Bracket) → NextAnswer N s d lost r → HeadAnswer N s at lost (headingOf axNode r)
+  unfolding Over
+  head-AX {d} h r n = head-next universal axNode (λ met x f e. ap (nextSlot 6) e) d (the-AX h) (let z = h .two .next in omega arith) r n
 
   pub head-EU : {d : ℕ} → Keyword s at 69 85 d → (r : Heading) → UntilAnswer N s d lost r → HeadAnswer N s at lost r
-  head-EU {d} h (Read c k a b l) n =
+  head-EU {d} h (heading.Read c node l) n =
       let z = h .two .next in
       let w = n .moves .up in
       record { value = n .value; up = omega arith; moves = written-as (λ r. sym (n .shows r)) (then (the-EU h) (n .moves)); means = n .means; lacks = n .lacks }
-  head-EU h (Refused c) n = fail (the-EU h) n
+  head-EU h (heading.Refused c) n = fail (the-EU h) n
 
   pub no-head : {to : ℕ} → Token s at → NoMark s at → (peek s at ≡ 69 → peek s (at + 1) ≡ 88 → ⊥) → (peek s at ≡ 65 → peek s (at + 1) ≡ 88 → ⊥) → (peek s at ≡ 69 → peek s (at + 1) ≡ 85 → ⊥) → NoKeyword s at to → Fails s at to termAt
   no-head {to} t n ex ax eu (inl h) =

@@ -4,18 +4,35 @@ use Prim.Native.Nat.{ℕ}
 use Rattle.actl.specs.Grammar.{Quantifier}
 use Rattle.actl.specs.Reader.{InTerm, termAt, afterNext, afterUntil}
 use Rattle.actl.specs.Cursor.{Fails}
+use Rattle.formulas.specs.Access.{condIn, slotOfNode}
+use Rattle.formulas.specs.declared.node.Condition.{Condition}
+use Rattle.formulas.specs.declared.node.Node.{Node}
+use Rattle.formulas.specs.declared.node.Node.the-variants.{Ex, Ax}
+use Rattle.formula_heads.specs.declared.Bracket.{Bracket}
+use Rattle.formula_heads.specs.declared.Bracket.the-variants as bracket
 use Rattle.formula_heads.specs.declared.Heading.{Heading}
 use Rattle.formula_heads.specs.declared.Heading.the-variants as heading
 use Rattle.actl.specs.Readers.{NextRead, UntilRead, HeadRead}
 
-abbrev pub NextAnswer : List (List ℕ) → List ℕ → ℕ → ℕ → ℕ → Heading → Type 0
-NextAnswer N s at base lost (heading.Read c k a b l) = NextRead N s at base lost (c .at) k a b l
-NextAnswer N s at base lost (heading.Refused c) = Fails s at (c .at) (λ (p : Quantifier × InTerm). afterNext (p .0) (p .1) 0)
+abbrev pub NextAnswer : List (List ℕ) → List ℕ → ℕ → ℕ → Bracket → Type 0
+NextAnswer N s at lost (bracket.Read c x l) = NextRead N s at lost (c .at) (condIn x) l
+NextAnswer N s at lost (bracket.Refused c) = Fails s at (c .at) (λ (p : Quantifier × InTerm). afterNext (p .0) (p .1) 0)
+
+-- The node over a bracket's step condition.
+abbrev pub exNode : Condition → Node
+exNode x = Ex x
+
+abbrev pub axNode : Condition → Node
+axNode x = Ax x
+
+abbrev pub headingOf : (Condition → Node) → Bracket → Heading
+headingOf node (bracket.Read c x l) = heading.Read c (node x) l
+headingOf node (bracket.Refused c) = heading.Refused c
 
 abbrev pub UntilAnswer : List (List ℕ) → List ℕ → ℕ → ℕ → Heading → Type 0
-UntilAnswer N s at lost (heading.Read c k a b l) = UntilRead N s at lost (c .at) k a b l
+UntilAnswer N s at lost (heading.Read c node l) = UntilRead N s at lost (c .at) (slotOfNode node) l
 UntilAnswer N s at lost (heading.Refused c) = Fails s at (c .at) (λ k. afterUntil k 0)
 
 abbrev pub HeadAnswer : List (List ℕ) → List ℕ → ℕ → ℕ → Heading → Type 0
-HeadAnswer N s at lost (heading.Read c k a b l) = HeadRead N s at lost (c .at) k a b l
+HeadAnswer N s at lost (heading.Read c node l) = HeadRead N s at lost (c .at) (slotOfNode node) l
 HeadAnswer N s at lost (heading.Refused c) = Fails s at (c .at) termAt

@@ -1,41 +1,68 @@
-// Reading a keyword with its square bracket: the kind and the masks of its node.
+// Reading a keyword with its square bracket: its node, without the arm.
+ghost use mathlib.Core.Path.{_≡_};
 ghost use Prim.Native.Nat.{_+_, _-_, _≤_, _<_};
 ghost use lib.ListN.{length};
 ghost use Rattle.actl.specs.Sizes.{longestText};
 ghost use Rattle.lts.specs.HoldsTable.{HoldsTable};
 ghost use Rattle.actl.specs.Readers.{namesIn, ReaderStart, NoMark, NoKeyword};
-ghost use Rattle.formula_heads.specs.HeadReplies.{NextAnswer, UntilAnswer, HeadAnswer};
+ghost use Rattle.formula_heads.specs.HeadReplies.{NextAnswer, UntilAnswer, HeadAnswer, headingOf, exNode, axNode};
 use formula_cursor::Cursor;
 use formula_cursor::Match;
 use formula_sets::Labels;
 use formula_sets::enclosed;
 use formula_sets::set;
+use formulas::node::Condition;
+use formulas::node::Node;
 
-// A keyword with its bracket, as the kind and the masks of its node.
-pub enum Heading {
-    Read(Cursor, u64, u64, u64, usize),
+// The bracket of EX or AX: its step condition.
+pub enum Bracket {
+    Read(Cursor, Condition, usize),
     Refused(Cursor),
 }
 
-// The bracket of EX or AX, whose node has the kind `base` for the silent step, and one more for a set.
-fn next_head(table: &[u8], text: &[u8], c: Cursor, base: u64, lost: usize) -> Heading
-    requires { ⌜ HoldsTable (now table) × (length (now text) ≤ longestText) × (c .at ≤ length (now text)) × (base < 8) ⌝ }
-    ensures { λ r. ⌜ NextAnswer (namesIn (now (table .entry))) (now (text .entry)) (c .at) base lost r ⌝ }
+// A keyword with its bracket: its node.
+pub enum Heading {
+    Read(Cursor, Node, usize),
+    Refused(Cursor),
+}
+
+// The bracket of EX or AX.
+fn next_bracket(table: &[u8], text: &[u8], c: Cursor, lost: usize) -> Bracket
+    requires { ⌜ HoldsTable (now table) × (length (now text) ≤ longestText) × (c .at ≤ length (now text)) ⌝ }
+    ensures { λ r. ⌜ NextAnswer (namesIn (now (table .entry))) (now (text .entry)) (c .at) lost r ⌝ }
 {
     let o = c.skip_blanks(text);
     let Match::Past(d) = o.token(text, b'[') else {
-        return Heading::Refused(o);
+        return Bracket::Refused(o);
     };
     if let Match::Past(e) = d.token(text, b'.') {
         let Match::Past(f) = e.mark(text, b']') else {
-            return Heading::Refused(e);
+            return Bracket::Refused(e);
         };
-        return Heading::Read(f, base, 0, 0, lost);
+        return Bracket::Read(f, Condition::Silent, lost);
     }
     let x = enclosed(table, text, d, 93, lost);
     match x {
-        Labels::Refused(e) => Heading::Refused(e),
-        Labels::Read(e, m, l) => Heading::Read(e, base + 1, m, 0, l),
+        Labels::Refused(e) => Bracket::Refused(e),
+        Labels::Read(e, m, l) => Bracket::Read(e, Condition::Labels(m), l),
+    }
+}
+
+fn ex(bracket: Bracket) -> Heading
+    ensures { λ r. ⌜ r ≡ headingOf exNode bracket ⌝ }
+{
+    match bracket {
+        Bracket::Refused(e) => Heading::Refused(e),
+        Bracket::Read(e, condition, l) => Heading::Read(e, Node::Ex(condition), l),
+    }
+}
+
+fn ax(bracket: Bracket) -> Heading
+    ensures { λ r. ⌜ r ≡ headingOf axNode bracket ⌝ }
+{
+    match bracket {
+        Bracket::Refused(e) => Heading::Refused(e),
+        Bracket::Read(e, condition, l) => Heading::Read(e, Node::Ax(condition), l),
     }
 }
 
@@ -56,12 +83,12 @@ fn until_head(table: &[u8], text: &[u8], c: Cursor, lost: usize) -> Heading
                 let Match::Past(f) = e.mark(text, b']') else {
                     return Heading::Refused(e);
                 };
-                return Heading::Read(f, 8, first, 0, l);
+                return Heading::Read(f, Node::Until(first), l);
             };
             let y = enclosed(table, text, g, 93, l);
             match y {
                 Labels::Refused(h) => Heading::Refused(h),
-                Labels::Read(h, second, m) => Heading::Read(h, 9, first, second, m),
+                Labels::Read(h, second, m) => Heading::Read(h, Node::UntilThen(first, second), m),
             }
         }
     }
@@ -86,10 +113,10 @@ pub fn head(table: &[u8], text: &[u8], c: Cursor, lost: usize) -> Heading
     ensures { λ r. ⌜ HeadAnswer (namesIn (now (table .entry))) (now (text .entry)) (c .at) lost r ⌝ }
 {
     if let Match::Past(d) = c.keyword(text, b"EX") {
-        return next_head(table, text, d, 4, lost);
+        return ex(next_bracket(table, text, d, lost));
     }
     if let Match::Past(d) = c.keyword(text, b"AX") {
-        return next_head(table, text, d, 6, lost);
+        return ax(next_bracket(table, text, d, lost));
     }
     if let Match::Past(d) = c.keyword(text, b"EU") {
         return until_head(table, text, d, lost);

@@ -10,12 +10,13 @@ use Rattle.actl.specs.Grammar.{gap, Disjunction, term, or, Term, showF, showT}
 use Rattle.actl.specs.Reader.{InDisjunction, InTerm, tFirst, tOr, termAt, afterDisjunction, plugT}
 use Rattle.actl.specs.Meaning.{formulaOf, formulaOfTerm}
 use Rattle.actl.specs.Mentions.{namesF, namesT}
+use Rattle.actl.specs.Prepared.{slot, slotBytes}
 use Rattle.actl.specs.Cursor.{peek, Token, Skipped, Moves, Fails, Tokened}
-use Rattle.actl.specs.Readers.{unknownIn, earlier, nodeCells, joinedAt, CellsWritten, NodeRoom, TermRead, FormulaRead}
+use Rattle.actl.specs.Readers.{unknownIn, earlier, bytesOfNodes, joinedAt, NodesWritten, NodeRoom, TermRead, FormulaRead}
 use Rattle.formula_cursor.proofs.ReadingMoves.{skipped-token, then, fail, at-only, fail-only, written-as, skip, equal, tokened}
 use Rattle.formula_sets.proofs.ReadingSets.{token-behind}
 use Rattle.actl.proofs.ReadingLabels.{earlier-append}
-use Rattle.actl.proofs.ReadingCells.{written-none, written-more, join-nodes, cells-or}
+use Rattle.actl.proofs.ReadingNodes.{written-none, written-length, written-more, join-written, bytes-or}
 
 pub record Awaiting (N : List (List ℕ)) (s : List ℕ) (at n lost : ℕ) (e : List ℕ) (to k left : ℕ) (x : List ℕ) : Type 0 where
   pub place : InDisjunction → InTerm
@@ -28,14 +29,14 @@ pub record Awaiting (N : List (List ℕ)) (s : List ℕ) (at n lost : ℕ) (e : 
   pub few : k + at ≤ n + to
   pub more : n ≤ k
   pub nodes : List ℕ
-  pub written : CellsWritten n k e x nodes
+  pub written : NodesWritten n k e x nodes
   pub count : (t : Term) → k + size (formulaOfTerm N t) ≡ n + size (formulaOf N (value t))
-  pub means : (t : Term) → nodes ++ nodeCells (formulaOfTerm N t) ≡ nodeCells (formulaOf N (value t))
+  pub means : (t : Term) → nodes ++ bytesOfNodes (formulaOfTerm N t) ≡ bytesOfNodes (formulaOf N (value t))
   pub lacks : (t : Term) (r : List ℕ) → drop to s ≡ showT t r
       → earlier left (unknownIn N (length s) (namesT t r)) ≡ earlier lost (unknownIn N (length s) (namesF (value t) r))
 
-pub awaiting-first : (N : List (List ℕ)) (s : List ℕ) (at n lost : ℕ) (e : List ℕ) → Token s at → Awaiting N s at n lost e at n lost e
-awaiting-first N s at n lost e h = record {
+pub awaiting-first : (N : List (List ℕ)) (s : List ℕ) (at n lost : ℕ) (e : List ℕ) → Token s at → NodeRoom e at n → length s ≤ longestText → Awaiting N s at n lost e at n lost e
+awaiting-first N s at n lost e h room short = record {
   place = tFirst;
   value = term;
   plugs = λ t i. refl;
@@ -46,7 +47,7 @@ awaiting-first N s at n lost e h = record {
   few = omega arith;
   more = omega arith;
   nodes = [];
-  written = written-none n e;
+  written = written-none (room .long) n (omega (arith, room .below, h .within));
   count = λ t. refl;
   means = λ t. refl;
   lacks = λ t r q. refl;
@@ -54,7 +55,7 @@ awaiting-first N s at n lost e h = record {
 
 module _ {N : List (List ℕ)} {s : List ℕ} {at n lost : ℕ} {e : List ℕ} {d k left : ℕ} {x : List ℕ} (j : Awaiting N s at n lost e d k left x) (room : NodeRoom e at n) where
   pub await-room : NodeRoom x d k
-  await-room = record { below = omega (arith, room .below, j .few); long = j .written .long ∙ room .long }
+  await-room = record { below = omega (arith, room .below, j .few); long = written-length (room .long) (j .written) }
 
   pub formula-fails : {f : ℕ} → Fails s d f termAt → Fails s at f (λ i. termAt (tFirst i))
   formula-fails h = fail (j .moves) (fail-only (j .place) h)
@@ -67,8 +68,8 @@ module _ {N : List (List ℕ)} {s : List ℕ} {at n lost : ℕ} {e : List ℕ} {
     joined-count : m ≡ n + size (formulaOf N (j .value (h .value)))
     joined-count = h .count ∙ j .count (h .value)
 
-    joined-written : CellsWritten n m e y (nodeCells (formulaOf N (j .value (h .value))))
-    joined-written = subst (CellsWritten n m e y) (j .means (h .value)) (written-more (j .written) (h .written))
+    joined-written : NodesWritten n m e y (bytesOfNodes (formulaOf N (j .value (h .value))))
+    joined-written = subst (NodesWritten n m e y) (j .means (h .value)) (written-more (room .long) (j .written) (h .written))
 
     joined-lacks : l ≡ earlier lost (unknownIn N (length s) (namesF (j .value (h .value)) (gap (f - end) (drop f s))))
     joined-lacks = h .lacks ∙ (j .lacks (h .value) (drop end s) (h .moves .text) ∙ ap (λ r. earlier lost (unknownIn N (length s) (namesF (j .value (h .value)) r))) (b .blanks))
@@ -110,10 +111,10 @@ module _ {N : List (List ℕ)} {s : List ℕ} {at n lost : ℕ} {e : List ℕ} {
             moves = then joined w;
             few = omega (arith, j .few, h .few, b .up, t .skipped .up);
             more = omega (arith, join-above);
-            nodes = 3 ∷ 0 ∷ 0 ∷ nodeCells F;
-            written = join-nodes n m e y _ (nodeCells F) (room .long) join-above join-fits joined-written q;
+            nodes = slotBytes (slot 3 0 0) ++ bytesOfNodes F;
+            written = join-written (room .long) n m y _ (bytesOfNodes F) join-fits joined-written q;
             count = λ u. omega (arith, joined-count);
-            means = λ u. sym (cells-or F (formulaOfTerm N u));
+            means = λ u. sym (bytes-or F (formulaOfTerm N u));
             lacks = λ u r p. ap (λ z. earlier z (unknownIn N (length s) (namesT u r)))
                 (joined-lacks ∙ ap (λ z. earlier lost (unknownIn N (length s) (namesF v (gap (f - end) z)))) (w .text ∙ ap (λ z. 124 ∷ gap o z) p))
                 ∙ sym (earlier-append N (length s) lost (namesF v (gap (f - end) (124 ∷ gap o (showT u r)))) (namesT u r));

@@ -11,15 +11,15 @@ use Rattle.actl.specs.Grammar.{gap, existential, universal, Head, next, until, 
 use Rattle.actl.specs.Reader.{fParen, tFirst, tNot, tModal, termAt, afterDisjunction, plugT}
 use Rattle.actl.specs.Meaning.{modalOf, formulaOfTerm}
 use Rattle.actl.specs.Mentions.{namesF, namesT, namesH}
-use Rattle.actl.specs.Prepared.{slotOf}
+use Rattle.actl.specs.Prepared.{Slot, slot, slotOf, slotBytes}
 use Rattle.actl.specs.Cursor.{peek, Skipped, Moves, Fails, Marked, Tokened}
-use Rattle.actl.specs.Readers.{unknownIn, earlier, HeadRead, slotCells, nodeCells, putAt, CellsWritten, NodeRoom, TermRead, BracketRead, Unbracketed}
+use Rattle.actl.specs.Readers.{unknownIn, earlier, HeadRead, bytesOfNodes, putAt, NodesWritten, NodeRoom, TermRead, BracketRead, Unbracketed}
 use Rattle.formula_terms.specs.TermReplies.{TermAnswer, BracketAnswer}
 use Rattle.formula_terms.specs.declared.Nodes.{Nodes}
 use Rattle.formula_terms.specs.declared.Nodes.the-variants.{Read, Refused}
 use Rattle.formula_cursor.proofs.ReadingMoves.{on-other, then, fail, at-only, fail-only, skip, stops, marked, tokened}
 use Rattle.actl.proofs.ReadingLabels.{earlier-none, earlier-append}
-use Rattle.actl.proofs.ReadingCells.{written-more, put-node}
+use Rattle.actl.proofs.ReadingNodes.{written-length, written-more, put-written}
 
 -- A keyword adds one node, whatever its arm.
 modal-size : (N : List (List ℕ)) (h : Head) (f : Formula) → size (modalOf N h f) ≡ suc (size f)
@@ -28,25 +28,25 @@ modal-size N (next universal a b c d) f = refl
 modal-size N (until a b x d) f = refl
 modal-size N (untilThen a b x c d y e) f = refl
 
-modal-cells : (N : List (List ℕ)) (h : Head) (f : Formula) → nodeCells (modalOf N h f) ≡ slotCells (slotOf (modalOf N h f)) ++ nodeCells f
-modal-cells N (next existential a b c d) f = refl
-modal-cells N (next universal a b c d) f = refl
-modal-cells N (until a b x d) f = refl
-modal-cells N (untilThen a b x c d y e) f = refl
+modal-bytes : (N : List (List ℕ)) (h : Head) (f : Formula) → bytesOfNodes (modalOf N h f) ≡ slotBytes (slotOf (modalOf N h f)) ++ bytesOfNodes f
+modal-bytes N (next existential a b c d) f = refl
+modal-bytes N (next universal a b c d) f = refl
+modal-bytes N (until a b x d) f = refl
+modal-bytes N (untilThen a b x c d y e) f = refl
 
 module _ (N : List (List ℕ)) (s : List ℕ) (at n lost : ℕ) (e : List ℕ) (room : NodeRoom e at n) (short : length s ≤ longestText) where
   -- A byte of the text is left for each node that is still to come.
   pub node-fits : at < length s → n < longestText
   node-fits h = omega (arith, room .below)
 
-  pub term-true : {to : ℕ} {x : List ℕ} → Marked s at 84 to → x ≡ putAt n 1 0 0 e → TermRead N s at n lost e to (n + 1) lost x
+  pub term-true : {to : ℕ} {x : List ℕ} → Marked s at 84 to → x ≡ putAt n (slot 1 0 0) e → TermRead N s at n lost e to (n + 1) lost x
   term-true h p = record {
     value = tru;
     up = omega (arith, h .next);
     few = omega (arith, h .next);
     count = refl;
     moves = marked h (omega arith) (λ k. refl);
-    written = put-node n 1 0 0 e _ (room .long) (node-fits (h .within)) p;
+    written = put-written (room .long) n (slot 1 0 0) _ (node-fits (h .within)) p;
     lacks = sym (earlier-none lost);
   }
 
@@ -56,14 +56,14 @@ module _ (N : List (List ℕ)) (s : List ℕ) (at n lost : ℕ) (e : List ℕ) (
   pub token-fits : {d mark : ℕ} → Tokened s at mark d → n < longestText
   token-fits t = node-fits (omega (arith, t .skipped .up, t .skipped .within))
 
-  module _ {x : List ℕ} (k f g : ℕ) (fits : n < longestText) (p : x ≡ putAt n k f g e) where
-    first-node : CellsWritten n (n + 1) e x (k ∷ f ∷ g ∷ [])
-    first-node = put-node n k f g e x (room .long) fits p
+  module _ {x : List ℕ} (node : Slot) (fits : n < longestText) (p : x ≡ putAt n node e) where
+    first-node : NodesWritten n (n + 1) e x (slotBytes node)
+    first-node = put-written (room .long) n node x fits p
 
     pub arm-room : {d : ℕ} → at < d → NodeRoom x d (n + 1)
-    arm-room h = record { below = omega (arith, room .below); long = first-node .long ∙ room .long }
+    arm-room h = record { below = omega (arith, room .below); long = written-length (room .long) first-node }
 
-  module _ {d : ℕ} (t : Tokened s at 126 d) {x : List ℕ} (p : x ≡ putAt n 2 0 0 e) where
+  module _ {d : ℕ} (t : Tokened s at 126 d) {x : List ℕ} (p : x ≡ putAt n (slot 2 0 0) e) where
     negated : Moves s at d (λ r. 126 ∷ gap (d - (at + 1)) r) termAt (λ i. termAt (tNot i (d - (at + 1))))
     negated = tokened (λ g i. termAt (tNot i g)) t (omega arith) (λ i. refl) (λ g i. refl)
 
@@ -74,7 +74,7 @@ module _ (N : List (List ℕ)) (s : List ℕ) (at n lost : ℕ) (e : List ℕ) (
       few = omega (arith, h .few, t .skipped .up);
       count = h .count ∙ omega arith;
       moves = then negated (at-only (λ i. tNot i (d - (at + 1))) (h .moves));
-      written = written-more (first-node 2 0 0 (token-fits t) p) (h .written);
+      written = written-more (room .long) (first-node (slot 2 0 0) (token-fits t) p) (h .written);
       lacks = h .lacks;
     }
 
@@ -112,7 +112,7 @@ module _ (N : List (List ℕ)) (s : List ℕ) (at n lost : ℕ) (e : List ℕ) (
     term-paren y (Refused c) (inl h) = fail opened (fail-only (λ i. fParen i (d - (at + 1))) h)
     term-paren y (Refused c) (inr h) = unclosed h
 
-  module _ {a kind first second l : ℕ} (h : HeadRead N s at lost a kind first second l) {d : ℕ} (b : Skipped s a d) where
+  module _ {a l : ℕ} {node : Slot} (h : HeadRead N s at lost a node l) {d : ℕ} (b : Skipped s a d) where
     headed : Moves s at d (λ r. showH (h .value) (gap (d - a) r)) termAt (λ i. termAt (tModal (h .value) i (d - a)))
     headed = then (h .moves) (skip (λ g i. termAt (tModal (h .value) i g)) (λ g i. refl) b)
 
@@ -122,7 +122,7 @@ module _ (N : List (List ℕ)) (s : List ℕ) (at n lost : ℕ) (e : List ℕ) (
     pub head-up : at < d
     head-up = omega (arith, h .up, b .up)
 
-    module _ {x : List ℕ} (p : x ≡ putAt n kind first second e) where
+    module _ {x : List ℕ} (p : x ≡ putAt n node e) where
       modal-read : {to m k : ℕ} {y : List ℕ} → TermRead N s d (n + 1) l x to m k y → TermRead N s at n lost e to m k y
       modal-read {to} {y} t =
           let f = formulaOfTerm N (t .value) in
@@ -133,7 +133,7 @@ module _ (N : List (List ℕ)) (s : List ℕ) (at n lost : ℕ) (e : List ℕ) (
             few = omega (arith, h .up, b .up, t .few);
             count = t .count ∙ omega arith;
             moves = then headed (at-only (λ i. tModal (h .value) i (d - a)) (t .moves));
-            written = subst (CellsWritten n _ e y) (ap (λ v. slotCells v ++ nodeCells f) (sym (h .means f)) ∙ sym (modal-cells N (h .value) f)) (written-more (first-node kind first second head-fits p) (t .written));
+            written = subst (NodesWritten n _ e y) (ap (λ v. slotBytes v ++ bytesOfNodes f) (sym (h .means f)) ∙ sym (modal-bytes N (h .value) f)) (written-more (room .long) (first-node node head-fits p) (t .written));
             lacks = t .lacks ∙ (ap (λ v. earlier v (unknownIn N (length s) (namesT (t .value) (drop to s)))) (h .lacks ∙ ap (λ r. earlier lost (unknownIn N (length s) (namesH (h .value) r))) (b .blanks ∙ ap (gap (d - a)) (t .moves .text)))
                 ∙ sym (earlier-append N (length s) lost (namesH (h .value) (gap (d - a) (showT (t .value) (drop to s)))) (namesT (t .value) (drop to s))));
           }

@@ -24,6 +24,6 @@ abbrev pub BracketAnswer : List (List ℕ) → List ℕ → ℕ → ℕ → ℕ 
 BracketAnswer N s at n lost e x (written.Read c m l) = BracketRead N s at n lost e (c .at) m l x
 BracketAnswer N s at n lost e x (written.Refused c) = Fails s at (c .at) (λ k. termAt (tFirst k)) ⊎ Unbracketed N s at n lost e (c .at) x
 
-abbrev pub ReadingAnswer : List (List ℕ) → List ℕ → List ℕ → Reading → Type 0
-ReadingAnswer N s x (reading.Whole n left) = WholeRead N s x n left
-ReadingAnswer N s x (reading.Refused n) = RefusedAt s n
+abbrev pub ReadingAnswer : List (List ℕ) → List ℕ → List ℕ → List ℕ → Reading → Type 0
+ReadingAnswer N s e x (reading.Whole n left) = WholeRead N s e x n left
+ReadingAnswer N s e x (reading.Refused n) = RefusedAt s n

@@ -7,8 +7,8 @@ use Prim.Native.Nat.{ℕ, _≤_, _<_}
 use native.Mathlib.Omega.{arith}
 use borrow.Author.Tests.{le-leb, lt-leb}
 use lib.Dec.{leb}
-use lib.ListN.{length}
-use Rattle.actl.specs.Sizes.{formulaLength, longestText}
+use lib.ListN.{length, replicate}
+use Rattle.actl.specs.Sizes.{formulaLength, longestText, readingLength}
 use Rattle.lts.specs.Sizes.{tableLength}
 use Rattle.lts.specs.Reply.{Reply, refusal, unless, leftIn, answers}
 use Rattle.lts.specs.Steps.{Table}
@@ -83,10 +83,10 @@ module _ (b s e : List ℕ) where
           pub refused-text : (n : ℕ) → RefusedAt s n → FormulaAnswered (formulaReading b s e) e (NotGrammatical n) e
           refused-text n h = refuses _ e (NotGrammatical n) 6 n (result ∙ (ap (onResult (namesIn b) s) (h .reads) ∙ ap (refusal 6) (sym (h .figure)))) refl
 
-          pub whole-text : (c x : List ℕ) (n lost : ℕ) (r : FormulaReply) → WholeRead (namesIn b) s c n lost → FormulaAnsweredWith c n lost e r x → FormulaAnswered (formulaReading b s e) e r x
+          pub whole-text : (c x : List ℕ) (n lost : ℕ) (r : FormulaReply) → WholeRead (namesIn b) s (replicate readingLength 0) c n lost → FormulaAnsweredWith c n lost e r x → FormulaAnswered (formulaReading b s e) e r x
           whole-text c x n lost r h f =
               let F = formulaOf (namesIn b) (h .value) in
               let o = firstUnknown (namesIn b) (h .value) (namesF (h .value) []) in
-              let a = f F o (record { count = h .count; cells = h .cells; lacks = h .lacks }) in
+              let a = f F o (record { count = h .count; made = h .made; lacks = h .lacks }) in
               let q = result ∙ ap (onResult (namesIn b) s) (h .reads) in
               record { replies = a .replies ∙ sym (ap (answers (λ F. tt)) q); leaves = a .leaves ∙ sym (ap (λ v. leftIn formulaBytes v e) q) }

@@ -1,10 +1,19 @@
--- The node that the code hands out for a subformula: a slot is one node's only.
-use mathlib.Core.Path.{_≡_, refl, sym, ap, _∙_}
+-- The node that the code hands out for a subformula: a slot is one node's only. A node that was put is read back.
+use mathlib.Core.Path.{_≡_, refl, sym, ap, _∙_, subst}
 use mathlib.Core.Bool.{cond}
+use mathlib.Core.List.{List, _++_}
+use Prim.Native.Nat.{ℕ, _+_, _*_, _^_, _≤_, _<_}
+use native.Mathlib.Omega.{arith}
 use lib.Dec.{eqb}
+use lib.ListN.{length, take, drop}
+use lib.Seq.{length-take-le, drop-at}
+use Rattle.actl.specs.Sizes.{nodeSlotLength}
 use Rattle.actl.specs.Actions.{Cond, silent, labels}
 use Rattle.actl.specs.Formulas.{Formula, tru, not, or, ex, ax, eu, euThen}
-use Rattle.actl.specs.Prepared.{Slot, slotOf}
+use Rattle.actl.specs.Prepared.{Slot, slotOf, slotBytes, slotAt}
+use Rattle.actl.specs.Readers.{putAt}
+use Rattle.actl.proofs.Laws.Slots.{slot-by-parts}
+use Rattle.actl.proofs.Laws.Forms.{slotFrom, slot-from, StandsFor, slot-front}
 use Rattle.formulas.specs.Access.{condIn, slotOfNode}
 use Rattle.formulas.specs.declared.node.Condition.{Condition}
 use Rattle.formulas.specs.declared.node.Condition.the-variants.{Silent, Labels}
@@ -66,3 +75,17 @@ formula-in-slot (euThen a b f) = refl
 
 pub node-of-slot : (n : Node) (f : Formula) → slotOfNode n ≡ slotOf f → n ≡ nodeOf f
 node-of-slot n f e = sym (node-in-slot n) ∙ (ap nodeIn e ∙ formula-in-slot f)
+
+-- What `put_node` leaves, `node_at` reads: masks are of 64 bits.
+module _ (k : ℕ) (n : Node) (b : List ℕ) (room : 1 + k * nodeSlotLength + nodeSlotLength ≤ length b) (first : slotOfNode n .first < 256 ^ 8) (second : slotOfNode n .second < 256 ^ 8) where
+  pub slot-put : slotAt (putAt k (slotOfNode n) b) k ≡ slotOfNode n
+  slot-put =
+      let at = 1 + k * nodeSlotLength in
+      let s = slotOfNode n in
+      let more = drop (at + length (slotBytes s)) b in
+      let d : drop at (putAt k s b) ≡ slotBytes s ++ more = drop-at (take at b) (slotBytes s ++ more) at (length-take-le at b (omega arith)) in
+      let f : StandsFor s (slotAt (putAt k s b) k) = subst (StandsFor s) (sym (slot-from (putAt k s b) k ∙ ap slotFrom d)) (slot-front s more) in
+      sym (slot-by-parts (slotAt (putAt k s b) k) (f .same-kind) (f .same-first first) (f .same-second second))
+
+  pub node-put : (r : Node) → slotOfNode r ≡ slotAt (putAt k (slotOfNode n) b) k → r ≡ n
+  node-put r e = sym (node-in-slot r) ∙ (ap nodeIn (e ∙ slot-put) ∙ node-in-slot n)

@@ -1,11 +1,14 @@
-// A prepared formula's nodes: how many there are, and each node's kind with its step condition.
+// A prepared formula's nodes: how many there are, and each node's kind with its step condition, read and written.
 use actl::sizes::NODE_SLOT;
 ghost use mathlib.Core.Path.{_≡_};
 ghost use mathlib.Core.Bool.{true};
 ghost use Prim.Native.Nat.{_+_, _*_, _<_, _≤_};
 ghost use lib.ListN.{length, getD, drop};
-ghost use Rattle.actl.specs.Sizes.{mostNodes, formulaLength};
-ghost use Rattle.actl.specs.Prepared.{number, slotAt};
+ghost use Rattle.columns.specs.Bytes.{lowFirst};
+ghost use Rattle.columns.specs.Write.{pasted};
+ghost use Rattle.actl.specs.Sizes.{mostNodes, nodeSlotLength, formulaLength};
+ghost use Rattle.actl.specs.Prepared.{number, slot, slotAt};
+ghost use Rattle.actl.specs.Readers.{putAt};
 ghost use Rattle.formulas.specs.Access.{slotOfNode};
 ghost use Rattle.actl.specs.Shaped.{shaped};
 
@@ -80,4 +83,66 @@ pub fn node_at(formula: &[u8], k: usize) -> Node
             mask(formula, 10 + k * NODE_SLOT),
         ),
     }
+}
+
+// What a node's slot holds (docs/FORMATS.md).
+pub struct Slot {
+    pub kind: u8,
+    pub first: u64,
+    pub second: u64,
+}
+
+fn slot_with(kind: u8, first: u64, second: u64) -> Slot
+    ensures { λ r. ⌜ slot (r .kind) (r .first) (r .second) ≡ slot kind first second ⌝ }
+{
+    Slot {
+        kind: kind,
+        first: first,
+        second: second,
+    }
+}
+
+fn slot_of(node: Node) -> Slot
+    ensures { λ r. ⌜ slot (r .kind) (r .first) (r .second) ≡ slotOfNode node ⌝ }
+{
+    match node {
+        Node::True => slot_with(1, 0, 0),
+        Node::Not => slot_with(2, 0, 0),
+        Node::Or => slot_with(3, 0, 0),
+        Node::Ex(condition) => match condition {
+            Condition::Silent => slot_with(4, 0, 0),
+            Condition::Labels(set) => slot_with(5, set, 0),
+        },
+        Node::Ax(condition) => match condition {
+            Condition::Silent => slot_with(6, 0, 0),
+            Condition::Labels(set) => slot_with(7, set, 0),
+        },
+        Node::Until(set) => slot_with(8, set, 0),
+        Node::UntilThen(first, second) => slot_with(9, first, second),
+    }
+}
+
+// A mask, low byte first.
+fn put_mask(formula: &mut [u8], at: usize, mask: u64)
+    requires { ⌜ at + 8 ≤ length (now formula) ⌝ }
+    ensures { λ r. ⌜ now (formula .exit) ≡ pasted (now (formula .entry)) at (lowFirst 8 mask) ⌝ }
+{
+    let mut rest = mask;
+    let mut i = 0;
+    while i < 8 {
+        formula[at + i] = (rest % 256) as u8;
+        rest = rest / 256;
+        i += 1;
+    }
+}
+
+// Writes node k where `node_at` reads it.
+pub fn put_node(formula: &mut [u8], k: usize, node: Node)
+    requires { ⌜ 1 + k * nodeSlotLength + nodeSlotLength ≤ length (now formula) ⌝ }
+    ensures { λ r. ⌜ now (formula .exit) ≡ putAt k (slotOfNode node) (now (formula .entry)) ⌝ }
+{
+    let slot = slot_of(node);
+    formula[1 + k * NODE_SLOT] = slot.kind;
+    put_mask(formula, 2 + k * NODE_SLOT, slot.first);
+    put_mask(formula, 10 + k * NODE_SLOT, slot.second);
 }

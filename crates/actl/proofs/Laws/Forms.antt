@@ -36,10 +36,10 @@ length-form F h =
     ap suc d
 
 -- The slot at the front of a list.
-abbrev slotFrom : List ℕ → Slot
+abbrev pub slotFrom : List ℕ → Slot
 slotFrom b = slot (getD b 0 0) (number 8 (drop 1 b)) (number 8 (drop 9 b))
 
-slot-from : (b : List ℕ) (k : ℕ) → slotAt b k ≡ slotFrom (drop (1 + k * nodeSlotLength) b)
+pub slot-from : (b : List ℕ) (k : ℕ) → slotAt b k ≡ slotFrom (drop (1 + k * nodeSlotLength) b)
 slot-from b k =
     let a : 1 + k * nodeSlotLength + 0 ≡ 1 + k * nodeSlotLength = omega arith in
     let c : 1 + k * nodeSlotLength + 1 ≡ 2 + k * nodeSlotLength = omega arith in
@@ -55,7 +55,7 @@ pub record StandsFor (s found : Slot) : Type 0 where
   pub same-first : s .first < 256 ^ 8 → found .first ≡ s .first
   pub same-second : s .second < 256 ^ 8 → found .second ≡ s .second
 
-slot-front : (s : Slot) (more : List ℕ) → StandsFor s (slotFrom (slotBytes s ++ more))
+pub slot-front : (s : Slot) (more : List ℕ) → StandsFor s (slotFrom (slotBytes s ++ more))
 slot-front s more = record {
   same-kind = refl;
   same-first = λ h. number-low-first 8 (s .first) more h;

@@ -3,7 +3,7 @@ use borrow.Author.Needs.{needs}
 use mathlib.Core.Path.{_≡_, refl, sym, ap, _∙_, subst}
 use native.Mathlib.Omega.{arith}
 use lib.ListN.{length, set}
-use Rattle.actl.specs.Walk.{Traversed, Spelled, armOf}
+use Rattle.actl.specs.Walk.{Traversed, Spelled, armOf, classFrom}
 use Rattle.formula_classes.specs.WalkReplies.{Walks}
 use Rattle.actl.proofs.Laws.Table.{arm-low}
 use Rattle.actl.proofs.Laws.Unique.{no-kind, no-arm, no-right, spelled-fits}
@@ -31,7 +31,7 @@ abbrev walk-below : ℕ → In 3 walk-kinds.ps
 walk-below t = and 3 walk-kinds.ps (falls 3 walk-kinds.ps _<_ μ-walk t) walk.Pre
 
 abbrev walk-claims : ℕ → walk-lts.Claims
-walk-claims t = (kind-at-reads.Asked, kind-at-reads.Learnt, note-reads.Asked, note-reads.Learnt, walk-below t, walk.Post, class-from-reads.Asked, class-from-reads.Learnt, class-of-or-reads.Asked, class-of-or-reads.Learnt)
+walk-claims t = (kind-at-reads.Asked, kind-at-reads.Learnt, class-from-reads.Asked, class-from-reads.Learnt, note-reads.Asked, note-reads.Learnt, walk-below t, walk.Post, class-of-or-reads.Asked, class-of-or-reads.Learnt)
 
 above-one : {kind : ℕ} → (kind ≡ 0 → ⊥) → (kind ≡ 1 → ⊥) → 2 ≤ kind
 above-one n m = omega arith
@@ -44,28 +44,31 @@ walk-returns t c =
     let start = c .before .before .before .before .before in
     no-kind (start .args .kinds .now) (start .args .k) (sym (c .before .kind-at .ensures) ∙ c .if1 .taken)
 
+walk-class-from-requires : (t : ℕ) → walk-lts.Need-class-from-requires (walk-claims t) (walk-at t) walk.Post
+walk-class-from-requires t c κs = search needs
+
 walk-add-note : (t : ℕ) → walk-lts.Need-add-note (walk-claims t) (walk-at t) walk.Post
 walk-add-note t c =
-    let start = c .before .before .before .before .before .before .before .before in
+    let start = c .before .before .before .before .before .before .before .before .before in
     let K = start .args .kinds .now in
     let k = start .args .k in
-    let known = known-kind K k (c .before .before .before .before .kind-at .result) (c .before .before .before .before .kind-at .ensures) (c .before .before .before .if1 .left) in
+    let known = known-kind K k (c .before .before .before .before .before .kind-at .result) (c .before .before .before .before .before .kind-at .ensures) (c .before .before .before .before .if1 .left) in
     omega (arith, known .inside)
 
 walk-note-requires : (t : ℕ) → walk-lts.Need-note-requires (walk-claims t) (walk-at t) walk.Post
 walk-note-requires t c κs =
-    let start = c .before .before .before .before .before .before .before .before in
+    let start = c .before .before .before .before .before .before .before .before .before in
     let K = start .args .kinds .now in
     let k = start .args .k in
-    let known = known-kind K k (c .before .before .before .before .kind-at .result) (c .before .before .before .before .kind-at .ensures) (c .before .before .before .if1 .left) in
+    let known = known-kind K k (c .before .before .before .before .before .kind-at .result) (c .before .before .before .before .before .kind-at .ensures) (c .before .before .before .before .if1 .left) in
     omega (arith, known .inside, start .pre .1)
 
-walk-add-t18 : (t : ℕ) → walk-lts.Need-add-t18 (walk-claims t) (walk-at t) walk.Post
-walk-add-t18 t c =
-    let start = c .before .before .before .before .before .before .before .before .before .before .before .before .before in
+walk-add-t19 : (t : ℕ) → walk-lts.Need-add-t19 (walk-claims t) (walk-at t) walk.Post
+walk-add-t19 t c =
+    let start = c .before .before .before .before .before .before .before .before .before .before .before .before .before .before in
     let K = start .args .kinds .now in
     let k = start .args .k in
-    let known = known-kind K k (c .before .before .before .before .before .before .before .before .before .kind-at .result) (c .before .before .before .before .before .before .before .before .before .kind-at .ensures) (c .before .before .before .before .before .before .before .before .if1 .left) in
+    let known = known-kind K k (c .before .before .before .before .before .before .before .before .before .before .kind-at .result) (c .before .before .before .before .before .before .before .before .before .before .kind-at .ensures) (c .before .before .before .before .before .before .before .before .before .if1 .left) in
     omega (arith, known .inside)
 
 walk-same-length : (t : ℕ) → walk-lts.Need-same-length (walk-claims t) (walk-at t) walk.Post
@@ -75,12 +78,17 @@ walk-same-length-2 : (t : ℕ) → walk-lts.Need-same-length-2 (walk-claims t) (
 walk-same-length-2 t c = c .before .before .before .before .note .kept .1 .0
 
 walk-returns-2 : (t : ℕ) → walk-lts.Need-returns-2 (walk-claims t) (walk-at t) walk.Post
+unfolding classFrom
 walk-returns-2 t c =
-    let start = c .before .before .before .before .before .before .before .before .before .before .before .before .before in
+    let start = c .before .before .before .before .before .before .before .before .before .before .before .before .before .before in
     let K = start .args .kinds .now in
     let k = start .args .k in
-    let known = known-kind K k (c .before .before .before .before .before .before .before .before .before .kind-at .result) (c .before .before .before .before .before .before .before .before .before .kind-at .ensures) (c .before .before .before .before .before .before .before .before .if1 .left) in
-    traversed-noted (c .before .before .before .before .note .ensures .0) (c .before .before .before .before .note .ensures .1) (traversed-T K (start .args .ends .now) (start .args .classes .now) k (known .inside) (known .here ∙ c .before .before .before .before .before .before .before .if2 .taken))
+    let known = known-kind K k (c .before .before .before .before .before .before .before .before .before .before .kind-at .result) (c .before .before .before .before .before .before .before .before .before .before .kind-at .ensures) (c .before .before .before .before .before .before .before .before .before .if1 .left) in
+    let E = start .args .ends .now in
+    let C = start .args .classes .now in
+    let one = c .before .before .before .before .before .before .before .before .if2 .taken in
+    let e = c .before .before .before .before .before .before .before .class-from .ensures ∙ ap (λ x. classFrom x 0) one in
+    traversed-noted (c .before .before .before .before .note .ensures .0) (c .before .before .before .before .note .ensures .1) (subst (λ x. Traversed K E (set E k (k + 1)) C (set C k x) k (k + 1) 3) (sym e) (traversed-T K E C k (known .inside) (known .here ∙ one)))
 
 walk-add-walk : (t : ℕ) → walk-lts.Need-add-walk (walk-claims t) (walk-at t) walk.Post
 walk-add-walk t c =
@@ -121,8 +129,8 @@ walk-returns-3 t c =
     let broken = subst (Walks K E (c .before .before .before .before .before .before .walk .last .1 .1 .0) C (c .before .before .before .before .before .before .walk .last .1 .1 .1 .0) (k + 1)) (c .enum-told .given .1) (c .before .before .before .before .before .before .walk .ensures) in
     no-arm K k (λ z. c .before .before .before .before .before .before .before .before .before .if2 .left (sym (known .here) ∙ z)) broken
 
-walk-class-from-requires : (t : ℕ) → walk-lts.Need-class-from-requires (walk-claims t) (walk-at t) walk.Post
-walk-class-from-requires t c κs =
+walk-class-from-requires-2 : (t : ℕ) → walk-lts.Need-class-from-requires-2 (walk-claims t) (walk-at t) walk.Post
+walk-class-from-requires-2 t c κs =
     let start = c .before .before .before .before .before .before .before .before .before .before .before .before .before .before .before .before .before in
     let K = start .args .kinds .now in
     let k = start .args .k in
@@ -170,7 +178,7 @@ walk-returns-4 t c =
     let kind = c .before .before .before .before .before .before .before .before .before .before .before .before .before .before .before .before .before .before .before .before .before .kind-at .result in
     let n = c .before .before .before .before .before .before .before .before .before .before .before .before .before .before .before .before .before .before .before .before .if1 .left in
     let m = c .before .before .before .before .before .before .before .before .before .before .before .before .before .before .before .before .before .before .before .if2 .left in
-    let e = c .before .before .before .before .before .before .before .class-from .ensures in
+    let e = c .before .before .before .before .before .before .before .class-from2 .ensures in
     let found = traversed-unary K E C k (known .inside) arm kind (above-one n m) (known .high) (c .before .before .before .before .before .before .before .before .if3 .taken) (known .here) in
     traversed-noted (c .before .before .before .before .note2 .ensures .0) (c .before .before .before .before .note2 .ensures .1) (subst (λ x. Traversed K E (set E1 k middle) C (set C1 k x) k middle x) (sym e) found)
 
@@ -281,9 +289,10 @@ pub +walk-spec : {M : Type 1} → statement M
     walk.Post
     (walk-kind-at-requires t)
     (walk-returns t)
+    (walk-class-from-requires t)
     (walk-add-note t)
     (walk-note-requires t)
-    (walk-add-t18 t)
+    (walk-add-t19 t)
     (walk-same-length t)
     (walk-same-length-2 t)
     (walk-returns-2 t)
@@ -294,7 +303,7 @@ pub +walk-spec : {M : Type 1} → statement M
     (walk-same-length-3 t)
     (walk-same-length-4 t)
     (walk-returns-3 t)
-    (walk-class-from-requires t)
+    (walk-class-from-requires-2 t)
     (walk-note-requires-2 t)
     (walk-same-length-5 t)
     (walk-same-length-6 t)

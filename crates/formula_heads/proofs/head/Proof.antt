@@ -1,10 +1,11 @@
 -- `head` reads a keyword and its bracket.
 use borrow.Author.Needs.{needs}
-use mathlib.Core.Path.{subst}
+use mathlib.Core.Path.{sym, subst}
 use mathlib.Core.List.{[], _∷_}
 use native.Mathlib.Omega.{arith}
 use Rattle.formula_cursor.specs.CursorReplies.{KeywordAnswer}
 use Rattle.actl.specs.Readers.{namesIn}
+use Rattle.formula_heads.specs.HeadReplies.{HeadAnswer}
 use Rattle.formula_heads.proofs.ReadingHeads.{head-EX, head-AX, head-EU, no-head}
 use Rattle.formula_heads.proofs.head.Statement.{statement}
 use Rattle.formula_heads.proofs.head.Tie as tie
@@ -15,23 +16,26 @@ keyword-requires c κs = search needs
 enum-known-d : tie.Need-enum-known-d
 enum-known-d c = search needs
 
-next-head-requires : tie.Need-next-head-requires
-next-head-requires c κs =
+next-bracket-requires : tie.Need-next-bracket-requires
+next-bracket-requires c κs =
     let a = c .before .before .before .before .before .before .before .args in
     let s = a .text .now in
     let at = a .c .at in
     let pre = c .before .before .before .before .before .before .before .pre in
     let k = subst (KeywordAnswer s at (69 ∷ 88 ∷ [])) (c .before .d .given .1) (c .before .before .before .keyword .ensures) in
-    (pre .0 .table, pre .0 .short, omega (arith, k .two .within, k .two .next), omega arith)
+    (pre .0 .table, pre .0 .short, omega (arith, k .two .within, k .two .next))
+
+ex-requires : tie.Need-ex-requires
+ex-requires c κs = search needs
 
 returns : tie.Need-returns
 returns c =
-    let a = c .before .before .before .before .before .before .before .before .args in
+    let a = c .before .before .before .before .before .before .before .before .before .args in
     let N = namesIn (a .table .now) in
     let s = a .text .now in
     let at = a .c .at in
-    let k = subst (KeywordAnswer s at (69 ∷ 88 ∷ [])) (c .before .before .d .given .1) (c .before .before .before .before .keyword .ensures) in
-    head-EX N s at (a .lost) k (c .next-head .result) (c .next-head .ensures)
+    let k = subst (KeywordAnswer s at (69 ∷ 88 ∷ [])) (c .before .before .before .d .given .1) (c .before .before .before .before .before .keyword .ensures) in
+    subst (HeadAnswer N s at (a .lost)) (sym (c .ex .ensures)) (head-EX N s at (a .lost) k (c .before .next-bracket .result) (c .before .next-bracket .ensures))
 
 enum-told : tie.Need-enum-told
 enum-told c = search needs
@@ -42,23 +46,26 @@ keyword-requires-2 c κs = search needs
 enum-known-d-2 : tie.Need-enum-known-d-2
 enum-known-d-2 c = search needs
 
-next-head-requires-2 : tie.Need-next-head-requires-2
-next-head-requires-2 c κs =
+next-bracket-requires-2 : tie.Need-next-bracket-requires-2
+next-bracket-requires-2 c κs =
     let a = c .before .before .before .before .before .before .before .before .before .before .before .args in
     let s = a .text .now in
     let at = a .c .at in
     let pre = c .before .before .before .before .before .before .before .before .before .before .before .pre in
     let k = subst (KeywordAnswer s at (65 ∷ 88 ∷ [])) (c .before .d2 .given .1) (c .before .before .before .keyword2 .ensures) in
-    (pre .0 .table, pre .0 .short, omega (arith, k .two .within, k .two .next), omega arith)
+    (pre .0 .table, pre .0 .short, omega (arith, k .two .within, k .two .next))
+
+ax-requires : tie.Need-ax-requires
+ax-requires c κs = search needs
 
 returns-2 : tie.Need-returns-2
 returns-2 c =
-    let a = c .before .before .before .before .before .before .before .before .before .before .before .before .args in
+    let a = c .before .before .before .before .before .before .before .before .before .before .before .before .before .args in
     let N = namesIn (a .table .now) in
     let s = a .text .now in
     let at = a .c .at in
-    let k = subst (KeywordAnswer s at (65 ∷ 88 ∷ [])) (c .before .before .d2 .given .1) (c .before .before .before .before .keyword2 .ensures) in
-    head-AX N s at (a .lost) k (c .next-head2 .result) (c .next-head2 .ensures)
+    let k = subst (KeywordAnswer s at (65 ∷ 88 ∷ [])) (c .before .before .before .d2 .given .1) (c .before .before .before .before .before .keyword2 .ensures) in
+    subst (HeadAnswer N s at (a .lost)) (sym (c .ax .ensures)) (head-AX N s at (a .lost) k (c .before .next-bracket2 .result) (c .before .next-bracket2 .ensures))
 
 enum-told-2 : tie.Need-enum-told-2
 enum-told-2 c = search needs
@@ -112,12 +119,14 @@ head-spec =
     (tie.spec
     keyword-requires
     enum-known-d
-    next-head-requires
+    next-bracket-requires
+    ex-requires
     returns
     enum-told
     keyword-requires-2
     enum-known-d-2
-    next-head-requires-2
+    next-bracket-requires-2
+    ax-requires
     returns-2
     enum-told-2
     keyword-requires-3

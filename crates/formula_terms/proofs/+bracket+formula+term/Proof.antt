@@ -14,7 +14,7 @@ use Rattle.formula_terms.proofs.+bracket+formula+term.Tie.{close}
 use Rattle.formula_terms.proofs.+bracket+formula+term.Proof.Measures.{μ-bracket, μ-formula, μ-term, bracket-at, formula-at, term-at, bracket-claims, formula-claims, term-claims}
 use Rattle.formula_terms.proofs.+bracket+formula+term.Proof.Bracket.{bracket-formula-requires, bracket-enum-known-x, bracket-enum-known-x-2, bracket-mark-requires, bracket-enum-known-f, bracket-enum-told, bracket-returns, bracket-returns-2, bracket-returns-3}
 use Rattle.formula_terms.proofs.+bracket+formula+term.Proof.Formula.{formula-Inv-loop, formula-μ-loop, formula-loop-holds, formula-term-requires, formula-enum-known-x, formula-returns, formula-enum-known-x-2, formula-skip-blanks-requires, formula-token-requires, formula-enum-known-g, formula-enum-told, formula-returns-2, formula-join-requires, formula-add-k, formula-loop-less, formula-loop-again}
-use Rattle.formula_terms.proofs.+bracket+formula+term.Proof.Term.{term-mark-requires, term-enum-known-d, term-put-requires, term-add-t21, term-returns, term-enum-told, term-token-requires, term-enum-known-d-2, term-put-requires-2, term-add-term, term-term-requires, term-returns-2, term-enum-told-2, term-token-requires-2, term-enum-known-d-3, term-bracket-requires, term-returns-3, term-enum-told-3, term-head-requires, term-enum-known-x, term-enum-known-x-2, term-skip-blanks-requires, term-put-requires-3, term-add-term-2, term-term-requires-2, term-returns-4, term-returns-5}
+use Rattle.formula_terms.proofs.+bracket+formula+term.Proof.Term.{term-mark-requires, term-enum-known-d, term-put-node-requires, term-add-t21, term-returns, term-enum-told, term-token-requires, term-enum-known-d-2, term-put-node-requires-2, term-add-term, term-term-requires, term-returns-2, term-enum-told-2, term-token-requires-2, term-enum-known-d-3, term-bracket-requires, term-returns-3, term-enum-told-3, term-head-requires, term-enum-known-x, term-enum-known-x-2, term-skip-blanks-requires, term-put-node-requires-3, term-add-term-2, term-term-requires-2, term-returns-4, term-returns-5}
 
 pub +bracket+formula+term-spec : {M : Type 1} → statement M
 +bracket+formula+term-spec = close μ-bracket μ-formula μ-term (λ t. bracket-lts.spec (bracket-claims t)
@@ -53,13 +53,13 @@ pub +bracket+formula+term-spec : {M : Type 1} → statement M
     term.Post
     (term-mark-requires t)
     (term-enum-known-d t)
-    (term-put-requires t)
+    (term-put-node-requires t)
     (term-add-t21 t)
     (term-returns t)
     (term-enum-told t)
     (term-token-requires t)
     (term-enum-known-d-2 t)
-    (term-put-requires-2 t)
+    (term-put-node-requires-2 t)
     (term-add-term t)
     (term-term-requires t)
     (term-returns-2 t)
@@ -73,7 +73,7 @@ pub +bracket+formula+term-spec : {M : Type 1} → statement M
     (term-enum-known-x t)
     (term-enum-known-x-2 t)
     (term-skip-blanks-requires t)
-    (term-put-requires-3 t)
+    (term-put-node-requires-3 t)
     (term-add-term-2 t)
     (term-term-requires-2 t)
     (term-returns-4 t)

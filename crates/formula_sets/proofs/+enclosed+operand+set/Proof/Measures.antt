@@ -1,7 +1,6 @@
 -- The measures of the readers, which are the unread bytes, and what each may ask of the others.
 use borrow.Fn.Kinds.{In}
 use borrow.Fn.PlainCycle.{Measures, is, falls, and}
-use Rattle.actl.specs.Sizes.{cellLength}
 use Rattle.formula_sets.proofs.enclosed.Reads as enclosed
 use Rattle.formula_sets.proofs.enclosed.Kinds as enclosed-kinds
 use Rattle.formula_sets.proofs.+enclosed+operand+set.Lts-enclosed as enclosed-lts
@@ -21,13 +20,13 @@ use Prim.Native.Nat.{ℕ, _+_, _*_, _-_, _<_}
 use lib.ListN.{length}
 
 abbrev pub μ-enclosed : Measures 2 enclosed-kinds.ps ℕ
-μ-enclosed κs a = (length (a .1 .0 .now) - a .1 .1 .0 .at) * cellLength + 2
+μ-enclosed κs a = (length (a .1 .0 .now) - a .1 .1 .0 .at) * 3 + 2
 
 abbrev pub μ-operand : Measures 2 operand-kinds.ps ℕ
-μ-operand κs a = (length (a .1 .0 .now) - a .1 .1 .0 .at) * cellLength
+μ-operand κs a = (length (a .1 .0 .now) - a .1 .1 .0 .at) * 3
 
 abbrev pub μ-set : Measures 2 set-kinds.ps ℕ
-μ-set κs a = (length (a .1 .0 .now) - a .1 .1 .0 .at) * cellLength + 1
+μ-set κs a = (length (a .1 .0 .now) - a .1 .1 .0 .at) * 3 + 1
 
 abbrev pub enclosed-at : ℕ → In 2 enclosed-kinds.ps
 enclosed-at t = and 2 enclosed-kinds.ps (is 2 enclosed-kinds.ps μ-enclosed t) enclosed.Pre

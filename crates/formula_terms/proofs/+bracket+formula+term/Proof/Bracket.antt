@@ -36,7 +36,7 @@ bracket-returns t c =
     let a = c .before .before .before .before .before .before .before .before .before .before .args in
     let N = namesIn (a .table .now) in
     let s = a .text .now in
-    let e = a .cells .now in
+    let e = a .nodes .now in
     let at = a .c .at in
     let f = c .before .before .before .before .x2 .given .0 .1 .0 .at in
     inr (record {
@@ -52,7 +52,7 @@ bracket-returns-2 t c =
     let a = c .before .before .before .before .before .before .before .args in
     let N = namesIn (a .table .now) in
     let s = a .text .now in
-    let e = a .cells .now in
+    let e = a .nodes .now in
     let at = a .c .at in
     inl (subst (FormulaAnswer N s at (a .n) (a .lost) e (c .before .before .before .formula .last .1 .1 .0)) (c .before .x .given .1) (c .before .before .before .formula .ensures))
 
@@ -61,7 +61,7 @@ bracket-returns-3 t c =
     let a = c .before .before .before .before .before .before .before .before .before .before .before .args in
     let N = namesIn (a .table .now) in
     let s = a .text .now in
-    let e = a .cells .now in
+    let e = a .nodes .now in
     let at = a .c .at in
     let f = c .before .before .before .before .before .x2 .given .0 .1 .0 .at in
     record {

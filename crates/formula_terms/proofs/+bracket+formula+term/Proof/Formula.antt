@@ -1,7 +1,7 @@
 -- What `formula` shows at each of its places.
 use Rattle.formula_terms.proofs.formula.Reads as formula
 use Rattle.formula_terms.proofs.+bracket+formula+term.Lts-formula as formula-lts
-use mathlib.Core.Path.{_∙_, subst}
+use mathlib.Core.Path.{subst}
 use Prim.Native.Nat.{ℕ, _-_}
 use native.Mathlib.Omega.{arith}
 use borrow.Author.Needs.{needs}
@@ -9,24 +9,25 @@ use lib.ListN.{length}
 use Rattle.formula_cursor.specs.CursorReplies.{TokenAnswer}
 use Rattle.actl.specs.Readers.{namesIn}
 use Rattle.formula_terms.specs.TermReplies.{TermAnswer}
+use Rattle.actl.proofs.ReadingNodes.{written-length}
 use Rattle.formula_sets.proofs.ReadingChains.{Awaiting, awaiting-first, await-room, formula-fails, formula-read, join-fits, join-above, awaiting-more}
 use Rattle.formula_terms.proofs.+bracket+formula+term.Proof.Measures.{formula-at, formula-claims}
 
 abbrev pub formula-Inv-loop : formula-lts.InvT-loop
-formula-Inv-loop table text cells₀ n lost d₀ k₀ lacks₀ cells d k lacks = Awaiting (namesIn table) text (d₀ .at) n lost cells₀ (d .at) k lacks cells
+formula-Inv-loop table text nodes₀ n lost d₀ k₀ lacks₀ nodes d k lacks = Awaiting (namesIn table) text (d₀ .at) n lost nodes₀ (d .at) k lacks nodes
 
 abbrev pub formula-μ-loop : formula-lts.MeasureT-loop
-formula-μ-loop table text cells₀ n lost d₀ k₀ lacks₀ cells d k lacks = length text - d .at
+formula-μ-loop table text nodes₀ n lost d₀ k₀ lacks₀ nodes d k lacks = length text - d .at
 
 pub formula-loop-holds : (t : ℕ) → formula-lts.Need-loop-holds (formula-claims t) (formula-at t) formula.Post formula-Inv-loop formula-μ-loop
 formula-loop-holds t c =
     let a = c .before .before .args in
     let N = namesIn (a .table .now) in
     let s = a .text .now in
-    let e = a .cells .now in
+    let e = a .nodes .now in
     let at = a .c .at in
     let pre = c .before .before .pre in
-    awaiting-first N s at (a .n) (a .lost) e (pre .1 .0 .token)
+    awaiting-first N s at (a .n) (a .lost) e (pre .1 .0 .token) (pre .1 .1) (pre .1 .0 .short)
 
 pub formula-term-requires : (t : ℕ) → formula-lts.Need-term-requires (formula-claims t) (formula-at t) formula.Post formula-Inv-loop formula-μ-loop
 formula-term-requires t c κs =
@@ -45,7 +46,7 @@ formula-returns t c =
     let pre = c .before .before .before .before .before .before .before .before .pre in
     let l = c .before .before .before .before .before .loop in
     let y = c .before .before .before .term .last .1 .1 .0 in
-    let o = subst (TermAnswer N s (l .d .at) (l .k) (l .lacks) (l .cells) y) (c .before .x .given .1) (c .before .before .before .term .ensures) in
+    let o = subst (TermAnswer N s (l .d .at) (l .k) (l .lacks) (l .nodes) y) (c .before .x .given .1) (c .before .before .before .term .ensures) in
     formula-fails (l .inv) (pre .1 .1) o
 
 pub formula-enum-known-x-2 : (t : ℕ) → formula-lts.Need-enum-known-x-2 (formula-claims t) (formula-at t) formula.Post formula-Inv-loop formula-μ-loop
@@ -58,7 +59,7 @@ formula-skip-blanks-requires t c κs =
     let s = a .text .now in
     let l = c .before .before .before .before .before .loop in
     let y = c .before .before .before .term .last .1 .1 .0 in
-    let o = subst (TermAnswer N s (l .d .at) (l .k) (l .lacks) (l .cells) y) (c .before .x2 .given .1) (c .before .before .before .term .ensures) in
+    let o = subst (TermAnswer N s (l .d .at) (l .k) (l .lacks) (l .nodes) y) (c .before .x2 .given .1) (c .before .before .before .term .ensures) in
     o .moves .within
 
 pub formula-token-requires : (t : ℕ) → formula-lts.Need-token-requires (formula-claims t) (formula-at t) formula.Post formula-Inv-loop formula-μ-loop
@@ -78,7 +79,7 @@ formula-returns-2 t c =
     let pre = c .before .before .before .before .before .before .before .before .before .before .before .before .pre in
     let l = c .before .before .before .before .before .before .before .before .before .loop in
     let y = c .before .before .before .before .before .before .before .term .last .1 .1 .0 in
-    let o = subst (TermAnswer N s (l .d .at) (l .k) (l .lacks) (l .cells) y) (c .before .before .before .before .before .x2 .given .1) (c .before .before .before .before .before .before .before .term .ensures) in
+    let o = subst (TermAnswer N s (l .d .at) (l .k) (l .lacks) (l .nodes) y) (c .before .before .before .before .before .x2 .given .1) (c .before .before .before .before .before .before .before .term .ensures) in
     let f = c .before .before .before .skip-blanks .result .at in
     formula-read (l .inv) (pre .1 .1) o (c .before .before .before .skip-blanks .ensures) (subst (TokenAnswer s f 124) (c .enum-told .given .1) (c .before .before .token .ensures))
 
@@ -90,11 +91,11 @@ formula-join-requires t c κs =
     let pre = c .before .before .before .before .before .before .before .before .before .before .before .before .before .before .pre in
     let l = c .before .before .before .before .before .before .before .before .before .before .before .loop in
     let y = c .before .before .before .before .before .before .before .before .before .term .last .1 .1 .0 in
-    let o = subst (TermAnswer N s (l .d .at) (l .k) (l .lacks) (l .cells) y) (c .before .before .before .before .before .before .before .x2 .given .1) (c .before .before .before .before .before .before .before .before .before .term .ensures) in
+    let o = subst (TermAnswer N s (l .d .at) (l .k) (l .lacks) (l .nodes) y) (c .before .before .before .before .before .before .before .x2 .given .1) (c .before .before .before .before .before .before .before .before .before .term .ensures) in
     let b = c .before .before .before .before .before .skip-blanks .ensures in
     let g = subst (TokenAnswer s (c .before .before .before .before .before .skip-blanks .result .at) 124) (c .before .before .g .given .1) (c .before .before .before .before .token .ensures) in
     let h = pre .1 .1 in
-    (o .written .long ∙ await-room (l .inv) h .long, join-above (l .inv) h o b g (pre .1 .0 .short), join-fits (l .inv) h o b g (pre .1 .0 .short))
+    (written-length (await-room (l .inv) h .long) (o .written), join-above (l .inv) h o b g (pre .1 .0 .short), join-fits (l .inv) h o b g (pre .1 .0 .short))
 
 pub formula-add-k : (t : ℕ) → formula-lts.Need-add-k (formula-claims t) (formula-at t) formula.Post formula-Inv-loop formula-μ-loop
 formula-add-k t c =
@@ -104,7 +105,7 @@ formula-add-k t c =
     let pre = c .before .before .before .before .before .before .before .before .before .before .before .before .before .before .before .pre in
     let l = c .before .before .before .before .before .before .before .before .before .before .before .before .loop in
     let y = c .before .before .before .before .before .before .before .before .before .before .term .last .1 .1 .0 in
-    let o = subst (TermAnswer N s (l .d .at) (l .k) (l .lacks) (l .cells) y) (c .before .before .before .before .before .before .before .before .x2 .given .1) (c .before .before .before .before .before .before .before .before .before .before .term .ensures) in
+    let o = subst (TermAnswer N s (l .d .at) (l .k) (l .lacks) (l .nodes) y) (c .before .before .before .before .before .before .before .before .x2 .given .1) (c .before .before .before .before .before .before .before .before .before .before .term .ensures) in
     let b = c .before .before .before .before .before .before .skip-blanks .ensures in
     let g = subst (TokenAnswer s (c .before .before .before .before .before .before .skip-blanks .result .at) 124) (c .before .before .before .g .given .1) (c .before .before .before .before .before .token .ensures) in
     omega (arith, join-fits (l .inv) (pre .1 .1) o b g (pre .1 .0 .short))
@@ -117,7 +118,7 @@ formula-loop-less t c =
     let pre = c .before .before .before .before .before .before .before .before .before .before .before .before .before .before .before .pre in
     let l = c .before .before .before .before .before .before .before .before .before .before .before .before .loop in
     let y = c .before .before .before .before .before .before .before .before .before .before .term .last .1 .1 .0 in
-    let o = subst (TermAnswer N s (l .d .at) (l .k) (l .lacks) (l .cells) y) (c .before .before .before .before .before .before .before .before .x2 .given .1) (c .before .before .before .before .before .before .before .before .before .before .term .ensures) in
+    let o = subst (TermAnswer N s (l .d .at) (l .k) (l .lacks) (l .nodes) y) (c .before .before .before .before .before .before .before .before .x2 .given .1) (c .before .before .before .before .before .before .before .before .before .before .term .ensures) in
     let b = c .before .before .before .before .before .before .skip-blanks .ensures in
     let g = subst (TokenAnswer s (c .before .before .before .before .before .before .skip-blanks .result .at) 124) (c .before .before .before .g .given .1) (c .before .before .before .before .before .token .ensures) in
     omega (arith, o .up, b .up, g .skipped .up, g .skipped .within)
@@ -130,7 +131,7 @@ formula-loop-again t c =
     let pre = c .before .before .before .before .before .before .before .before .before .before .before .before .before .before .before .pre in
     let l = c .before .before .before .before .before .before .before .before .before .before .before .before .loop in
     let y = c .before .before .before .before .before .before .before .before .before .before .term .last .1 .1 .0 in
-    let o = subst (TermAnswer N s (l .d .at) (l .k) (l .lacks) (l .cells) y) (c .before .before .before .before .before .before .before .before .x2 .given .1) (c .before .before .before .before .before .before .before .before .before .before .term .ensures) in
+    let o = subst (TermAnswer N s (l .d .at) (l .k) (l .lacks) (l .nodes) y) (c .before .before .before .before .before .before .before .before .x2 .given .1) (c .before .before .before .before .before .before .before .before .before .before .term .ensures) in
     let b = c .before .before .before .before .before .before .skip-blanks .ensures in
     let g = subst (TokenAnswer s (c .before .before .before .before .before .before .skip-blanks .result .at) 124) (c .before .before .before .g .given .1) (c .before .before .before .before .before .token .ensures) in
     awaiting-more (l .inv) (pre .1 .1) o b g (pre .1 .0 .short) (c .join .ensures)

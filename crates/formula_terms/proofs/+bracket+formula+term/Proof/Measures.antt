@@ -1,7 +1,6 @@
 -- The measures of the readers, which are the unread bytes, and what each may ask of the others.
 use borrow.Fn.Kinds.{In}
 use borrow.Fn.PlainCycle.{Measures, is, falls, and}
-use Rattle.actl.specs.Sizes.{cellLength}
 use Rattle.formula_terms.proofs.bracket.Reads as bracket
 use Rattle.formula_terms.proofs.bracket.Kinds as bracket-kinds
 use Rattle.formula_terms.proofs.+bracket+formula+term.Lts-bracket as bracket-lts
@@ -16,18 +15,18 @@ use Rattle.formula_cursor.proofs.Cursor.skip_blanks.Reads as skip-blanks-reads
 use Rattle.formula_cursor.proofs.Cursor.token.Reads as token-reads
 use Rattle.formula_heads.proofs.head.Reads as head-reads
 use Rattle.formula_terms.proofs.join.Reads as join-reads
-use Rattle.formula_terms.proofs.put.Reads as put-reads
+use Rattle.formulas.proofs.node.put_node.Reads as put-node-reads
 use Prim.Native.Nat.{ℕ, _+_, _*_, _-_, _<_}
 use lib.ListN.{length}
 
 abbrev pub μ-bracket : Measures 3 bracket-kinds.ps ℕ
-μ-bracket κs a = (length (a .1 .0 .now) - a .1 .1 .1 .0 .at) * cellLength + 2
+μ-bracket κs a = (length (a .1 .0 .now) - a .1 .1 .1 .0 .at) * 3 + 2
 
 abbrev pub μ-formula : Measures 3 formula-kinds.ps ℕ
-μ-formula κs a = (length (a .1 .0 .now) - a .1 .1 .1 .0 .at) * cellLength + 1
+μ-formula κs a = (length (a .1 .0 .now) - a .1 .1 .1 .0 .at) * 3 + 1
 
 abbrev pub μ-term : Measures 3 term-kinds.ps ℕ
-μ-term κs a = (length (a .1 .0 .now) - a .1 .1 .1 .0 .at) * cellLength
+μ-term κs a = (length (a .1 .0 .now) - a .1 .1 .1 .0 .at) * 3
 
 abbrev pub bracket-at : ℕ → In 3 bracket-kinds.ps
 bracket-at t = and 3 bracket-kinds.ps (is 3 bracket-kinds.ps μ-bracket t) bracket.Pre
@@ -54,4 +53,4 @@ abbrev pub formula-claims : ℕ → formula-lts.Claims
 formula-claims t = (term-below t, term.Post, skip-blanks-reads.Asked, skip-blanks-reads.Learnt, token-reads.Asked, token-reads.Learnt, join-reads.Asked, join-reads.Learnt)
 
 abbrev pub term-claims : ℕ → term-lts.Claims
-term-claims t = (mark-reads.Asked, mark-reads.Learnt, put-reads.Asked, put-reads.Learnt, token-reads.Asked, token-reads.Learnt, term-below t, term.Post, bracket-below t, bracket.Post, head-reads.Asked, head-reads.Learnt, skip-blanks-reads.Asked, skip-blanks-reads.Learnt)
+term-claims t = (mark-reads.Asked, mark-reads.Learnt, put-node-reads.Asked, put-node-reads.Learnt, token-reads.Asked, token-reads.Learnt, term-below t, term.Post, bracket-below t, bracket.Post, head-reads.Asked, head-reads.Learnt, skip-blanks-reads.Asked, skip-blanks-reads.Learnt)

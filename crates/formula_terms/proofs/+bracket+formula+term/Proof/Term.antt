@@ -6,6 +6,7 @@ use Prim.Native.Nat.{ℕ}
 use native.Mathlib.Omega.{arith}
 use borrow.Author.Needs.{needs}
 use Rattle.formula_cursor.specs.CursorReplies.{MarkAnswer, TokenAnswer}
+use Rattle.actl.specs.Prepared.{slot}
 use Rattle.actl.specs.Readers.{namesIn}
 use Rattle.formula_heads.specs.HeadReplies.{HeadAnswer}
 use Rattle.formula_cursor.proofs.ReadingMoves.{skipped-token}
@@ -19,23 +20,23 @@ term-mark-requires t c κs = tt
 pub term-enum-known-d : (t : ℕ) → term-lts.Need-enum-known-d (term-claims t) (term-at t) term.Post
 term-enum-known-d t c = search needs
 
-pub term-put-requires : (t : ℕ) → term-lts.Need-put-requires (term-claims t) (term-at t) term.Post
-term-put-requires t c κs =
+pub term-put-node-requires : (t : ℕ) → term-lts.Need-put-node-requires (term-claims t) (term-at t) term.Post
+term-put-node-requires t c κs =
     let a = c .before .before .before .before .before .before .before .args in
     let N = namesIn (a .table .now) in
     let s = a .text .now in
-    let e = a .cells .now in
+    let e = a .nodes .now in
     let at = a .c .at in
     let pre = c .before .before .before .before .before .before .before .pre in
     let k = subst (MarkAnswer s at 84) (c .before .before .d .given .1) (c .before .before .before .before .mark .ensures) in
-    (pre .1 .1 .long, node-fits N s at (a .n) (a .lost) e (pre .1 .1) (pre .1 .0 .short) (k .within))
+    omega (arith, pre .1 .1 .long, node-fits N s at (a .n) (a .lost) e (pre .1 .1) (pre .1 .0 .short) (k .within))
 
 pub term-add-t21 : (t : ℕ) → term-lts.Need-add-t21 (term-claims t) (term-at t) term.Post
 term-add-t21 t c =
     let a = c .before .before .before .before .before .before .before .before .args in
     let N = namesIn (a .table .now) in
     let s = a .text .now in
-    let e = a .cells .now in
+    let e = a .nodes .now in
     let at = a .c .at in
     let pre = c .before .before .before .before .before .before .before .before .pre in
     let k = subst (MarkAnswer s at 84) (c .before .before .before .d .given .1) (c .before .before .before .before .before .mark .ensures) in
@@ -46,11 +47,11 @@ term-returns t c =
     let a = c .before .before .before .before .before .before .before .before .args in
     let N = namesIn (a .table .now) in
     let s = a .text .now in
-    let e = a .cells .now in
+    let e = a .nodes .now in
     let at = a .c .at in
     let pre = c .before .before .before .before .before .before .before .before .pre in
     let k = subst (MarkAnswer s at 84) (c .before .before .before .d .given .1) (c .before .before .before .before .before .mark .ensures) in
-    term-true N s at (a .n) (a .lost) e (pre .1 .1) (pre .1 .0 .short) k (c .put .ensures)
+    term-true N s at (a .n) (a .lost) e (pre .1 .1) (pre .1 .0 .short) k (c .put-node .ensures)
 
 pub term-enum-told : (t : ℕ) → term-lts.Need-enum-told (term-claims t) (term-at t) term.Post
 term-enum-told t c = search needs
@@ -61,23 +62,23 @@ term-token-requires t c κs = tt
 pub term-enum-known-d-2 : (t : ℕ) → term-lts.Need-enum-known-d-2 (term-claims t) (term-at t) term.Post
 term-enum-known-d-2 t c = search needs
 
-pub term-put-requires-2 : (t : ℕ) → term-lts.Need-put-requires-2 (term-claims t) (term-at t) term.Post
-term-put-requires-2 t c κs =
+pub term-put-node-requires-2 : (t : ℕ) → term-lts.Need-put-node-requires-2 (term-claims t) (term-at t) term.Post
+term-put-node-requires-2 t c κs =
     let a = c .before .before .before .before .before .before .before .before .before .before .args in
     let N = namesIn (a .table .now) in
     let s = a .text .now in
-    let e = a .cells .now in
+    let e = a .nodes .now in
     let at = a .c .at in
     let pre = c .before .before .before .before .before .before .before .before .before .before .pre in
     let k = subst (TokenAnswer s at 126) (c .before .before .d2 .given .1) (c .before .before .before .before .token .ensures) in
-    (pre .1 .1 .long, token-fits N s at (a .n) (a .lost) e (pre .1 .1) (pre .1 .0 .short) k)
+    omega (arith, pre .1 .1 .long, token-fits N s at (a .n) (a .lost) e (pre .1 .1) (pre .1 .0 .short) k)
 
 pub term-add-term : (t : ℕ) → term-lts.Need-add-term (term-claims t) (term-at t) term.Post
 term-add-term t c =
     let a = c .before .before .before .before .before .before .before .before .before .before .before .before .args in
     let N = namesIn (a .table .now) in
     let s = a .text .now in
-    let e = a .cells .now in
+    let e = a .nodes .now in
     let at = a .c .at in
     let pre = c .before .before .before .before .before .before .before .before .before .before .before .before .pre in
     let k = subst (TokenAnswer s at 126) (c .before .before .before .before .d2 .given .1) (c .before .before .before .before .before .before .token .ensures) in
@@ -88,23 +89,23 @@ term-term-requires t c κs =
     let a = c .before .before .before .before .before .before .before .before .before .before .before .before .args in
     let N = namesIn (a .table .now) in
     let s = a .text .now in
-    let e = a .cells .now in
+    let e = a .nodes .now in
     let at = a .c .at in
     let pre = c .before .before .before .before .before .before .before .before .before .before .before .before .pre in
     let k = subst (TokenAnswer s at 126) (c .before .before .before .before .d2 .given .1) (c .before .before .before .before .before .before .token .ensures) in
     let u = k .skipped .up in
-    (omega (arith, pre .0, k .skipped .within), (record { table = pre .1 .0 .table; short = pre .1 .0 .short; token = token-behind k }, arm-room N s at (a .n) (a .lost) e (pre .1 .1) (pre .1 .0 .short) 2 0 0 (token-fits N s at (a .n) (a .lost) e (pre .1 .1) (pre .1 .0 .short) k) (c .before .put2 .ensures) (omega arith)))
+    (omega (arith, pre .0, k .skipped .within), (record { table = pre .1 .0 .table; short = pre .1 .0 .short; token = token-behind k }, arm-room N s at (a .n) (a .lost) e (pre .1 .1) (pre .1 .0 .short) (slot 2 0 0) (token-fits N s at (a .n) (a .lost) e (pre .1 .1) (pre .1 .0 .short) k) (c .before .put-node2 .ensures) (omega arith)))
 
 pub term-returns-2 : (t : ℕ) → term-lts.Need-returns-2 (term-claims t) (term-at t) term.Post
 term-returns-2 t c =
     let a = c .before .before .before .before .before .before .before .before .before .before .before .before .before .args in
     let N = namesIn (a .table .now) in
     let s = a .text .now in
-    let e = a .cells .now in
+    let e = a .nodes .now in
     let at = a .c .at in
     let pre = c .before .before .before .before .before .before .before .before .before .before .before .before .before .pre in
     let k = subst (TokenAnswer s at 126) (c .before .before .before .before .before .d2 .given .1) (c .before .before .before .before .before .before .before .token .ensures) in
-    term-not N s at (a .n) (a .lost) e (pre .1 .1) (pre .1 .0 .short) k (c .before .before .put2 .ensures) (c .term .last .1 .1 .0) (c .term .result) (c .term .ensures)
+    term-not N s at (a .n) (a .lost) e (pre .1 .1) (pre .1 .0 .short) k (c .before .before .put-node2 .ensures) (c .term .last .1 .1 .0) (c .term .result) (c .term .ensures)
 
 pub term-enum-told-2 : (t : ℕ) → term-lts.Need-enum-told-2 (term-claims t) (term-at t) term.Post
 term-enum-told-2 t c = search needs
@@ -120,7 +121,7 @@ term-bracket-requires t c κs =
     let a = c .before .before .before .before .before .before .before .before .before .before .before .before .before .args in
     let N = namesIn (a .table .now) in
     let s = a .text .now in
-    let e = a .cells .now in
+    let e = a .nodes .now in
     let at = a .c .at in
     let pre = c .before .before .before .before .before .before .before .before .before .before .before .before .before .pre in
     let k = subst (TokenAnswer s at 40) (c .before .before .d3 .given .1) (c .before .before .before .before .token2 .ensures) in
@@ -131,7 +132,7 @@ term-returns-3 t c =
     let a = c .before .before .before .before .before .before .before .before .before .before .before .before .before .before .args in
     let N = namesIn (a .table .now) in
     let s = a .text .now in
-    let e = a .cells .now in
+    let e = a .nodes .now in
     let at = a .c .at in
     let pre = c .before .before .before .before .before .before .before .before .before .before .before .before .before .before .pre in
     let k = subst (TokenAnswer s at 40) (c .before .before .before .d3 .given .1) (c .before .before .before .before .before .token2 .ensures) in
@@ -169,24 +170,24 @@ term-skip-blanks-requires t c κs =
     let h = subst (HeadAnswer N s at (a .lost)) (c .before .x2 .given .1) (c .before .before .before .head .ensures) in
     h .moves .within
 
-pub term-put-requires-3 : (t : ℕ) → term-lts.Need-put-requires-3 (term-claims t) (term-at t) term.Post
-term-put-requires-3 t c κs =
+pub term-put-node-requires-3 : (t : ℕ) → term-lts.Need-put-node-requires-3 (term-claims t) (term-at t) term.Post
+term-put-node-requires-3 t c κs =
     let a = c .before .before .before .before .before .before .before .before .before .before .before .before .before .before .before .before .before .args in
     let N = namesIn (a .table .now) in
     let s = a .text .now in
-    let e = a .cells .now in
+    let e = a .nodes .now in
     let at = a .c .at in
     let pre = c .before .before .before .before .before .before .before .before .before .before .before .before .before .before .before .before .before .pre in
     let h = subst (HeadAnswer N s at (a .lost)) (c .before .before .before .x2 .given .1) (c .before .before .before .before .before .head .ensures) in
     let b = c .before .skip-blanks .ensures in
-    (pre .1 .1 .long, head-fits N s at (a .n) (a .lost) e (pre .1 .1) (pre .1 .0 .short) h b)
+    omega (arith, pre .1 .1 .long, head-fits N s at (a .n) (a .lost) e (pre .1 .1) (pre .1 .0 .short) h b)
 
 pub term-add-term-2 : (t : ℕ) → term-lts.Need-add-term-2 (term-claims t) (term-at t) term.Post
 term-add-term-2 t c =
     let a = c .before .before .before .before .before .before .before .before .before .before .before .before .before .before .before .before .before .before .before .args in
     let N = namesIn (a .table .now) in
     let s = a .text .now in
-    let e = a .cells .now in
+    let e = a .nodes .now in
     let at = a .c .at in
     let pre = c .before .before .before .before .before .before .before .before .before .before .before .before .before .before .before .before .before .before .before .pre in
     let h = subst (HeadAnswer N s at (a .lost)) (c .before .before .before .before .before .x2 .given .1) (c .before .before .before .before .before .before .before .head .ensures) in
@@ -198,13 +199,13 @@ term-term-requires-2 t c κs =
     let a = c .before .before .before .before .before .before .before .before .before .before .before .before .before .before .before .before .before .before .before .args in
     let N = namesIn (a .table .now) in
     let s = a .text .now in
-    let e = a .cells .now in
+    let e = a .nodes .now in
     let at = a .c .at in
     let pre = c .before .before .before .before .before .before .before .before .before .before .before .before .before .before .before .before .before .before .before .pre in
     let h = subst (HeadAnswer N s at (a .lost)) (c .before .before .before .before .before .x2 .given .1) (c .before .before .before .before .before .before .before .head .ensures) in
     let b = c .before .before .before .skip-blanks .ensures in
     let u = head-up N s at (a .n) (a .lost) e (pre .1 .1) (pre .1 .0 .short) h b in
-    (omega (arith, pre .0, b .within), (record { table = pre .1 .0 .table; short = pre .1 .0 .short; token = skipped-token b }, arm-room N s at (a .n) (a .lost) e (pre .1 .1) (pre .1 .0 .short) _ _ _ (head-fits N s at (a .n) (a .lost) e (pre .1 .1) (pre .1 .0 .short) h b) (c .before .put3 .ensures) u))
+    (omega (arith, pre .0, b .within), (record { table = pre .1 .0 .table; short = pre .1 .0 .short; token = skipped-token b }, arm-room N s at (a .n) (a .lost) e (pre .1 .1) (pre .1 .0 .short) _ (head-fits N s at (a .n) (a .lost) e (pre .1 .1) (pre .1 .0 .short) h b) (c .before .put-node3 .ensures) u))
 
 pub term-returns-4 : (t : ℕ) → term-lts.Need-returns-4 (term-claims t) (term-at t) term.Post
 term-returns-4 t c =
@@ -220,9 +221,9 @@ term-returns-5 t c =
     let a = c .before .before .before .before .before .before .before .before .before .before .before .before .before .before .before .before .before .before .before .before .args in
     let N = namesIn (a .table .now) in
     let s = a .text .now in
-    let e = a .cells .now in
+    let e = a .nodes .now in
     let at = a .c .at in
     let pre = c .before .before .before .before .before .before .before .before .before .before .before .before .before .before .before .before .before .before .before .before .pre in
     let h = subst (HeadAnswer N s at (a .lost)) (c .before .before .before .before .before .before .x2 .given .1) (c .before .before .before .before .before .before .before .before .head .ensures) in
     let b = c .before .before .before .before .skip-blanks .ensures in
-    term-modal N s at (a .n) (a .lost) e (pre .1 .1) (pre .1 .0 .short) h b (c .before .before .put3 .ensures) (c .term2 .last .1 .1 .0) (c .term2 .result) (c .term2 .ensures)
+    term-modal N s at (a .n) (a .lost) e (pre .1 .1) (pre .1 .0 .short) h b (c .before .before .put-node3 .ensures) (c .term2 .last .1 .1 .0) (c .term2 .result) (c .term2 .ensures)

@@ -1,4 +1,4 @@
--- `next_head` reads the bracket of EX or AX.
+-- `next_bracket` reads the bracket of EX or AX.
 use borrow.Author.Needs.{needs}
 use mathlib.Core.Path.{subst}
 use Rattle.formula_cursor.specs.CursorReplies.{MarkAnswer, TokenAnswer}
@@ -6,8 +6,8 @@ use Rattle.actl.specs.Readers.{namesIn}
 use Rattle.formula_sets.specs.SetReplies.{EnclosedAnswer}
 use Rattle.formula_sets.proofs.ReadingSets.{token-behind}
 use Rattle.formula_heads.proofs.ReadingHeads.{next-unopened, next-silent, next-silent-open, next-set-read, next-set-fails}
-use Rattle.formula_heads.proofs.next_head.Statement.{statement}
-use Rattle.formula_heads.proofs.next_head.Tie as tie
+use Rattle.formula_heads.proofs.next_bracket.Statement.{statement}
+use Rattle.formula_heads.proofs.next_bracket.Tie as tie
 
 skip-blanks-requires : tie.Need-skip-blanks-requires
 skip-blanks-requires c κs = search needs
@@ -28,7 +28,7 @@ returns c =
     let s = a .text .now in
     let at = a .c .at in
     let o = c .before .before .before .skip-blanks .result .at in
-    next-unopened N s at (a .base) (a .lost) o (c .before .before .before .skip-blanks .ensures) (subst (TokenAnswer s o 91) (c .enum-told .given .1) (c .before .before .token .ensures))
+    next-unopened N s at (a .lost) o (c .before .before .before .skip-blanks .ensures) (subst (TokenAnswer s o 91) (c .enum-told .given .1) (c .before .before .token .ensures))
 
 token-requires-2 : tie.Need-token-requires-2
 token-requires-2 c κs = search needs
@@ -57,7 +57,7 @@ returns-2 c =
     let d = c .before .before .before .before .before .before .before .before .d .given .0 .0 .at in
     let u = subst (TokenAnswer s d 46) (c .before .before .before .before .e .given .1) (c .before .before .before .before .before .before .token2 .ensures) in
     let e = c .before .before .before .before .e .given .0 .0 .at in
-    next-silent-open N s at (a .base) (a .lost) o b k u (subst (MarkAnswer s e 93) (c .enum-told2 .given .1) (c .before .before .mark .ensures))
+    next-silent-open N s at (a .lost) o b k u (subst (MarkAnswer s e 93) (c .enum-told2 .given .1) (c .before .before .mark .ensures))
 
 returns-3 : tie.Need-returns-3
 returns-3 c =
@@ -71,7 +71,7 @@ returns-3 c =
     let d = c .before .before .before .before .before .before .before .before .before .d .given .0 .0 .at in
     let u = subst (TokenAnswer s d 46) (c .before .before .before .before .before .e .given .1) (c .before .before .before .before .before .before .before .token2 .ensures) in
     let e = c .before .before .before .before .before .e .given .0 .0 .at in
-    next-silent N s at (a .base) (a .lost) o b k u (subst (MarkAnswer s e 93) (c .before .f .given .1) (c .before .before .before .mark .ensures))
+    next-silent N s at (a .lost) o b k u (subst (MarkAnswer s e 93) (c .before .f .given .1) (c .before .before .before .mark .ensures))
 
 enum-told-3 : tie.Need-enum-told-3
 enum-told-3 c = search needs
@@ -91,9 +91,6 @@ enum-known-x c = search needs
 enum-known-x-2 : tie.Need-enum-known-x-2
 enum-known-x-2 c = search needs
 
-add-t19 : tie.Need-add-t19
-add-t19 c = search needs
-
 returns-4 : tie.Need-returns-4
 returns-4 c =
     let a = c .before .before .before .before .before .before .before .before .before .before .before .before .before .before .args in
@@ -105,7 +102,7 @@ returns-4 c =
     let k = subst (TokenAnswer s o 91) (c .before .before .before .before .before .before .before .before .d .given .1) (c .before .before .before .before .before .before .before .before .before .before .token .ensures) in
     let d = c .before .before .before .before .before .before .before .before .d .given .0 .0 .at in
     let u = subst (TokenAnswer s d 46) (c .before .before .before .before .enum-told3 .given .1) (c .before .before .before .before .before .before .token2 .ensures) in
-    next-set-fails N s at (a .base) (a .lost) o b k u (subst (EnclosedAnswer N s d 93 (a .lost)) (c .before .x .given .1) (c .before .before .before .enclosed .ensures))
+    next-set-fails N s at (a .lost) o b k u (subst (EnclosedAnswer N s d 93 (a .lost)) (c .before .x .given .1) (c .before .before .before .enclosed .ensures))
 
 returns-5 : tie.Need-returns-5
 returns-5 c =
@@ -118,10 +115,10 @@ returns-5 c =
     let k = subst (TokenAnswer s o 91) (c .before .before .before .before .before .before .before .before .d .given .1) (c .before .before .before .before .before .before .before .before .before .before .token .ensures) in
     let d = c .before .before .before .before .before .before .before .before .d .given .0 .0 .at in
     let u = subst (TokenAnswer s d 46) (c .before .before .before .before .enum-told3 .given .1) (c .before .before .before .before .before .before .token2 .ensures) in
-    next-set-read N s at (a .base) (a .lost) o b k u (subst (EnclosedAnswer N s d 93 (a .lost)) (c .before .x2 .given .1) (c .before .before .before .enclosed .ensures))
+    next-set-read N s at (a .lost) o b k u (subst (EnclosedAnswer N s d 93 (a .lost)) (c .before .x2 .given .1) (c .before .before .before .enclosed .ensures))
 
-pub next-head-spec : {M : Type 1} → statement M
-next-head-spec =
+pub next-bracket-spec : {M : Type 1} → statement M
+next-bracket-spec =
     tie.close
     (tie.spec
     skip-blanks-requires
@@ -140,6 +137,5 @@ next-head-spec =
     enclosed-requires
     enum-known-x
     enum-known-x-2
-    add-t19
     returns-4
     returns-5)

@@ -2,8 +2,8 @@
 use Prim.Native.Nat.{_-_}
 use native.Mathlib.Omega.{arith}
 use Rattle.actl.proofs.ReadingBytes.{Masked, masked-none, masked-length, masked-more, masked-all}
-use Rattle.formula_text.proofs.writing.put_mask.Statement.{statement}
-use Rattle.formula_text.proofs.writing.put_mask.Tie as tie
+use Rattle.formulas.proofs.node.put_mask.Statement.{statement}
+use Rattle.formulas.proofs.node.put_mask.Tie as tie
 
 abbrev Inv-loop : tie.InvT-loop
 Inv-loop formula₀ at mask rest₀ i₀ formula rest i = Masked mask at formula₀ i rest formula

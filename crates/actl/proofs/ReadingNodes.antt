@@ -1,0 +1,103 @@
+-- Nodes written one after the other into the bytes that reading keeps, and moved up by one.
+use mathlib.Core.Path.{_≡_, refl, sym, ap, _∙_}
+use mathlib.Core.List.{List, [], _∷_, _++_, append-assoc}
+use Prim.Native.Nat.{ℕ, suc, _+_, _*_, _-_, _≤_, _<_}
+use native.Mathlib.Numerals.{add-one}
+use native.Mathlib.Omega.{arith}
+use lib.ListN.{length, getD, take, drop, set, length-append, length-take, length-drop, take-append-drop, drop-of-length-le, List·getD-append}
+use lib.Seq.{length-take-le, take-suc, drop-cons, take-append-le, take-at, drop-at, set-at, getD-take, take-take}
+use Rattle.columns.specs.Write.{pasted}
+use Rattle.columns.proofs.Laws.Pasting.{pasted-length}
+use Rattle.actl.specs.Sizes.{longestText, nodeSlotLength, readingLength}
+use Rattle.lts.proofs.Lists.{bind-append}
+use Rattle.actl.specs.Formulas.{Formula, nodes}
+use Rattle.actl.specs.Prepared.{Slot, slot, slotOf, slotBytes}
+use Rattle.actl.specs.Readers.{bytesOfNodes, putAt, joinedAt, NodesWritten}
+use Rattle.actl.proofs.ReadingBytes.{pasted-none, pasted-then, pasted-over}
+
+-- Bytes while those below `top` move up by w: the ones from i on have moved.
+abbrev pub moved : ℕ → ℕ → ℕ → List ℕ → List ℕ
+moved w top i e = take (i + w) e ++ (drop i (take top e) ++ drop (top + w) e)
+
+pub moved-none : (w top : ℕ) (e : List ℕ) → e ≡ moved w top top e
+moved-none w top e = sym (take-append-drop (top + w) e) ∙ ap (λ l. take (top + w) e ++ (l ++ drop (top + w) e)) (sym (drop-of-length-le (take top e) (let z : length (take top e) ≤ top = rw length-take (omega arith) in z)))
+
+module _ (w top k : ℕ) (e : List ℕ) (room : top + w ≤ length e) (h : k < top) where
+  moved-read : getD (moved w top (k + 1) e) k 0 ≡ getD e k 0
+  moved-read = List·getD-append (take (k + 1 + w) e) _ 0 k (let z : k < length (take (k + 1 + w) e) = rw length-take (omega arith) in z) ∙ getD-take (k + 1 + w) e k 0 (omega arith)
+
+  moved-more : set (moved w top (k + 1) e) (k + w) (getD (moved w top (k + 1) e) k 0) ≡ moved w top k e
+  moved-more =
+      let r = drop (top + w) e in
+      let q = drop (k + 1) (take top e) in
+      let a : k + 1 + w ≡ suc (k + w) = omega arith in
+      let z : k < length (take top e) = rw length-take (omega arith) in
+      let b : take (k + 1 + w) e ≡ take (k + w) e ++ (getD e (k + w) 0 ∷ []) = ap (λ i. take i e) a ∙ take-suc e (k + w) 0 (omega arith) in
+      let c : drop k (take top e) ≡ getD e k 0 ∷ q = drop-cons (take top e) k 0 z ∙ (λ i. getD-take top e k 0 h i ∷ drop (sym (add-one k) i) (take top e)) in
+      ap (set (moved w top (k + 1) e) (k + w)) moved-read
+      ∙ (ap (λ l. set (l ++ (q ++ r)) (k + w) (getD e k 0)) b
+      ∙ (ap (λ l. set l (k + w) (getD e k 0)) (append-assoc (take (k + w) e) (getD e (k + w) 0 ∷ []) (q ++ r))
+      ∙ (set-at (take (k + w) e) (getD e (k + w) 0) (q ++ r) (getD e k 0) (k + w) (length-take-le (k + w) e (omega arith))
+      ∙ ap (λ l. take (k + w) e ++ (l ++ r)) (sym c))))
+
+module _ (w top i : ℕ) (e : List ℕ) (room : top + w ≤ length e) (h : i ≤ top) where
+  pub moved-step : (x : List ℕ) → 0 < i → x ≡ moved w top i e → set x (i - 1 + w) (getD x (i - 1) 0) ≡ moved w top (i - 1) e
+  moved-step x z p =
+      let a : i ≡ i - 1 + 1 = omega arith in
+      ap (λ y. set y (i - 1 + w) (getD y (i - 1) 0)) (p ∙ ap (λ j. moved w top j e) a) ∙ moved-more w top (i - 1) e room (omega arith)
+
+  pub length-moved : length (moved w top i e) ≡ length e
+  length-moved =
+      let a = length-take-le (i + w) e (omega arith) in
+      let b = length-take-le top e (omega arith) in
+      length-append (take (i + w) e) (drop i (take top e) ++ drop (top + w) e)
+      ∙ omega (arith, length-append (drop i (take top e)) (drop (top + w) e), length-drop i (take top e), length-drop (top + w) e)
+
+  -- All have moved, and w bytes are put before them.
+  pub moved-all : (l : List ℕ) → length l ≡ w → pasted (moved w top i e) i l ≡ pasted e i (l ++ drop i (take top e))
+  moved-all l z =
+      let q = drop i (take top e) in
+      let r = drop (top + w) e in
+      let a = length-take-le (i + w) e (omega arith) in
+      let b : take i (moved w top i e) ≡ take i e = take-append-le i (take (i + w) e) (q ++ r) (omega arith) ∙ take-take i (i + w) e (omega arith) in
+      let c : drop (i + length l) (moved w top i e) ≡ q ++ r = drop-at (take (i + w) e) (q ++ r) (i + length l) (omega arith) in
+      let d : top + w ≡ i + length (l ++ q) = omega (arith, length-append l q, length-drop i (take top e), length-take-le top e (omega arith)) in
+      (λ j. b j ++ (l ++ c j)) ∙ (ap (λ m. take i e ++ m) (sym (append-assoc l q r)) ∙ ap (λ m. take i e ++ ((l ++ q) ++ drop m e)) d)
+
+-- Nodes written so far.
+module _ {e : List ℕ} (long : length e ≡ readingLength) where
+  pub written-none : (n : ℕ) → n ≤ longestText → NodesWritten n n e e []
+  written-none n h = record { ends = omega arith; fits = h; made = pasted-none (1 + n * nodeSlotLength) e }
+
+  pub written-length : {n m : ℕ} {x l : List ℕ} → NodesWritten n m e x l → length x ≡ readingLength
+  written-length {n} {m} {l} p = ap length (p .made) ∙ (pasted-length e (1 + n * nodeSlotLength) l (omega (arith, p .ends, p .fits)) ∙ long)
+
+  pub written-more : {n m k : ℕ} {x y l j : List ℕ} → NodesWritten n m e x l → NodesWritten m k x y j → NodesWritten n k e y (l ++ j)
+  written-more {n} {m} {x} {y} {l} {j} p q = record {
+    ends = omega (arith, p .ends, q .ends, length-append l j);
+    fits = q .fits;
+    made = pasted-then (1 + n * nodeSlotLength) (1 + m * nodeSlotLength) l j e x y (p .made) (p .ends) (omega (arith, p .ends, p .fits)) (q .made);
+  }
+
+  pub put-written : (n : ℕ) (node : Slot) (x : List ℕ) → n < longestText → x ≡ putAt n node e → NodesWritten n (n + 1) e x (slotBytes node)
+  put-written n node x h p = record { ends = omega arith; fits = omega arith; made = p }
+
+  pub join-written : (start n : ℕ) (x y l : List ℕ) → n < longestText → NodesWritten start n e x l → y ≡ joinedAt start n x → NodesWritten start (n + 1) e y (slotBytes (slot 3 0 0) ++ l)
+  join-written start n x y l h p q =
+      let i = 1 + start * nodeSlotLength in
+      let top = 1 + n * nodeSlotLength in
+      let b = slotBytes (slot 3 0 0) in
+      let u = take i e ++ l in
+      let a = length-take-le i e (omega (arith, p .ends)) in
+      let z : length u ≡ top = length-append (take i e) l ∙ omega (arith, p .ends) in
+      let c : x ≡ u ++ drop (i + length l) e = p .made ∙ sym (append-assoc (take i e) l (drop (i + length l) e)) in
+      let d : drop i (take top x) ≡ l = ap (drop i) (ap (take top) c ∙ take-at u (drop (i + length l) e) top z) ∙ drop-at (take i e) l i a in
+      let w = length-append b l in
+      record {
+        ends = omega (arith, p .ends);
+        fits = omega arith;
+        made = q ∙ (ap (λ m. pasted x i (b ++ m)) d ∙ pasted-over i l (b ++ l) e x (p .made) (omega arith) (omega (arith, p .ends)));
+      }
+
+pub bytes-or : (f g : Formula) → bytesOfNodes (Formula.or f g) ≡ (slotBytes (slot 3 0 0) ++ bytesOfNodes f) ++ bytesOfNodes g
+bytes-or f g = ap (λ l. slotBytes (slot 3 0 0) ++ l) (bind-append (λ f. slotBytes (slotOf f)) (nodes f) (nodes g)) ∙ sym (append-assoc (slotBytes (slot 3 0 0)) (bytesOfNodes f) (bytesOfNodes g))
