@@ -10,7 +10,7 @@ use Rattle.explainer.proofs.explain.Reads as explain-reads
 use Rattle.files.proofs.least.Reads as least-reads
 use Rattle.files.proofs.text_length.Reads as text-length-reads
 use Rattle.files.proofs.write_reply.Reads as write-reply-reads
-use mathlib.Core.Path.{_≡_, ap, _∙_, subst}
+use mathlib.Core.Path.{ap, _∙_, subst}
 use mathlib.Core.List.{List}
 use Prim.Native.Nat.{ℕ, min}
 use native.Mathlib.Omega.{arith}
