@@ -14,7 +14,7 @@ use Rattle.lts.specs.Steps.{labels}
 use Rattle.lts.specs.Prepared.{preparedTable}
 use Rattle.actl.specs.Prepared.{preparedFormula}
 use Rattle.explanations.specs.Demands.{FromTexts}
-use Rattle.explanations.specs.Explanation.{Explanation, andThen, explainReplied, tableExplained, formulaExplained, explaining}
+use Rattle.explanations.specs.Explanation.{Explanation, andThen, summary, explainReplied, tableExplained, formulaExplained, explaining}
 use Rattle.explainer.specs.Readings.{ReadBoth, Outcome}
 use Rattle.explanations.specs.BothTexts.{Read, readings, HoldsBoth, listingOf}
 use Rattle.explainer.specs.Promise.{Promise}
@@ -24,6 +24,8 @@ use Rattle.explainer.specs.declared.readings.BothRead.the-variants.{Read
 use Rattle.explainer.proofs.BothTexts.{enough}
 use Rattle.explainer.proofs.Explaining.{explanation-of-readings, readings-prepared}
 use Rattle.explanations.proofs.Demands.{explain-explains}
+use Rattle.explanations.proofs.Grammatical.{explaining-longest}
+use Rattle.lts.proofs.Laws.Refusals.{answers-refused}
 
 stopped : {A : Type 0} (b : Bool) (n f : ℕ) (r : Reply A) → b ≡ false → unless b n f r ≡ refusal n f
 stopped true n f r e = absurd (let z : _≡_ {A = ℕ} 0 1 = cc in omega arith)
@@ -64,6 +66,7 @@ module _ (tableText formulaText table formula rows edges : List ℕ) where
       → Promise tableText formulaText table table′ formula formula′ rows rows′ edges edges′ r
   promised r table′ formula′ rows′ edges′ s = record {
     outcome = s;
+    longest = λ n e. explaining-longest tableText formulaText table formula rows edges n (answers-refused summary E 6 n .0 (sym (s .reply) ∙ e));
     demands =
         subst₃ (λ x y z. FromTexts tableText formulaText x y z rows′ edges′) (sym (s .reply)) (sym (s .table-left)) (sym (s .formula-left))
         (subst₂ (FromTexts tableText formulaText (explainReplied E) (tableExplained E table) (formulaExplained E formula)) (sym (s .rows-left)) (sym (s .edges-left))
