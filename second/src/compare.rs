@@ -4,6 +4,7 @@
 use crate::entries::Entries;
 use crate::inputs::rng::filled;
 use crate::reply::Reply;
+use crate::tally::Outcome;
 
 /// So many bytes on either side of a lent buffer belong to nobody and must stay.
 const GUARD: usize = 16;
@@ -48,6 +49,13 @@ impl Answer {
 
 pub trait Case {
     const ENTRY: &'static str;
+    /// Whether the figure of an accepted call is its answer, 1 or 0.
+    const ANSWERS: bool = false;
+
+    fn outcome(reply: Reply) -> Outcome {
+        let is_one_of_few = matches!(reply.number, 10 | 14) || (reply.number == 0 && Self::ANSWERS);
+        Outcome { number: reply.number, figure: is_one_of_few.then_some(reply.figure) }
+    }
 
     /// None if the explainer lacks the entry.
     fn answer(&self, of: &Entries) -> Option<Answer>;
@@ -118,6 +126,7 @@ impl Case for ReadFormula {
 
 impl Case for Verdict {
     const ENTRY: &'static str = "verdict";
+    const ANSWERS: bool = true;
 
     fn answer(&self, of: &Entries) -> Option<Answer> {
         let (table, formula) = (self.table.clone(), self.formula.clone());
@@ -156,6 +165,7 @@ impl Case for Build {
 
 impl Case for Accepts {
     const ENTRY: &'static str = "accepts";
+    const ANSWERS: bool = true;
 
     fn answer(&self, of: &Entries) -> Option<Answer> {
         let (table, formula) = (self.table.clone(), self.formula.clone());

@@ -1,21 +1,29 @@
 //! Random calls of every entry, each made of two explainers and compared.
 
-use std::collections::BTreeMap;
+use std::fmt;
 
 use crate::compare::{self, Case, Lent, disagreement};
 use crate::entries::{EDGE_PLACE, Entries, ROW_PLACE};
-use crate::formula::{Formula, MAX_NODES, Node, Set};
-use crate::inputs::questions::{self, Question};
+use crate::inputs::kinds::{self, Kind, Kinds, Way, way};
+use crate::inputs::lending::{self, LENGTHS, lend};
 use crate::inputs::rng::Rng;
-use crate::inputs::{buffer_length, formulas, lend_prepared, tables, words};
+use crate::inputs::{formulas, questions, tables, words};
 use crate::listing::Listing;
-use crate::prepared::{self, FORMULA_LENGTH, TABLE_LENGTH};
-use crate::table::{MAX_LABELS, MAX_STATES, MAX_TRANSITIONS};
+use crate::prepared::{FORMULA_LENGTH, TABLE_LENGTH};
+use crate::tally::{Expected, Tally};
 
-/// What was compared: an entry, and how often each number was answered.
-pub struct Agreement {
-    pub entry: &'static str,
-    pub numbers: BTreeMap<u32, u64>,
+/// The first input to which the answers differ, and how.
+#[derive(Debug, PartialEq, Eq)]
+pub struct Disagreement {
+    pub seed: u64,
+    pub index: u64,
+    pub told: String,
+}
+
+impl fmt::Display for Disagreement {
+    fn fmt(&self, to: &mut fmt::Formatter) -> fmt::Result {
+        write!(to, "input {} of seed {}\n{}", self.index, self.seed, self.told)
+    }
 }
 
 /// Compares so many calls of each entry that the other explainer has. Stops at a disagreement.
@@ -24,8 +32,8 @@ pub fn run(
     other: &Entries,
     seed: u64,
     count: u64,
-    mut agreed: impl FnMut(Agreement),
-) -> Result<(), String> {
+    mut agreed: impl FnMut(Tally),
+) -> Result<(), Disagreement> {
     let calls = Calls { second, other, seed, count };
     calls.compare(read_table)?.map(&mut agreed);
     calls.compare(read_formula)?.map(&mut agreed);
@@ -43,88 +51,147 @@ struct Calls<'a> {
 }
 
 impl Calls<'_> {
-    fn compare<C: Case>(&self, make: fn(&mut Rng) -> C) -> Result<Option<Agreement>, String> {
-        let mut numbers = BTreeMap::new();
+    fn compare<C: Case>(
+        &self,
+        make: fn(&mut Rng) -> Input<C>,
+    ) -> Result<Option<Tally>, Disagreement> {
+        let mut tally = Tally::new(C::ENTRY);
         for index in 0..self.count {
-            let case = make(&mut Rng::of_input(self.seed, C::ENTRY, index));
+            let Input { case, kinds } = make(&mut Rng::of_input(self.seed, C::ENTRY, index));
             let Some(other) = case.answer(self.other) else {
                 return Ok(None);
             };
             let second = case.answer(self.second).expect("the second explainer has all");
-            *numbers.entry(second.reply.number).or_default() += 1;
+            tally.count(&kinds, C::outcome(second.reply));
             if let Some(told) = disagreement(&case, &second, &other) {
-                return Err(format!("input {index} of seed {}\n{told}", self.seed));
+                return Err(Disagreement { seed: self.seed, index, told });
             }
         }
-        Ok(Some(Agreement { entry: C::ENTRY, numbers }))
+        Ok(Some(tally))
     }
+}
+
+/// With so many inputs of an entry every expected answer and kind occurs.
+pub const ENOUGH: u64 = 40_000;
+
+/// An expected number is answered at least once in so many inputs.
+const ONCE_IN: u64 = 200;
+
+/// What should have occurred among enough inputs and did not.
+pub fn missing(tally: &Tally) -> Vec<String> {
+    let (numbers, expected) = expected(tally.of);
+    tally.missing(numbers, ONCE_IN, &expected)
+}
+
+fn expected(entry: &str) -> (&'static [u32], Vec<Expected>) {
+    let questions = || {
+        let [table, formula] =
+            [lending::expected(&lending::TABLE), lending::expected(&lending::FORMULA)];
+        questions::expected().into_iter().chain(table).chain(formula)
+    };
+    match entry {
+        "read_table" => {
+            let texts = kinds::expected(TEXT, &tables::TEXTS);
+            let lengths = kinds::expected(WRITTEN, &LENGTHS);
+            (&[0, 1, 2, 3, 4, 14], texts.into_iter().chain(lengths).collect())
+        }
+        "read_formula" => {
+            let texts = kinds::expected(TEXT, &formulas::TEXTS);
+            let lengths = kinds::expected(WRITTEN, &LENGTHS);
+            let lent = lending::expected(&lending::TABLE);
+            let all = texts.into_iter().chain(lengths).chain(lent).collect();
+            (&[0, 5, 6, 7, 8, 9, 10, 14], all)
+        }
+        "verdict" => (&[0, 10, 14], questions().collect()),
+        "build" => {
+            let rows = kinds::expected(ROWS, &PLACES);
+            let edges = kinds::expected(EDGES, &PLACES);
+            (&[0, 10, 11, 12, 14], questions().chain(rows).chain(edges).collect())
+        }
+        "accepts" => {
+            let words =
+                words::expected().into_iter().chain([questions::expected_with_long_words()]);
+            (&[0, 10, 13, 14], questions().chain(words).collect())
+        }
+        _ => unreachable!("no other entry is compared"),
+    }
+}
+
+const TEXT: &str = "text";
+const WRITTEN: &str = "written buffer";
+const ROWS: &str = "places for rows";
+const EDGES: &str = "places for edges";
+
+/// A call and what it is an example of.
+pub struct Input<C> {
+    pub case: C,
+    pub kinds: Vec<Kind>,
 }
 
 fn lent(rng: &mut Rng, length: usize) -> Lent {
     Lent { length, fill: rng.draw() }
 }
 
-pub fn read_table(rng: &mut Rng) -> compare::ReadTable {
-    let length = buffer_length(rng, TABLE_LENGTH);
-    compare::ReadTable { text: tables::text(rng), table: lent(rng, length) }
+pub fn read_table(rng: &mut Rng) -> Input<compare::ReadTable> {
+    let mut kinds = Kinds::default();
+    let length = kinds.make(rng, WRITTEN, &LENGTHS, &TABLE_LENGTH);
+    let size = tables::size(rng, 40);
+    let table = tables::table(rng, size);
+    let text = kinds.make(rng, TEXT, &tables::TEXTS, &table);
+    Input { case: compare::ReadTable { text, table: lent(rng, length) }, kinds: kinds.0 }
 }
 
-pub fn read_formula(rng: &mut Rng) -> compare::ReadFormula {
+pub fn read_formula(rng: &mut Rng) -> Input<compare::ReadFormula> {
+    let mut kinds = Kinds::default();
     let size = tables::size(rng, 60);
     let table = tables::table(rng, size);
-    let bytes = match rng.one_in(24) {
-        true => tables::damaged_prepared(rng, &table),
-        false => prepared::table_bytes(&table),
-    };
-    let length = buffer_length(rng, FORMULA_LENGTH);
-    compare::ReadFormula {
-        table: lend_prepared(rng, bytes),
-        text: formulas::text(rng, &table),
-        formula: lent(rng, length),
-    }
+    let bytes = lend(rng, &mut kinds, &lending::TABLE, &table);
+    let length = kinds.make(rng, WRITTEN, &LENGTHS, &FORMULA_LENGTH);
+    let text = kinds.make(rng, TEXT, &formulas::TEXTS, &table);
+    let case = compare::ReadFormula { table: bytes, text, formula: lent(rng, length) };
+    Input { case, kinds: kinds.0 }
 }
 
-pub fn verdict(rng: &mut Rng) -> compare::Verdict {
-    let question = questions::question(rng, 40);
-    let (table, formula) = questions::lent(rng, &question);
-    compare::Verdict { table, formula }
+pub fn verdict(rng: &mut Rng) -> Input<compare::Verdict> {
+    let mut kinds = Kinds::default();
+    let question = questions::of_any_size(rng, &mut kinds, 40, 250);
+    let table = lend(rng, &mut kinds, &lending::TABLE, &question.table);
+    let formula = lend(rng, &mut kinds, &lending::FORMULA, &question);
+    Input { case: compare::Verdict { table, formula }, kinds: kinds.0 }
 }
 
-pub fn build(rng: &mut Rng) -> compare::Build {
-    let question = match rng.one_in(5_000) {
-        true => longest_listing(rng),
-        false => questions::question(rng, 100),
-    };
-    let (table, formula) = questions::lent(rng, &question);
+pub fn build(rng: &mut Rng) -> Input<compare::Build> {
+    let mut kinds = Kinds::default();
+    let question = questions::of_any_size(rng, &mut kinds, 100, 400);
+    let table = lend(rng, &mut kinds, &lending::TABLE, &question.table);
+    let formula = lend(rng, &mut kinds, &lending::FORMULA, &question);
     let listing = Listing::of(&question.table, &question.formula);
-    let rows = places(rng, listing.rows.len(), ROW_PLACE);
-    let edges = places(rng, listing.edges.len(), EDGE_PLACE);
-    compare::Build { table, formula, rows: lent(rng, rows), edges: lent(rng, edges) }
+    let rows = kinds.make(rng, ROWS, &PLACES, &listing.rows.len());
+    let edges = kinds.make(rng, EDGES, &PLACES, &listing.edges.len());
+    let [rows, edges] = [(rows, ROW_PLACE), (edges, EDGE_PLACE)]
+        .map(|(places, size)| places * size + rng.pick(&[0, 0, 1, size - 1]));
+    let case = compare::Build { table, formula, rows: lent(rng, rows), edges: lent(rng, edges) };
+    Input { case, kinds: kinds.0 }
 }
 
-/// The bytes of as many places as are needed, one too few, or more, with a part of one left over.
-fn places(rng: &mut Rng, needed: usize, place: usize) -> usize {
-    let places = match rng.below(10) {
-        0 => needed.saturating_sub(1),
-        1 => rng.below(needed + 1),
-        2 => needed + rng.below(8),
-        _ => needed,
+/// Places lent where so many are needed; a part of one may be left over.
+const PLACES: [Way<usize, usize>; 4] = [
+    way("as many as needed", 7, &[0], |_, &needed| needed),
+    way("one too few", 1, &[], |_, &needed| needed.saturating_sub(1)),
+    way("too few or enough", 1, &[], |rng, &needed| rng.below(needed + 1)),
+    way("more", 1, &[0], |rng, &needed| needed + rng.between(1, 8)),
+];
+
+pub fn accepts(rng: &mut Rng) -> Input<compare::Accepts> {
+    let mut kinds = Kinds::default();
+    let length = words::length(rng);
+    let question = match length >= words::LONG && !rng.one_in(4) {
+        true => questions::with_long_words(rng, &mut kinds, 100),
+        false => questions::of_any_size(rng, &mut kinds, 100, 1_000),
     };
-    places * place + rng.pick(&[0, 0, 1, place - 1])
-}
-
-/// About 10,000 rows and hundreds of thousands of edges: a chain of untils over all states.
-pub fn longest_listing(rng: &mut Rng) -> Question {
-    let table = tables::with_counts(rng, MAX_STATES, MAX_LABELS, MAX_TRANSITIONS);
-    let all = Set::all(MAX_LABELS);
-    let mut nodes: Vec<Node> = (1..MAX_NODES).map(|arm| Node::Until(all, arm)).collect();
-    nodes.push(Node::True);
-    Question { table, formula: Formula { nodes } }
-}
-
-pub fn accepts(rng: &mut Rng) -> compare::Accepts {
-    let question = questions::question(rng, 100);
-    let (table, formula) = questions::lent(rng, &question);
+    let table = lend(rng, &mut kinds, &lending::TABLE, &question.table);
+    let formula = lend(rng, &mut kinds, &lending::FORMULA, &question);
     let listing = Listing::of(&question.table, &question.formula);
-    compare::Accepts { table, formula, word: words::word(rng, &listing, question.table.labels()) }
+    let word = words::word(rng, &mut kinds, &listing, question.table.labels(), length);
+    Input { case: compare::Accepts { table, formula, word }, kinds: kinds.0 }
 }

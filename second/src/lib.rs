@@ -21,5 +21,6 @@ pub mod program;
 pub mod reply;
 pub mod run;
 pub mod table;
+pub mod tally;
 pub mod verdict;
 pub mod word;

@@ -1,6 +1,5 @@
 //! The commands of the second explainer.
 
-use std::collections::BTreeMap;
 use std::fs;
 use std::io::{self, Write};
 use std::path::Path;
@@ -9,6 +8,7 @@ use std::time::Instant;
 
 use second::digests::answers::Explainer;
 use second::entries::SECOND;
+use second::tally::{self, Tally};
 use second::{bench, corpus, digests, fuzz, link, print, program};
 
 const USAGE: &str = "second explain FOLDER
@@ -84,22 +84,20 @@ fn program(file: &Path, seed: u64, count: u64) -> ExitCode {
             println!("{told}");
             ExitCode::FAILURE
         }
-        Ok(numbers) => {
+        Ok(tally) => {
             let seconds = begin.elapsed().as_secs_f64();
-            println!("program: {count} folders agree, {seconds:.1} s ({})", listed(&numbers));
-            ExitCode::SUCCESS
+            println!("program: {count} folders agree, {seconds:.1} s");
+            all_occurred(&[tally], count >= program::ENOUGH, program::missing)
         }
     }
 }
 
 fn fuzz(seed: u64, count: u64) -> ExitCode {
-    let mut compared = 0;
+    let mut tallies = Vec::new();
     let mut begin = Instant::now();
-    let outcome = fuzz::run(&SECOND, &link::library(), seed, count, |agreement| {
-        let seconds = begin.elapsed().as_secs_f64();
-        let (entry, numbers) = (agreement.entry, listed(&agreement.numbers));
-        println!("{entry}: {count} inputs agree, {seconds:.1} s ({numbers})");
-        compared += 1;
+    let outcome = fuzz::run(&SECOND, &link::library(), seed, count, |tally| {
+        println!("{}: {count} inputs agree, {:.1} s", tally.of, begin.elapsed().as_secs_f64());
+        tallies.push(tally);
         begin = Instant::now();
     });
     match outcome {
@@ -107,11 +105,32 @@ fn fuzz(seed: u64, count: u64) -> ExitCode {
             println!("{told}");
             ExitCode::FAILURE
         }
-        Ok(()) if compared == 0 => {
+        Ok(()) if tallies.is_empty() => {
             eprintln!("second: no feature links an entry of the library, so nothing was compared");
             ExitCode::from(2)
         }
-        Ok(()) => ExitCode::SUCCESS,
+        Ok(()) => all_occurred(&tallies, count >= fuzz::ENOUGH, fuzz::missing),
+    }
+}
+
+/// Prints what occurred; among enough inputs, whatever did not occur is a failure.
+fn all_occurred(
+    tallies: &[Tally],
+    are_enough: bool,
+    missing: fn(&Tally) -> Vec<String>,
+) -> ExitCode {
+    print!("{}", tally::table(tallies));
+    let missing: Vec<String> = tallies.iter().flat_map(missing).collect();
+    for told in &missing {
+        println!("{told}");
+    }
+    match (missing.is_empty(), are_enough) {
+        (true, _) => ExitCode::SUCCESS,
+        (false, true) => ExitCode::FAILURE,
+        (false, false) => {
+            println!("these were too few inputs to expect all of that");
+            ExitCode::SUCCESS
+        }
     }
 }
 
@@ -150,11 +169,4 @@ fn each_digest(explainer: &Explainer, entry: &str, name: &str) -> Result<ExitCod
     let kind = kind.ok_or_else(|| format!("{entry} has no kind {name}"))?;
     digests::each(explainer, &kind, |line| println!("{line}"))?;
     Ok(ExitCode::SUCCESS)
-}
-
-/// How often each number was answered.
-fn listed(numbers: &BTreeMap<u32, u64>) -> String {
-    let numbers: Vec<String> =
-        numbers.iter().map(|(number, times)| format!("{number}: {times}")).collect();
-    numbers.join(", ")
 }

@@ -1,36 +1,50 @@
 //! The program `explain`, run in random folders: what it writes is the second explainer's text, and
 //! nothing else happens.
 
-use std::collections::BTreeMap;
 use std::fs;
 use std::io;
 use std::path::Path;
 use std::process::{Command, Output, Stdio};
 
-use crate::inputs::folders::{self, File, Files};
+use crate::inputs::folders::{self, File, Files, WAYS};
+use crate::inputs::kinds::{Kind, must};
 use crate::print;
+use crate::tally::{Outcome, Tally};
 
 /// As many bytes of a file or an output are shown.
 const SHOWN: usize = 2_000;
 
-/// How often each number was answered, 0 for a listing.
-pub type Numbers = BTreeMap<u32, u64>;
+const PART: &str = "folder";
+
+/// With so many folders every expected number and every way to make one occurs.
+pub const ENOUGH: u64 = 2_000;
+
+/// An expected number is answered at least once in so many folders.
+const ONCE_IN: u64 = 150;
+
+const NUMBERS: [u32; 12] = [0, 1, 2, 3, 4, 5, 6, 7, 8, 9, 11, 12];
+
+/// What should have occurred among enough folders and did not.
+pub fn missing(tally: &Tally) -> Vec<String> {
+    let expected: Vec<_> = WAYS.iter().map(|way| must(PART, way.name, way.numbers)).collect();
+    tally.missing(&NUMBERS, ONCE_IN, &expected)
+}
 
 /// Makes so many folders, one after the other in one place, and runs the program in each. The first
-/// in which it differs is told and kept.
+/// in which it differs is told and kept. A listing is counted as number 0.
 pub fn run(
     explain: impl Fn(&Path) -> io::Result<Output>,
     place: &Path,
     seed: u64,
     count: u64,
-) -> Result<Numbers, String> {
-    let mut numbers = Numbers::new();
+) -> Result<Tally, String> {
+    let mut tally = Tally::new("program");
     for index in 0..count {
-        let (kind, files) = folders::folder(seed, index);
+        let (way, files) = folders::folder(seed, index);
         let expected = print::explain_files(files.table.contents(), files.formula.contents());
         let told = |told: String| {
             let [table, formula] = [shown_file(&files.table), shown_file(&files.formula)];
-            let (name, folder) = (kind.name, place.display());
+            let (name, folder) = (way.name, place.display());
             format!(
                 "folder {index} of seed {seed} ({name}), kept as {folder}\n\
                 table.txt: {table}\nformula.txt: {formula}\n{told}"
@@ -42,9 +56,10 @@ pub fn run(
             return Err(told(difference));
         }
         fs::remove_dir_all(place).map_err(|error| told(error.to_string()))?;
-        *numbers.entry(number(&expected)).or_default() += 1;
+        let kind = Kind { part: PART, name: way.name };
+        tally.count(&[kind], Outcome::of(number(&expected)));
     }
-    Ok(numbers)
+    Ok(tally)
 }
 
 /// The output of a program with this folder as its current one.

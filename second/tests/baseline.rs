@@ -8,15 +8,15 @@ use second::compare::{Case, disagreement};
 use second::entries::SECOND;
 use second::formula::MAX_BYTES;
 use second::fuzz;
+use second::inputs::questions;
 use second::inputs::rng::Rng;
 use second::prepared::{self, FORMULA_LENGTH};
 
 #[test]
 fn random_calls_agree_and_reach_every_refusal() {
     let mut reached: BTreeMap<&str, BTreeSet<u32>> = BTreeMap::new();
-    let outcome = fuzz::run(&SECOND, &BASELINE, 21, 20_000, |agreement| {
-        let numbers = agreement.numbers.into_keys().collect();
-        reached.insert(agreement.entry, numbers);
+    let outcome = fuzz::run(&SECOND, &BASELINE, 21, 20_000, |tally| {
+        reached.insert(tally.of, tally.numbers().into_keys().collect());
     });
     assert_eq!(outcome, Ok(()));
     let expected: BTreeMap<&str, BTreeSet<u32>> = BTreeMap::from([
@@ -32,7 +32,7 @@ fn random_calls_agree_and_reach_every_refusal() {
 #[test]
 fn the_longest_listings_agree() {
     for seed in 0..3 {
-        let question = fuzz::longest_listing(&mut Rng::new(seed));
+        let question = questions::longest_listing(&mut Rng::new(seed));
         let lent = |length| Lent { length, fill: seed };
         let case = compare::Build {
             table: prepared::table_bytes(&question.table),

@@ -2,13 +2,15 @@
 
 use second::entries::{self, Entries, SECOND};
 use second::fuzz;
+use second::inputs::kinds::Kind;
 use second::prepared::{FORMULA_LENGTH, TABLE_LENGTH};
 use second::reply::Reply;
+use second::tally::{Outcome, Tally};
 
 /// What the comparison tells of an explainer that is wrong in one entry.
 fn told(wrong: Entries) -> String {
     let outcome = fuzz::run(&SECOND, &wrong, 31, 3_000, |_| ());
-    outcome.expect_err("the fault is found")
+    outcome.expect_err("the fault is found").to_string()
 }
 
 #[test]
@@ -20,8 +22,28 @@ fn a_right_explainer_is_not_blamed() {
 fn a_missing_entry_is_not_compared() {
     let mut compared = Vec::new();
     let wrong = Entries { verdict: SECOND.verdict, ..Entries::default() };
-    let outcome = fuzz::run(&SECOND, &wrong, 31, 10, |agreement| compared.push(agreement.entry));
+    let outcome = fuzz::run(&SECOND, &wrong, 31, 10, |tally| compared.push(tally.of));
     assert_eq!((outcome, compared), (Ok(()), vec!["verdict"]));
+}
+
+#[test]
+fn a_number_or_a_kind_of_input_that_dries_up_is_told() {
+    let mut tallies = Vec::new();
+    let outcome = fuzz::run(&SECOND, &SECOND, 31, 2_000, |tally| tallies.push(tally));
+    assert_eq!(outcome, Ok(()));
+    let accepts = &mut tallies[4];
+    let told = |tally: &Tally| fuzz::missing(tally).join("\n");
+    let before = told(accepts);
+    accepts.outcomes.retain(|outcome, _| outcome.number != 13);
+    assert!(!before.contains("13 was answered too seldom"), "{before}");
+    assert!(told(accepts).contains("accepts: 13 was answered too seldom"));
+    let last_byte = Kind { part: "table damaged", name: "last byte" };
+    assert!(accepts.kinds.remove(&last_byte).is_some());
+    assert!(told(accepts).contains("accepts: no table damaged: last byte"));
+    let long = Kind { part: "word", name: "514 to 1,022 labels" };
+    let answers = accepts.kinds.get_mut(&long).expect("long words");
+    assert!(answers.remove(&Outcome::YES).is_some());
+    assert!(told(accepts).contains("accepts: no word: 514 to 1,022 labels answered 0, figure 1"));
 }
 
 #[test]

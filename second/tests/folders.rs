@@ -3,14 +3,14 @@
 use std::collections::BTreeMap;
 
 use second::formula::MAX_BYTES;
-use second::inputs::folders::{File, Files, KINDS, folder, largest_table};
+use second::inputs::folders::{File, Files, WAYS, folder, largest_table};
 use second::inputs::rng::Rng;
 use second::print;
 
 /// Many folders of a kind.
 fn made(name: &str) -> Vec<Files> {
-    let kind = KINDS.iter().find(|kind| kind.name == name).expect("a kind");
-    (0..150).map(|index| (kind.files)(&mut Rng::of_input(5, name, index))).collect()
+    let way = WAYS.iter().find(|way| way.name == name).expect("a way");
+    (0..150).map(|index| (way.files)(&mut Rng::of_input(5, name, index))).collect()
 }
 
 fn tables(name: &str) -> Vec<Vec<u8>> {
@@ -39,10 +39,10 @@ fn ends_in_line_end(text: &[u8]) -> bool {
 #[test]
 fn every_kind_appears() {
     let mut times = BTreeMap::new();
-    for index in 0..300 {
+    for index in 0..4 * 2 * WAYS.len() as u64 {
         *times.entry(folder(5, index).0.name).or_insert(0) += 1;
     }
-    assert_eq!(times.len(), KINDS.len());
+    assert_eq!(times.len(), WAYS.len());
     assert!(times.values().all(|&times| times >= 4));
 }
 
@@ -139,18 +139,17 @@ fn long_tables_have_each_length_from_20281_to_20300_and_a_megabyte() {
 
 #[test]
 fn listings_reach_the_limits_and_one_more() {
-    let kind = "rows and edges at the limits";
-    answers(kind, "     1     1  1024  4096\n");
-    answers(kind, "     1     1  1023  4095\n");
-    answers(kind, "    11  1025\n");
-    answers(kind, "    12  4097\n");
-    let line = |text: &String| text.lines().next().expect("a line").to_owned();
-    let lines: Vec<String> = texts(kind).iter().map(line).collect();
-    let of = |counts: &dyn Fn(&str, &str) -> bool| {
-        lines.iter().any(|line| line.len() == 24 && counts(&line[12..18], &line[18..]))
+    answers("rows and edges at the limits", "     1     1  1024  4096\n");
+    answers("rows and edges at the limits", "     1     1  1023  4095\n");
+    answers("rows and edges at the limits", "    11  1025\n");
+    answers("rows at the limit", "     1     1  1024 ");
+    answers("rows at the limit", "    11  1025\n");
+    answers("edges at the limit", "    12  4097\n");
+    let fewer_rows_and_all_edges = |text: &String| {
+        let line = text.lines().next().expect("a line");
+        line.len() == 24 && &line[12..18] < "  1023" && &line[18..] == "  4096"
     };
-    assert!(of(&|rows, edges| rows == "  1024" && edges != "  4096"));
-    assert!(of(&|rows, edges| rows != "  1024" && edges == "  4096"));
+    assert!(texts("edges at the limit").iter().any(fewer_rows_and_all_edges));
 }
 
 #[test]
@@ -159,14 +158,20 @@ fn every_number_that_the_program_can_print_appears() {
         ("whole texts", "     1     1"),
         ("whole texts", "     0     2"),
         ("table of any text", "     1 "),
-        ("table of any text", "     2 "),
+        ("number out of range", "     2     1\n"),
+        ("number out of range", "     2  10"),
         ("name used twice", "     3 "),
-        ("table: line doubled", "     4 "),
+        ("transition not above", "     4 "),
         ("formula of any text", "     6 "),
-        ("formula of any text", "     7 "),
+        ("name that the table lacks", "     7 "),
         ("formula of about 40 nodes", "     8    41\n"),
         ("formula of about 40 nodes", "     8    42\n"),
-        ("formula of any text", "     9 "),
+        ("over 40 nodes", "     8    4"),
+        ("over 40 nodes", "     8    5"),
+        ("node without class", "     9     0\n"),
+        ("node without class", "     9    1"),
+        ("more rows than places", "    11  2"),
+        ("more edges than places", "    12  6"),
     ] {
         answers(kind, number);
     }

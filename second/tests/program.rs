@@ -5,7 +5,7 @@ use std::fs;
 use std::path::{Path, PathBuf};
 use std::process::{ExitStatus, Output};
 
-use second::inputs::folders::{KINDS, folder};
+use second::inputs::folders::{WAYS, folder};
 use second::print;
 use second::program;
 
@@ -43,24 +43,24 @@ fn told_of_files(test: &str, wrong: fn(Vec<u8>, Vec<u8>) -> Vec<u8>) -> String {
 fn a_right_program_is_not_blamed_and_leaves_no_folder() {
     let place = place("right");
     let right = |folder: &Path| Ok(says(print::explain_folder(folder)));
-    let numbers = program::run(right, &place, SEED, COUNT).expect("no difference");
-    assert_eq!(numbers.values().sum::<u64>(), COUNT);
+    let tally = program::run(right, &place, SEED, COUNT).expect("no difference");
+    assert_eq!(tally.inputs, COUNT);
     assert!(!place.exists());
 }
 
 #[test]
 fn a_byte_changed_in_any_one_kind_is_found() {
-    for kind in &KINDS {
+    for way in &WAYS {
         let index = Cell::new(0);
         let told = told("byte", |place| {
             let mut text = print::explain_folder(place);
-            if folder(SEED, index.replace(index.get() + 1)).0.name == kind.name {
+            if folder(SEED, index.replace(index.get() + 1)).0.name == way.name {
                 let middle = text.len() / 2;
                 text[middle] ^= 1;
             }
             says(text)
         });
-        assert!(told.contains(&format!("({})", kind.name)), "{told}");
+        assert!(told.contains(&format!("({})", way.name)), "{told}");
     }
 }
 

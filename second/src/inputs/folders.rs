@@ -2,10 +2,11 @@
 //! file can be.
 
 use super::edits::{self, Edit};
+use super::kinds::pick;
 use super::questions::{Question, question};
 use super::rng::Rng;
 use super::{formulas, tables};
-use crate::formula::MAX_BYTES;
+use crate::formula::{MAX_BYTES, MAX_NODES};
 use crate::table::{MAX_LABELS, MAX_NAME, MAX_STATES, MAX_TRANSITIONS, Step, Table};
 
 pub enum File {
@@ -30,77 +31,105 @@ pub struct Files {
     pub formula: File,
 }
 
-pub struct Kind {
+/// One way to make both files.
+pub struct Way {
     pub name: &'static str,
+    /// The numbers that some of its folders must be answered by, 0 for a listing.
+    pub numbers: &'static [u32],
     pub files: fn(&mut Rng) -> Files,
 }
 
-const fn kind(name: &'static str, files: fn(&mut Rng) -> Files) -> Kind {
-    Kind { name, files }
+const fn way(name: &'static str, numbers: &'static [u32], files: fn(&mut Rng) -> Files) -> Way {
+    Way { name, numbers, files }
 }
 
-pub const KINDS: [Kind; 37] = [
-    kind("whole texts", |rng| whole(rng).files()),
-    kind("table of any text", |rng| Texts { table: tables::text(rng), ..whole(rng) }.files()),
-    kind("formula of any text", |rng| over(rng, small_table).files()),
-    kind("name used twice", name_used_twice),
-    kind("formula of about 40 nodes", |rng| {
+pub const WAYS: [Way; 46] = [
+    way("whole texts", &[0], |rng| whole(rng).files()),
+    way("table of any text", &[0, 1], |rng| with_table(rng, any_table_text)),
+    way("formula of any text", &[0, 6], |rng| over(rng, small_table).files()),
+    way("number out of range", &[2], |rng| with_table(rng, tables::out_of_range)),
+    way("name used twice", &[3], |rng| with_table(rng, tables::name_used_twice)),
+    way("transition not above", &[4], |rng| with_table(rng, tables::not_above)),
+    way("name that the table lacks", &[7], |rng| with_formula(rng, formulas::lacking_name)),
+    way("over 40 nodes", &[8], |rng| with_formula(rng, formulas::over_forty_nodes)),
+    way("node without class", &[9], |rng| with_formula(rng, formulas::without_class)),
+    way("formula of about 40 nodes", &[0, 8], |rng| {
         formula_edited(rng, |rng, text| {
             text.splice(.., std::iter::repeat_n(b'~', rng.between(38, 41)).chain([b'T']));
         })
     }),
-    kind("table: byte changed", |rng| table_edited(rng, edits::change)),
-    kind("table: byte inserted", |rng| table_edited(rng, edits::insert)),
-    kind("table: byte removed", |rng| table_edited(rng, edits::remove)),
-    kind("table: cut", |rng| table_edited(rng, edits::cut)),
-    kind("table: line doubled", |rng| table_edited(rng, edits::double_line)),
-    kind("table: bytes after the last line", |rng| table_edited(rng, edits::append)),
-    kind("table: no LF at the end", |rng| table_edited(rng, edits::without_end)),
-    kind("table: CRLF", |rng| table_edited(rng, edits::carriage_return)),
-    kind("formula: byte changed", |rng| formula_edited(rng, edits::change)),
-    kind("formula: byte inserted", |rng| formula_edited(rng, edits::insert)),
-    kind("formula: byte removed", |rng| formula_edited(rng, edits::remove)),
-    kind("formula: cut", |rng| formula_edited(rng, edits::cut)),
-    kind("formula: line doubled", |rng| formula_edited(rng, edits::double_line)),
-    kind("formula: bytes after the line", |rng| formula_edited(rng, edits::append)),
-    kind("formula: no LF at the end", |rng| formula_edited(rng, edits::without_end)),
-    kind("formula: CRLF", |rng| formula_edited(rng, edits::carriage_return)),
-    kind("table missing", |rng| Files { table: File::Missing, ..whole(rng).files() }),
-    kind("formula missing", |rng| Files { formula: File::Missing, ..whole(rng).files() }),
-    kind("both missing", |_| Files { table: File::Missing, formula: File::Missing }),
-    kind("table empty", |rng| table_edited(rng, |_, text| text.clear())),
-    kind("formula empty", |rng| formula_edited(rng, |_, text| text.clear())),
-    kind("both empty", |_| Texts { table: Vec::new(), formula: Vec::new() }.files()),
-    kind("table a folder", |rng| Files { table: File::Folder, ..whole(rng).files() }),
-    kind("formula a folder", |rng| Files { formula: File::Folder, ..whole(rng).files() }),
-    kind("both folders", |_| Files { table: File::Folder, formula: File::Folder }),
-    kind("formula of about 512 bytes", |rng| {
+    way("table: byte changed", &[1], |rng| table_edited(rng, edits::change)),
+    way("table: byte inserted", &[1], |rng| table_edited(rng, edits::insert)),
+    way("table: byte removed", &[1], |rng| table_edited(rng, edits::remove)),
+    way("table: cut", &[1], |rng| table_edited(rng, edits::cut)),
+    way("table: line doubled", &[1, 4], |rng| table_edited(rng, edits::double_line)),
+    way("table: bytes after the last line", &[1], |rng| table_edited(rng, edits::append)),
+    way("table: no LF at the end", &[1], |rng| table_edited(rng, edits::without_end)),
+    way("table: CRLF", &[1], |rng| table_edited(rng, edits::carriage_return)),
+    way("formula: byte changed", &[6], |rng| formula_edited(rng, edits::change)),
+    way("formula: byte inserted", &[6], |rng| formula_edited(rng, edits::insert)),
+    way("formula: byte removed", &[6], |rng| formula_edited(rng, edits::remove)),
+    way("formula: cut", &[6], |rng| formula_edited(rng, edits::cut)),
+    way("formula: line doubled", &[6], |rng| formula_edited(rng, edits::double_line)),
+    way("formula: bytes after the line", &[6], |rng| formula_edited(rng, edits::append)),
+    way("formula: no LF at the end", &[0], |rng| formula_edited(rng, edits::without_end)),
+    way("formula: CRLF", &[6], |rng| formula_edited(rng, edits::carriage_return)),
+    way("table missing", &[1], |rng| Files { table: File::Missing, ..whole(rng).files() }),
+    way("formula missing", &[6], |rng| Files { formula: File::Missing, ..whole(rng).files() }),
+    way("both missing", &[1], |_| Files { table: File::Missing, formula: File::Missing }),
+    way("table empty", &[1], |rng| table_edited(rng, |_, text| text.clear())),
+    way("formula empty", &[6], |rng| formula_edited(rng, |_, text| text.clear())),
+    way("both empty", &[1], |_| Texts { table: Vec::new(), formula: Vec::new() }.files()),
+    way("table a folder", &[1], |rng| Files { table: File::Folder, ..whole(rng).files() }),
+    way("formula a folder", &[6], |rng| Files { formula: File::Folder, ..whole(rng).files() }),
+    way("both folders", &[1], |_| Files { table: File::Folder, formula: File::Folder }),
+    way("formula of about 512 bytes", &[0, 5], |rng| {
         let length = rng.between(MAX_BYTES - 1, MAX_BYTES + 3);
         long_formula(rng, length)
     }),
-    kind("formula of about a power of two", |rng| {
+    way("formula of about a power of two", &[5], |rng| {
         let length = (1 << rng.between(10, 17)) + rng.between(0, 2) - 1;
         long_formula(rng, length)
     }),
-    kind("formula of a megabyte", |rng| {
+    way("formula of a megabyte", &[5], |rng| {
         let length = (1 << 20) + rng.between(0, 2) - 1;
         long_formula(rng, length)
     }),
-    kind("largest table", |rng| over(rng, largest_table).files()),
-    kind("table of 20,281 to 20,300 bytes", |rng| {
+    way("largest table", &[0], |rng| over(rng, largest_table).files()),
+    way("table of 20,281 to 20,300 bytes", &[1], |rng| {
         let length = rng.between(20_281, 20_300);
         long_table(rng, length)
     }),
-    kind("table of a megabyte", |rng| long_table(rng, 1 << 20)),
-    kind("rows and edges at the limits", at_the_limits),
+    way("table of a megabyte", &[1], |rng| long_table(rng, 1 << 20)),
+    way("rows and edges at the limits", &[0, 11], |rng| at_the_limits(rng, 255, 1_023)),
+    way("rows at the limit", &[0, 11], |rng| {
+        let transitions = rng.between(255, 1_022);
+        at_the_limits(rng, 255, transitions)
+    }),
+    way("edges at the limit", &[0, 12], |rng| {
+        let states = rng.between(40, 254);
+        at_the_limits(rng, states, 1_023)
+    }),
+    way("more edges than places", &[12], |rng| {
+        let untils = rng.pick(&[3, 6, 12, MAX_NODES - 1]);
+        let states = rng.between(MAX_STATES / untils, (1_024 / untils).min(MAX_STATES));
+        let transitions = rng.between(500, MAX_TRANSITIONS);
+        untils_over(rng, untils, states, transitions)
+    }),
+    way("more rows than places", &[11], |rng| {
+        let untils = rng.between(5, MAX_NODES - 1);
+        let states = rng.between(1_024 / untils + 1, MAX_STATES);
+        let transitions = rng.between(3 * states, MAX_TRANSITIONS);
+        untils_over(rng, untils, states, transitions)
+    }),
 ];
 
-/// The same folder for the same seed and index. Every other one has whole texts, and the kinds take
+/// The same folder for the same seed and index. Every other one has whole texts, and the ways take
 /// turns at the others.
-pub fn folder(seed: u64, index: u64) -> (&'static Kind, Files) {
-    let turn = if index.is_multiple_of(2) { 0 } else { index / 2 % KINDS.len() as u64 };
-    let kind = &KINDS[turn as usize];
-    (kind, (kind.files)(&mut Rng::of_input(seed, kind.name, index)))
+pub fn folder(seed: u64, index: u64) -> (&'static Way, Files) {
+    let turn = if index.is_multiple_of(2) { 0 } else { index / 2 % WAYS.len() as u64 };
+    let way = &WAYS[turn as usize];
+    (way, (way.files)(&mut Rng::of_input(seed, way.name, index)))
 }
 
 struct Texts {
@@ -135,11 +164,33 @@ fn over(rng: &mut Rng, table: fn(&mut Rng) -> Table) -> Texts {
     Texts { table: table.text(), formula }
 }
 
-fn name_used_twice(rng: &mut Rng) -> Files {
-    let mut table = tables::with_counts(rng, 4, 5, 9);
-    let (label, again) = (rng.between(1, 4), rng.below(4));
-    table.names[label] = table.names[again.min(label - 1)].clone();
-    Texts { table: table.text(), ..whole(rng) }.files()
+/// A table's text made so of a small table or of the largest, beside a formula.
+fn with_table(rng: &mut Rng, text: fn(&mut Rng, &Table) -> Vec<u8>) -> Files {
+    let table = match rng.one_in(4) {
+        true => largest_table(rng),
+        false => small_table(rng),
+    };
+    Texts { table: text(rng, &table), ..whole(rng) }.files()
+}
+
+fn any_table_text(rng: &mut Rng, table: &Table) -> Vec<u8> {
+    (pick(rng, &tables::TEXTS).make)(rng, table)
+}
+
+/// A small table and a formula's text made so over it, ended by LF or not.
+fn with_formula(rng: &mut Rng, text: fn(&mut Rng, &Table) -> Vec<u8>) -> Files {
+    let table = small_table(rng);
+    let mut formula = text(rng, &table);
+    edits::end_or_not(rng, &mut formula);
+    Texts { table: table.text(), formula }.files()
+}
+
+/// So many untils one in the other: about as many rows for each state, and about half the square
+/// of that edges for each transition.
+fn untils_over(rng: &mut Rng, untils: usize, states: usize, transitions: usize) -> Files {
+    let table = tables::with_counts(rng, states, 4, transitions);
+    let formula = ["EU[*] ".repeat(untils), "T\n".into()].concat().into_bytes();
+    Texts { table: table.text(), formula }.files()
 }
 
 fn table_edited(rng: &mut Rng, edit: Edit) -> Files {
@@ -195,13 +246,8 @@ fn long_table(rng: &mut Rng, length: usize) -> Files {
     texts.files()
 }
 
-/// Listings of 1,023 to 1,025 rows, of 4,095 to 4,097 edges, or of both.
-fn at_the_limits(rng: &mut Rng) -> Files {
-    let (states, transitions) = match rng.below(3) {
-        0 => (255, 1_023),
-        1 => (255, rng.between(255, 1_022)),
-        _ => (rng.between(40, 254), 1_023),
-    };
+/// Listings of 1,023 to 1,025 rows with 255 states, of 4,095 to 4,097 edges with 1,023 transitions.
+fn at_the_limits(rng: &mut Rng, states: usize, transitions: usize) -> Files {
     let last = rng.between(3, 5);
     let table = ring(rng, states, transitions, last);
     // Each transition is an edge to the until and to three of the arms; those by d to a fourth.

@@ -1,11 +1,12 @@
 //! Random formulas of any number of nodes, their texts with all the faults that 5 to 9 refuse, and
 //! prepared formulas.
 
+use super::kinds::{Way, pick, way};
 use super::rng::Rng;
 use super::tables::name;
-use super::{damage, random_bytes};
+use super::{damage, damage_an_end, random_bytes};
 use crate::formula::{Class, Condition, Formula, MAX_BYTES, MAX_NODES, Node, Set};
-use crate::prepared::{self, FORMULA_LENGTH, NODE_SLOT, NODES};
+use crate::prepared::{FORMULA_LENGTH, NODE_SLOT, NODES};
 use crate::table::{MAX_NAME, Table};
 
 /// Mostly a few; sometimes the most there may be.
@@ -28,6 +29,26 @@ pub fn class(rng: &mut Rng, nodes: usize) -> Class {
 pub fn formula(rng: &mut Rng, class: Option<Class>, nodes: usize, labels: usize) -> Formula {
     let mut growth = Growth { rng, labels, nodes: Vec::with_capacity(nodes) };
     growth.grow(class, nodes);
+    Formula { nodes: growth.nodes }
+}
+
+/// Of so many nodes, three or more: an until as its root (class 1), or below a `~` (class 2).
+pub fn until(rng: &mut Rng, nodes: usize, labels: usize) -> Formula {
+    let mut growth = Growth { rng, labels, nodes: Vec::with_capacity(nodes) };
+    let negations = growth.rng.pick(&[0, 0, 0, 1]);
+    growth.nodes.extend((0..negations).map(|number| Node::Not(number + 1)));
+    let root = growth.nodes.len();
+    growth.nodes.push(Node::True);
+    let set = match growth.rng.one_in(2) {
+        true => Set::all(labels),
+        false => set(growth.rng, labels),
+    };
+    let then = set_of_some(growth.rng, labels);
+    let arm = growth.grow(Some(Class::Witnesses), nodes - root - 1);
+    growth.nodes[root] = match growth.rng.one_in(2) {
+        true => Node::Until(set, arm),
+        false => Node::UntilThen(set, then, arm),
+    };
     Formula { nodes: growth.nodes }
 }
 
@@ -117,35 +138,58 @@ fn set(rng: &mut Rng, labels: usize) -> Set {
     }
 }
 
+fn set_of_some(rng: &mut Rng, labels: usize) -> Set {
+    if labels == 0 { Set::EMPTY } else { some_label(rng, labels).union(set(rng, labels)) }
+}
+
 /// Often the first or the last.
 fn some_label(rng: &mut Rng, labels: usize) -> Set {
     let any = rng.between(1, labels);
     Set::of(rng.pick(&[1, labels, any, any]) as u8)
 }
 
-/// A text to read, of any kind.
+/// Texts to read, of a formula over the table or near it.
+pub const TEXTS: [Way<Table, Vec<u8>>; 12] = [
+    way("as written", 44, &[0, 5], |rng, table| {
+        let tokens = some_tokens(rng, table);
+        spaced(rng, &tokens)
+    }),
+    way("tokens faulty", 24, &[6, 7], |rng, table| {
+        let tokens = faulty_tokens(rng, table);
+        spaced(rng, &tokens)
+    }),
+    way("bytes damaged", 20, &[6], |rng, table| {
+        let tokens = some_tokens(rng, table);
+        let mut text = spaced(rng, &tokens);
+        damage(rng, &mut text);
+        text
+    }),
+    way("tokens faulty, bytes damaged", 8, &[6], |rng, table| {
+        let tokens = faulty_tokens(rng, table);
+        let mut text = spaced(rng, &tokens);
+        damage(rng, &mut text);
+        text
+    }),
+    way("an end damaged", 4, &[6], |rng, table| {
+        let mut text = some_tokens(rng, table).concat();
+        damage_an_end(rng, &mut text);
+        text
+    }),
+    way("name that the table lacks", 6, &[7], lacking_name),
+    way("over 40 nodes", 5, &[8], over_forty_nodes),
+    way("node without class", 6, &[9], without_class),
+    way("deep", 4, &[0, 6, 8], |rng, _| deep_text(rng)),
+    way("random bytes", 4, &[6], |rng, _| {
+        let length = rng.below(40);
+        random_bytes(rng, length)
+    }),
+    way("empty", 2, &[6], |_, _| Vec::new()),
+    way("about 512 bytes or far more", 4, &[5, 6], |rng, _| extreme_text(rng)),
+];
+
+/// In one of these ways.
 pub fn text(rng: &mut Rng, table: &Table) -> Vec<u8> {
-    match rng.below(32) {
-        0 => {
-            let length = rng.below(40);
-            random_bytes(rng, length)
-        }
-        1 => deep_text(rng),
-        2 => extreme_text(rng),
-        _ => {
-            let mut tokens = some_tokens(rng, table);
-            if rng.one_in(3) {
-                for _ in 0..rng.between(1, 3) {
-                    faulty_token(rng, &mut tokens);
-                }
-            }
-            let mut text = spaced(rng, &tokens);
-            if rng.one_in(4) {
-                damage(rng, &mut text);
-            }
-            text
-        }
-    }
+    (pick(rng, &TEXTS).make)(rng, table)
 }
 
 fn some_tokens(rng: &mut Rng, table: &Table) -> Vec<Vec<u8>> {
@@ -160,6 +204,60 @@ fn some_tokens(rng: &mut Rng, table: &Table) -> Vec<Vec<u8>> {
     };
     let formula = formula(rng, class, nodes, table.labels());
     tokens(rng, &formula, table)
+}
+
+fn faulty_tokens(rng: &mut Rng, table: &Table) -> Vec<Vec<u8>> {
+    let mut tokens = some_tokens(rng, table);
+    for _ in 0..rng.between(1, 3) {
+        faulty_token(rng, &mut tokens);
+    }
+    tokens
+}
+
+pub fn lacking_name(rng: &mut Rng, table: &Table) -> Vec<u8> {
+    let nodes = rng.between(2, 12);
+    let class = class(rng, nodes);
+    let formula = formula(rng, Some(class), nodes, table.labels());
+    let mut tokens = tokens(rng, &formula, table);
+    let names: Vec<usize> = (0..tokens.len()).filter(|&at| is_name(&tokens[at])).collect();
+    let absent = absent_name(rng);
+    match names.is_empty() {
+        true => [b"EX[".as_slice(), &absent, b"]", &tokens.concat()].concat(),
+        false => {
+            tokens[rng.pick(&names)] = absent;
+            tokens.concat()
+        }
+    }
+}
+
+/// Negations, or whatever fits into the length.
+pub fn over_forty_nodes(rng: &mut Rng, table: &Table) -> Vec<u8> {
+    for _ in 0..rng.below(4) {
+        let nodes = rng.between(MAX_NODES + 1, MAX_NODES + 30);
+        let class = rng.pick(&[None, Some(Class::Witnesses)]);
+        let formula = formula(rng, class, nodes, table.labels());
+        let text = tokens(rng, &formula, table).concat();
+        if text.len() <= MAX_BYTES {
+            return text;
+        }
+    }
+    let most = rng.pick(&[MAX_NODES, MAX_NODES + 3, MAX_BYTES - 1]);
+    let mut text = vec![b'~'; rng.between(MAX_NODES, most)];
+    text.push(b'T');
+    text
+}
+
+/// Of up to 40 nodes, in up to 512 bytes.
+pub fn without_class(rng: &mut Rng, table: &Table) -> Vec<u8> {
+    loop {
+        let most = rng.pick(&[4, 12, MAX_NODES]);
+        let nodes = rng.between(3, most);
+        let formula = formula(rng, None, nodes, table.labels());
+        let text = tokens(rng, &formula, table).concat();
+        if text.len() <= MAX_BYTES && formula.classes().contains(&None) {
+            return text;
+        }
+    }
 }
 
 /// The tokens of some text of this formula.
@@ -293,7 +391,6 @@ fn faulty_token(rng: &mut Rng, tokens: &mut Vec<Vec<u8>>) {
     const MARKS: [&[u8]; 14] =
         [b"T", b"~", b"|", b"EX", b"AX", b"EU", b"[", b"]", b"(", b")", b";", b".", b"*", b"E"];
     let at = rng.below(tokens.len() + 1);
-    let is_name = |token: &Vec<u8>| token[0].is_ascii_lowercase();
     let names: Vec<usize> = (0..tokens.len()).filter(|&at| is_name(&tokens[at])).collect();
     match rng.below(8) {
         0..3 if !names.is_empty() => tokens[rng.pick(&names)] = absent_name(rng),
@@ -304,6 +401,10 @@ fn faulty_token(rng: &mut Rng, tokens: &mut Vec<Vec<u8>>) {
         7 => tokens.insert(at, name(rng, MAX_NAME + 1)),
         _ => tokens.truncate(at),
     }
+}
+
+fn is_name(token: &[u8]) -> bool {
+    token[0].is_ascii_lowercase()
 }
 
 /// No name of a table begins so. Thirteen bytes are a fault of the grammar instead.
@@ -358,12 +459,11 @@ fn deep_text(rng: &mut Rng) -> Vec<u8> {
     text
 }
 
-/// Nothing at all, or far more than a formula takes.
+/// About as many bytes as a formula may have, or far more.
 fn extreme_text(rng: &mut Rng) -> Vec<u8> {
-    match rng.below(3) {
-        0 => Vec::new(),
-        1 if rng.one_in(100) => vec![b'T'; rng.pick(&[1 << 20, (1 << 24) + 1])],
-        1 => vec![b'~'; rng.pick(&[MAX_BYTES, MAX_BYTES + 1, 65_535, 65_536, 100_000])],
+    match rng.below(2) {
+        0 if rng.one_in(100) => vec![b'T'; rng.pick(&[1 << 20, (1 << 24) + 1])],
+        0 => vec![b'~'; rng.pick(&[MAX_BYTES, MAX_BYTES + 1, 65_535, 65_536, 100_000])],
         _ => {
             let length = rng.between(MAX_BYTES - 2, MAX_BYTES + 2);
             random_bytes(rng, length)
@@ -371,9 +471,8 @@ fn extreme_text(rng: &mut Rng) -> Vec<u8> {
     }
 }
 
-/// Prepared bytes, some of them not the one form of a formula with classes.
-pub fn damaged_prepared(rng: &mut Rng, formula: &Formula, labels: usize) -> Vec<u8> {
-    let mut bytes = prepared::formula_bytes(formula);
+/// Some bytes changed, mostly away from the one form of a formula with classes.
+pub fn damage_prepared(rng: &mut Rng, formula: &Formula, labels: usize, bytes: &mut [u8]) {
     // One slot past the used ones is as telling as the used ones.
     let slots = (formula.nodes.len() + 1).min(MAX_NODES);
     for _ in 0..rng.between(1, 2) {
@@ -392,5 +491,4 @@ pub fn damaged_prepared(rng: &mut Rng, formula: &Formula, labels: usize) -> Vec<
             _ => bytes[rng.below(FORMULA_LENGTH)] = rng.below(256) as u8,
         }
     }
-    bytes
 }

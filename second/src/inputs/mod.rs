@@ -3,6 +3,8 @@
 pub mod edits;
 pub mod folders;
 pub mod formulas;
+pub mod kinds;
+pub mod lending;
 pub mod questions;
 pub mod rng;
 pub mod tables;
@@ -43,25 +45,28 @@ pub fn damage(rng: &mut Rng, bytes: &mut Vec<u8>) {
     }
 }
 
-/// Usually the length itself; sometimes one byte less, nothing, or more.
-pub fn buffer_length(rng: &mut Rng, length: usize) -> usize {
-    match rng.below(24) {
-        0 => length - 1,
-        1 => rng.below(length),
-        2 => 0,
-        3 | 4 => length + 1,
-        5 | 6 => length + rng.below(200),
-        _ => length,
+/// The first or the last byte changed, lost or doubled.
+pub fn damage_an_end(rng: &mut Rng, bytes: &mut Vec<u8>) {
+    let at = rng.pick(&[0, bytes.len() - 1]);
+    match rng.below(4) {
+        0 => drop(bytes.remove(at)),
+        1 => bytes.insert(at, bytes[at]),
+        _ => bytes[at] = another_byte(rng, bytes[at]),
     }
 }
 
-/// Lends a prepared input, sometimes short and sometimes with other bytes behind it.
-pub fn lend_prepared(rng: &mut Rng, mut bytes: Vec<u8>) -> Vec<u8> {
-    if rng.one_in(8) {
-        let length = buffer_length(rng, bytes.len());
-        let behind = random_bytes(rng, length.saturating_sub(bytes.len()));
-        bytes.truncate(length);
-        bytes.extend_from_slice(&behind);
+/// One bit off, one more or less, the least, the greatest, or any.
+pub fn another_byte(rng: &mut Rng, byte: u8) -> u8 {
+    loop {
+        let other = match rng.below(6) {
+            0 | 1 => byte ^ 1 << rng.below(8),
+            2 => byte.wrapping_add(rng.pick(&[1, u8::MAX])),
+            3 => rng.pick(&[0, 1, u8::MAX]),
+            4 => rng.pick(TELLING),
+            _ => rng.below(256) as u8,
+        };
+        if other != byte {
+            return other;
+        }
     }
-    bytes
 }

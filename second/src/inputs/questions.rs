@@ -1,10 +1,12 @@
-//! Random questions: a table and a formula over its labels, and their prepared bytes.
+//! Random questions: a table and a formula over its labels, of every size.
 
+use super::kinds::{Kinds, must};
 use super::rng::Rng;
-use super::{formulas, lend_prepared, tables};
-use crate::formula::Formula;
-use crate::prepared;
-use crate::table::Table;
+use super::tables::Size;
+use super::{formulas, tables};
+use crate::formula::{Formula, MAX_NODES, Node, Set};
+use crate::table::{MAX_LABELS, MAX_STATES, MAX_TRANSITIONS, Table};
+use crate::tally::Expected;
 
 pub struct Question {
     pub table: Table,
@@ -14,6 +16,10 @@ pub struct Question {
 /// One in `rarity` has a table at the limits.
 pub fn question(rng: &mut Rng, rarity: usize) -> Question {
     let size = tables::size(rng, rarity);
+    of_size(rng, size)
+}
+
+fn of_size(rng: &mut Rng, size: Size) -> Question {
     let table = tables::table(rng, size);
     let nodes = formulas::node_count(rng);
     let class = formulas::class(rng, nodes);
@@ -21,16 +27,70 @@ pub fn question(rng: &mut Rng, rarity: usize) -> Question {
     Question { table, formula }
 }
 
-/// Both prepared forms, now and then damaged, short, long, or of a table with fewer labels.
-pub fn lent(rng: &mut Rng, question: &Question) -> (Vec<u8>, Vec<u8>) {
-    let Question { table, formula } = question;
-    let table_bytes = match rng.one_in(12) {
-        true => tables::damaged_prepared(rng, table),
-        false => prepared::table_bytes(table),
+const PART: &str = "question";
+const LARGEST: &str = "256 states, 1,024 transitions, 40 nodes";
+const LASTING: &str = "an until for long words";
+
+/// A question of any size; one in `largest_in` has the most of all.
+pub fn of_any_size(rng: &mut Rng, kinds: &mut Kinds, rarity: usize, largest_in: usize) -> Question {
+    if rng.one_in(largest_in) {
+        kinds.note(PART, LARGEST);
+        return largest(rng);
+    }
+    let size = tables::size(rng, rarity);
+    kinds.note(PART, size.name());
+    of_size(rng, size)
+}
+
+/// All that `of_any_size` must have made.
+pub fn expected() -> Vec<Expected> {
+    let names = Size::NAMES.into_iter().chain([LARGEST]);
+    names.map(|name| must(PART, name, &[0])).collect()
+}
+
+/// What `with_long_words` must have made.
+pub fn expected_with_long_words() -> Expected {
+    must(PART, LASTING, &[0, 13])
+}
+
+/// The most states, transitions and nodes together, over few labels or the most.
+pub fn largest(rng: &mut Rng) -> Question {
+    let labels = rng.pick(&[0, 1, 2, 3, MAX_LABELS, MAX_LABELS]);
+    let table = tables::with_counts(rng, MAX_STATES, labels, MAX_TRANSITIONS);
+    let formula = match rng.below(4) {
+        0 => formulas::until(rng, MAX_NODES, labels),
+        1 => untils(Set::all(labels)),
+        _ => {
+            let class = formulas::class(rng, MAX_NODES);
+            formulas::formula(rng, Some(class), MAX_NODES, labels)
+        }
     };
-    let formula_bytes = match rng.one_in(10) {
-        true => formulas::damaged_prepared(rng, formula, table.labels()),
-        false => prepared::formula_bytes(formula),
-    };
-    (lend_prepared(rng, table_bytes), lend_prepared(rng, formula_bytes))
+    Question { table, formula }
+}
+
+/// About 10,000 rows and hundreds of thousands of edges: a chain of untils over all states.
+pub fn longest_listing(rng: &mut Rng) -> Question {
+    let table = tables::with_counts(rng, MAX_STATES, MAX_LABELS, MAX_TRANSITIONS);
+    Question { table, formula: untils(Set::all(MAX_LABELS)) }
+}
+
+fn untils(set: Set) -> Formula {
+    let mut nodes: Vec<Node> = (1..MAX_NODES).map(|arm| Node::Until(set, arm)).collect();
+    nodes.push(Node::True);
+    Formula { nodes }
+}
+
+/// An until over a table with many steps for its states, so that explanations of any length are
+/// likely; one in `largest_in` has the most of all.
+pub fn with_long_words(rng: &mut Rng, kinds: &mut Kinds, largest_in: usize) -> Question {
+    if rng.one_in(largest_in) {
+        kinds.note(PART, LARGEST);
+        return largest(rng);
+    }
+    kinds.note(PART, LASTING);
+    let (states, labels) = (rng.between(1, 8), rng.below(5));
+    let transitions = rng.between(states, 4 * states);
+    let table = tables::with_counts(rng, states, labels, transitions);
+    let nodes = rng.between(3, 9);
+    Question { formula: formulas::until(rng, nodes, labels), table }
 }

@@ -2,10 +2,11 @@
 
 use std::collections::BTreeSet;
 
+use super::kinds::{Way, way};
 use super::rng::Rng;
-use super::{damage, random_bytes};
+use super::{damage, damage_an_end, random_bytes};
 use crate::columns;
-use crate::prepared::{self, NAME_SLOT, NAMES, TABLE_LENGTH, TRANSITION_SLOT, TRANSITIONS};
+use crate::prepared::{NAME_SLOT, NAMES, TABLE_LENGTH, TRANSITION_SLOT, TRANSITIONS};
 use crate::table::{MAX_LABELS, MAX_NAME, MAX_STATES, MAX_TRANSITIONS, Step, Table};
 
 #[derive(Clone, Copy, PartialEq, Eq)]
@@ -15,6 +16,14 @@ pub enum Size {
     /// The most states and labels, but few transitions.
     Cornered,
     Limit,
+}
+
+impl Size {
+    pub const NAMES: [&str; 4] = ["small", "medium", "cornered", "at the limits"];
+
+    pub fn name(self) -> &'static str {
+        Size::NAMES[self as usize]
+    }
 }
 
 /// Mostly small; one in `rarity` at the limits.
@@ -128,37 +137,39 @@ pub fn name(rng: &mut Rng, longest: usize) -> Vec<u8> {
     std::iter::once(first).chain((1..length).map(further)).collect()
 }
 
-/// A text to read, of any kind.
-pub fn text(rng: &mut Rng) -> Vec<u8> {
-    let size = size(rng, 40);
-    let table = table(rng, size);
-    let mut text = table.text();
-    match rng.below(16) {
-        0..4 => {}
-        4..8 => {
-            for _ in 0..rng.between(1, 3) {
-                damage(rng, &mut text);
-            }
+/// Texts to read, of a table or near it.
+pub const TEXTS: [Way<Table, Vec<u8>>; 10] = [
+    way("as written", 32, &[0], |_, table| table.text()),
+    way("bytes damaged", 30, &[1], |rng, table| {
+        let mut text = table.text();
+        for _ in 0..rng.between(1, 3) {
+            damage(rng, &mut text);
         }
-        8..14 => text = faulty_text(rng, &table),
-        14 => {
-            let length = rng.below(80);
-            text = random_bytes(rng, length);
-        }
-        _ => text = extreme_text(rng, text),
-    }
-    text
-}
+        text
+    }),
+    way("an end damaged", 4, &[1], |rng, table| {
+        let mut text = table.text();
+        damage_an_end(rng, &mut text);
+        text
+    }),
+    way("faulty lines", 36, &[1, 2, 3, 4], faulty_text),
+    way("number out of range", 6, &[2], out_of_range),
+    way("name used twice", 3, &[3], name_used_twice),
+    way("transition not above", 3, &[4], not_above),
+    way("random bytes", 6, &[1], |rng, _| {
+        let length = rng.below(80);
+        random_bytes(rng, length)
+    }),
+    way("empty", 3, &[1], |_, _| Vec::new()),
+    way("far longer", 3, &[1], far_longer),
+];
 
-/// Nothing at all, or far more than a table takes.
-fn extreme_text(rng: &mut Rng, mut text: Vec<u8>) -> Vec<u8> {
-    if rng.one_in(2) {
-        return Vec::new();
-    }
+fn far_longer(rng: &mut Rng, table: &Table) -> Vec<u8> {
     let length = match rng.one_in(100) {
         true => rng.pick(&[1 << 20, (1 << 24) + 1]),
         false => rng.pick(&[1_000, 65_535, 65_536, 65_537]),
     };
+    let mut text = table.text();
     let behind = match rng.below(3) {
         0 => vec![b'\n'; length],
         1 => vec![b' '; length],
@@ -169,6 +180,62 @@ fn extreme_text(rng: &mut Rng, mut text: Vec<u8>) -> Vec<u8> {
     }
     text.extend_from_slice(&behind);
     text
+}
+
+/// One number outside its range or turn: on the first line, a label's or a transition's.
+pub fn out_of_range(rng: &mut Rng, table: &Table) -> Vec<u8> {
+    const MOST: usize = 999_999;
+    let (states, labels, transitions) = (table.states, table.labels(), table.transitions.len());
+    let (line, column, above) = match rng.below(3) {
+        1 if labels > 0 => {
+            let label = rng.between(1, labels);
+            (label, 0, rng.pick(&[label - 1, label + 1, 0, MOST]))
+        }
+        2 if transitions > 0 => {
+            let line = 1 + labels + rng.below(transitions);
+            let column = rng.below(3);
+            let least = if column == 1 { labels + 1 } else { states };
+            (line, column, rng.pick(&[least, least, least + 1, MAX_STATES, MOST]).max(least))
+        }
+        _ => {
+            let column = rng.below(4);
+            let least = [MAX_STATES, MAX_LABELS, MAX_TRANSITIONS, states - 1][column] + 1;
+            let above = rng.pick(&[least, least, least + 1, MOST]);
+            (0, column, if column == 0 && rng.one_in(2) { 0 } else { above })
+        }
+    };
+    let mut text = table.text();
+    let begin: usize =
+        text.split_inclusive(|&byte| byte == b'\n').take(line).map(<[u8]>::len).sum();
+    let mut columns = Vec::new();
+    columns::write(above as u64, &mut columns);
+    let field = begin + column * columns::COLUMNS;
+    text[field..field + columns::COLUMNS].copy_from_slice(&columns);
+    text
+}
+
+pub fn name_used_twice(rng: &mut Rng, table: &Table) -> Vec<u8> {
+    let mut table = match table.labels() {
+        0 | 1 => with_counts(rng, 4, 5, 9),
+        _ => table.clone(),
+    };
+    let label = rng.between(1, table.labels() - 1);
+    table.names[label] = table.names[rng.below(label)].clone();
+    table.text()
+}
+
+/// Two transitions exchanged, or one that stands twice.
+pub fn not_above(rng: &mut Rng, table: &Table) -> Vec<u8> {
+    let mut table = match table.transitions.len() {
+        0 | 1 => with_counts(rng, 4, 2, 9),
+        _ => table.clone(),
+    };
+    let at = rng.between(1, table.transitions.len() - 1);
+    match rng.one_in(2) {
+        true => table.transitions.swap(at - 1, at),
+        false => table.transitions[at] = table.transitions[at - 1],
+    }
+    table.text()
 }
 
 /// Lines that are faulty as lines: numbers out of range or turn, names used twice, lines swapped.
@@ -255,22 +322,20 @@ fn set_layout(rng: &mut Rng, line: &mut Vec<u8>) {
     }
 }
 
-/// Prepared bytes, some of them bytes that no reading leaves.
-pub fn damaged_prepared(rng: &mut Rng, table: &Table) -> Vec<u8> {
-    let mut bytes = prepared::table_bytes(table);
+/// Some bytes changed, mostly into such as no reading leaves.
+pub fn damage_prepared(rng: &mut Rng, table: &Table, bytes: &mut [u8]) {
     for _ in 0..rng.between(1, 2) {
         match rng.below(6) {
             0 => bytes[rng.below(NAMES)] = rng.pick(&[0, 1, 2, 4, 5, 39, 40, 41, 255]),
             1 => bytes[rng.below(TABLE_LENGTH)] = rng.below(256) as u8,
-            2 => damage_names(rng, table, &mut bytes),
-            3 | 4 => damage_transitions(rng, table, &mut bytes),
+            2 => damage_names(rng, table, bytes),
+            3 | 4 => damage_transitions(rng, table, bytes),
             _ => {
                 let count = rng.below(NAMES);
                 bytes[count] = (bytes[count]).wrapping_add(rng.pick(&[1, 255]));
             }
         }
     }
-    bytes
 }
 
 fn damage_names(rng: &mut Rng, table: &Table, bytes: &mut [u8]) {

@@ -1,59 +1,170 @@
-//! Random words: along a listing, near it, and such as 13 refuses.
+//! Random words of every length: along a listing, near it, and such as 13 refuses.
 
+use std::ops::RangeInclusive;
+
+use super::kinds::{Kind, Kinds};
 use super::rng::Rng;
-use crate::listing::Listing;
+use crate::listing::{Edge, Listing};
+use crate::tally::{Expected, Outcome};
 use crate::word::MAX_WORD;
 
-pub fn word(rng: &mut Rng, listing: &Listing, labels: usize) -> Vec<u8> {
-    let longest = match rng.below(100) {
-        0 => MAX_WORD,
-        1 => MAX_WORD + rng.below(3),
-        _ => rng.below(12),
-    };
-    let mut word = match rng.below(4) {
-        0 => (0..longest).map(|_| rng.below(labels + 1) as u8).collect(),
-        _ => along(rng, listing, longest),
+const PART: &str = "word";
+/// A word of fewer labels is short.
+pub const LONG: usize = 12;
+
+struct Lengths {
+    name: &'static str,
+    lengths: RangeInclusive<usize>,
+    outcomes: &'static [Outcome],
+}
+
+const fn lengths(
+    name: &'static str,
+    lengths: RangeInclusive<usize>,
+    outcomes: &'static [Outcome],
+) -> Lengths {
+    Lengths { name, lengths, outcomes }
+}
+
+const ANSWERED: &[Outcome] = &[Outcome::NO, Outcome::YES];
+const ANY: &[Outcome] = &[Outcome::NO, Outcome::YES, Outcome::of(13)];
+const REFUSED: &[Outcome] = &[Outcome::of(13)];
+
+const LENGTHS: [Lengths; 12] = [
+    lengths("no label", 0..=0, ANSWERED),
+    lengths("1 to 11 labels", 1..=LONG - 1, ANY),
+    lengths("12 to 126 labels", LONG..=126, ANY),
+    lengths("127 to 129 labels", 127..=129, ANSWERED),
+    lengths("130 to 254 labels", 130..=254, ANY),
+    lengths("255 to 257 labels", 255..=257, ANSWERED),
+    lengths("258 to 510 labels", 258..=510, ANY),
+    lengths("511 to 513 labels", 511..=513, ANSWERED),
+    lengths("514 to 1,022 labels", 514..=MAX_WORD - 2, ANY),
+    lengths("1,023 or 1,024 labels", MAX_WORD - 1..=MAX_WORD, ANY),
+    lengths("1,025 labels", MAX_WORD + 1..=MAX_WORD + 1, REFUSED),
+    lengths("over 1,025 labels", MAX_WORD + 2..=usize::MAX, REFUSED),
+];
+
+/// Mostly short; otherwise any, near a power of two, or at the limit.
+pub fn length(rng: &mut Rng) -> usize {
+    match rng.below(32) {
+        0..20 => rng.below(LONG),
+        20..24 => rng.between(LONG, MAX_WORD),
+        24 | 25 => rng.between(LONG, 254),
+        26..29 => rng.pick(&[128, 256, 512]) + rng.below(3) - 1,
+        29 | 30 => rng.between(MAX_WORD - 1, MAX_WORD),
+        _ => MAX_WORD + rng.below(3),
+    }
+}
+
+/// About so many labels.
+pub fn word(
+    rng: &mut Rng,
+    kinds: &mut Kinds,
+    listing: &Listing,
+    labels: usize,
+    length: usize,
+) -> Vec<u8> {
+    let mut word = match rng.below(5) {
+        0 => (0..length).map(|_| rng.below(labels + 1) as u8).collect(),
+        _ => along(rng, listing, length),
     };
     if rng.one_in(5) && !word.is_empty() {
-        let at = rng.below(word.len());
+        let at = telling_index(rng, word.len());
         word[at] = rng.below(labels + 1) as u8;
     }
-    if rng.one_in(12) {
+    if rng.one_in(6) {
         word = refused(rng, word, labels);
     }
+    let kind = LENGTHS.iter().find(|kind| kind.lengths.contains(&word.len()));
+    kinds.note(PART, kind.expect("every length has a kind").name);
     word
 }
 
-/// The labels along some edges from row 0, ended at a final row more often than elsewhere.
-fn along(rng: &mut Rng, listing: &Listing, longest: usize) -> Vec<u8> {
+/// All lengths that must have occurred.
+pub fn expected() -> Vec<Expected> {
+    let expected = |kind: &Lengths| Expected {
+        kind: Kind { part: PART, name: kind.name },
+        outcomes: kind.outcomes.to_vec(),
+    };
+    LENGTHS.iter().map(expected).collect()
+}
+
+/// The labels along so many edges from row 0, or fewer where none leads on. Most ends are final.
+fn along(rng: &mut Rng, listing: &Listing, length: usize) -> Vec<u8> {
+    let to_final = match rng.one_in(4) {
+        true => vec![0; listing.rows.len()],
+        false => edges_to_final(listing),
+    };
     let mut word = Vec::new();
     let mut row = 0;
-    while word.len() < longest {
-        let edges = listing.edges_from(row);
-        let stops = listing.rows[row as usize].is_final && longest < MAX_WORD && rng.one_in(3);
-        if edges.is_empty() || stops {
+    while word.len() < length {
+        let left = length - word.len() - 1;
+        let Some(edge) = an_edge(rng, listing, row, &to_final, left) else {
             break;
-        }
-        let edge = rng.pick(edges);
+        };
         word.push(edge.label);
         row = edge.target;
     }
     word
 }
 
+/// One after which so many edges can lead to a final row, if a few draws find it, or else one on a
+/// shortest way there.
+fn an_edge(
+    rng: &mut Rng,
+    listing: &Listing,
+    row: u16,
+    to_final: &[usize],
+    left: usize,
+) -> Option<Edge> {
+    let edges = listing.edges_from(row);
+    let leads_on = |edge: &Edge| left == 0 || !listing.edges_from(edge.target).is_empty();
+    for _ in 0..if edges.is_empty() { 0 } else { 4 } {
+        let edge = rng.pick(edges);
+        if to_final[edge.target as usize] <= left && leads_on(&edge) {
+            return Some(edge);
+        }
+    }
+    edges.iter().min_by_key(|edge| to_final[edge.target as usize]).copied()
+}
+
+/// By row: how many edges lead to a final row at least. A row that no number of them leads to has
+/// none.
+fn edges_to_final(listing: &Listing) -> Vec<usize> {
+    let is_final = |row: &crate::listing::Row| if row.is_final { 0 } else { usize::MAX };
+    let mut least: Vec<usize> = listing.rows.iter().map(is_final).collect();
+    let mut changed = true;
+    while changed {
+        changed = false;
+        for edge in listing.edges.iter().rev() {
+            let through = least[edge.target as usize].saturating_add(1);
+            if through < least[edge.row as usize] {
+                least[edge.row as usize] = through;
+                changed = true;
+            }
+        }
+    }
+    least
+}
+
+/// The first, the last, about the limit, or any.
+fn telling_index(rng: &mut Rng, length: usize) -> usize {
+    let any = rng.below(length);
+    rng.pick(&[0, length - 1, MAX_WORD - 1, MAX_WORD, any, any]).min(length - 1)
+}
+
 fn refused(rng: &mut Rng, mut word: Vec<u8>, labels: usize) -> Vec<u8> {
-    match rng.below(4) {
-        0 => word.resize(rng.pick(&[MAX_WORD, MAX_WORD + 1, 5_000, 70_000]), 0),
+    match rng.below(6) {
+        0 => word.resize(rng.pick(&[MAX_WORD, MAX_WORD + 1, MAX_WORD + 2, 5_000, 70_000]), 0),
         1 => word.push(0),
         _ => {}
     }
-    for _ in 0..rng.between(0, 2) {
+    for _ in 0..rng.pick(&[0, 1, 1, 2]) {
         if !word.is_empty() {
-            let at = match rng.one_in(3) {
-                true => word.len() - 1,
-                false => rng.below(word.len()),
-            };
-            word[at] = rng.pick(&[labels as u8, labels as u8 + 1, 41, 64, 99, 255]);
+            let at = telling_index(rng, word.len());
+            word[at] =
+                rng.pick(&[labels as u8, labels as u8 + 1, labels as u8 + 1, 41, 64, 99, 255]);
         }
     }
     word
