@@ -1,5 +1,4 @@
 -- Laws that several proofs cite, by topic.
 pub mod Nodes
 pub mod Prepared
-pub mod Refusals
 pub mod Rows
