@@ -20,7 +20,7 @@ pub record TableForeign (table formula : List ℕ) : Type 0 where
   pub long : LongEnough table formula
   pub not-left : LeftByReading table → ⊥
 
--- 01: "formula bytes that aren't the one form": 1. The table, which is left.1, comes before.
+-- 01: "formula bytes that aren't the one form": 1. The table's bytes come first: they are those of the table `left .1`.
 pub record FormulaForeign (table formula : List ℕ) : Type 0 where
   pub long : LongEnough table formula
   pub left : LeftByReading table

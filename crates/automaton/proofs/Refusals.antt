@@ -1,7 +1,6 @@
 -- Building and asking for a word refuse with 10 exactly foreign bytes; behind them building with 11 and 12, words with 13.
-use mathlib.Core.Path.{_≡_, refl}
 use mathlib.Core.List.{List}
-use Prim.Native.Nat.{ℕ, _/_, _≤_}
+use Prim.Native.Nat.{ℕ, _/_}
 use native.Mathlib.Omega.{arith}
 use lib.Dec.{leb}
 use lib.ListN.{length}

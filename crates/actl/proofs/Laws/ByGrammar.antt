@@ -16,7 +16,7 @@ use Rattle.lts.specs.Steps.{Table}
 use Rattle.lts.specs.Prepared.{preparedTable}
 use Rattle.lts.proofs.Laws.Refusals.{Between, numbered-of, same-refusal, unless-refused, answers-refused}
 use Rattle.actl.specs.Formulas.{Formula}
-use Rattle.actl.specs.Grammar.{Disjunction, Text, Grammatical, Longest}
+use Rattle.actl.specs.Grammar.{Grammatical, Longest}
 use Rattle.actl.specs.Reader.{Result, whole, refused, read}
 use Rattle.actl.specs.Reading.{onTree, onResult, readFormula}
 use Rattle.actl.specs.FormulaReading.{withTable, onTable, formulaReading, formulaReplied, formulaLeft}

@@ -9,7 +9,7 @@ use lib.Dec.{leb}
 use lib.ListN.{length}
 use borrow.Author.Tests.{leb-true, le-leb}
 use Rattle.lts.specs.Sizes.{tableLength, mostLabels}
-use Rattle.lts.specs.Reply.{Reply, accepted, refusal, unless, answers}
+use Rattle.lts.specs.Reply.{Reply, refusal, unless, answers}
 use Rattle.lts.specs.Steps.{Table, labels}
 use Rattle.lts.specs.Prepared.{LeftByReading, preparedTable}
 use Rattle.lts.proofs.Laws.Prepared.{prepared-of, prepared-to, prepared-left}
