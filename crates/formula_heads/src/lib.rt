@@ -1,6 +1,6 @@
 // Reading a keyword with its square bracket: its node, without the arm.
 ghost use mathlib.Core.Path.{_≡_};
-ghost use Prim.Native.Nat.{_+_, _-_, _≤_, _<_};
+ghost use Prim.Native.Nat.{_≤_};
 ghost use lib.ListN.{length};
 ghost use Rattle.actl.specs.Sizes.{longestText};
 ghost use Rattle.lts.specs.HoldsTable.{HoldsTable};

@@ -3,7 +3,7 @@ use actl::sizes::FORMULA_LENGTH;
 use actl::sizes::NODES;
 use actl::sizes::READING_LENGTH;
 ghost use mathlib.Core.Path.{_≡_};
-ghost use Prim.Native.Nat.{_+_, _-_, _≤_, _<_};
+ghost use Prim.Native.Nat.{_≤_};
 ghost use lib.ListN.{length};
 ghost use Rattle.actl.specs.Sizes.{mostNodes, formulaLength, readingLength};
 ghost use Rattle.columns.specs.Write.{pasted};

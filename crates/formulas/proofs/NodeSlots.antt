@@ -1,6 +1,6 @@
 -- The node that the code hands out for a subformula: a slot is one node's only. A node that was put is read back.
 use mathlib.Core.Path.{_≡_, refl, sym, ap, _∙_, subst}
-use mathlib.Core.Bool.{cond}
+use mathlib.Core.Bool.{true, cond}
 use mathlib.Core.List.{List, _++_}
 use Prim.Native.Nat.{ℕ, _+_, _*_, _^_, _≤_, _<_}
 use native.Mathlib.Omega.{arith}
@@ -11,6 +11,7 @@ use Rattle.actl.specs.Sizes.{nodeSlotLength}
 use Rattle.actl.specs.Actions.{Cond, silent, labels}
 use Rattle.actl.specs.Formulas.{Formula, tru, not, or, ex, ax, eu, euThen}
 use Rattle.actl.specs.Prepared.{Slot, slotOf, slotBytes, slotAt}
+use Rattle.actl.specs.Shaped.{shaped}
 use Rattle.actl.specs.Readers.{putAt}
 use Rattle.actl.proofs.Laws.Slots.{slot-by-parts}
 use Rattle.actl.proofs.Laws.Forms.{slotFrom, slot-from, StandsFor, slot-front}
@@ -76,7 +77,19 @@ formula-in-slot (euThen a b f) = refl
 pub node-of-slot : (n : Node) (f : Formula) → slotOfNode n ≡ slotOf f → n ≡ nodeOf f
 node-of-slot n f e = sym (node-in-slot n) ∙ (ap nodeIn e ∙ formula-in-slot f)
 
--- What `put_node` leaves, `node_at` reads: masks are of 64 bits.
+node-slot-shaped : (n : Node) → shaped (slotOfNode n) ≡ true
+unfolding shaped
+node-slot-shaped True = refl
+node-slot-shaped Not = refl
+node-slot-shaped Or = refl
+node-slot-shaped (Ex Silent) = refl
+node-slot-shaped (Ex (Labels m)) = refl
+node-slot-shaped (Ax Silent) = refl
+node-slot-shaped (Ax (Labels m)) = refl
+node-slot-shaped (Until a) = refl
+node-slot-shaped (UntilThen a b) = refl
+
+-- What `put_node` leaves, `node_at` may read, and it reads that node: masks are of 64 bits.
 module _ (k : ℕ) (n : Node) (b : List ℕ) (room : 1 + k * nodeSlotLength + nodeSlotLength ≤ length b) (first : slotOfNode n .first < 256 ^ 8) (second : slotOfNode n .second < 256 ^ 8) where
   pub slot-put : slotAt (putAt k (slotOfNode n) b) k ≡ slotOfNode n
   slot-put =
@@ -86,6 +99,9 @@ module _ (k : ℕ) (n : Node) (b : List ℕ) (room : 1 + k * nodeSlotLength + no
       let d : drop at (putAt k s b) ≡ slotBytes s ++ more = drop-at (take at b) (slotBytes s ++ more) at (length-take-le at b (omega arith)) in
       let f : StandsFor s (slotAt (putAt k s b) k) = subst (StandsFor s) (sym (slot-from (putAt k s b) k ∙ ap slotFrom d)) (slot-front s more) in
       sym (slot-by-parts (slotAt (putAt k s b) k) (f .same-kind) (f .same-first first) (f .same-second second))
+
+  pub shaped-put : shaped (slotAt (putAt k (slotOfNode n) b) k) ≡ true
+  shaped-put = ap shaped slot-put ∙ node-slot-shaped n
 
   pub node-put : (r : Node) → slotOfNode r ≡ slotAt (putAt k (slotOfNode n) b) k → r ≡ n
   node-put r e = sym (node-in-slot r) ∙ (ap nodeIn (e ∙ slot-put) ∙ node-in-slot n)
