@@ -1,4 +1,6 @@
 -- `header_in_range` answers `headerInRange`.
+use mathlib.Core.Path.{_≡_}
+use mathlib.Core.Bool.{Bool, true, _&&_}
 use borrow.Author.Tests.{le-leb, lt-leb}
 use Rattle.table_lines.proofs.header_in_range.Statement.{statement}
 use Rattle.table_lines.proofs.header_in_range.Tie as tie
@@ -15,8 +17,12 @@ returns-3 c = simp (le-leb _ _ (c .before .before .before .before .if1 .left), l
 returns-4 : tie.Need-returns-4
 returns-4 c = simp (le-leb _ _ (c .before .before .before .before .before .before .if1 .left), le-leb _ _ (c .before .before .before .before .if2 .left), le-leb _ _ (c .before .before .if3 .left), lt-leb _ _ (c .if4 .taken))
 
+-- Where all tests but the last are passed, the last one answers.
+last-answers : (a b c d e : Bool) → a ≡ true → b ≡ true → c ≡ true → d ≡ true → e ≡ (a && b && c && d && e)
+last-answers a b c d e p q r s = rw (p, q, r, s)
+
 returns-5 : tie.Need-returns-5
-returns-5 c = simp (le-leb _ _ (c .before .before .before .before .before .before .before .if1 .left), le-leb _ _ (c .before .before .before .before .before .if2 .left), le-leb _ _ (c .before .before .before .if3 .left), le-leb _ _ (c .before .if4 .left))
+returns-5 c = last-answers _ _ _ _ _ (le-leb _ _ (c .before .before .before .before .before .before .before .if1 .left)) (le-leb _ _ (c .before .before .before .before .before .if2 .left)) (le-leb _ _ (c .before .before .before .if3 .left)) (le-leb _ _ (c .before .if4 .left))
 
 pub header-in-range-spec : {M : Type 1} → statement M
 header-in-range-spec = tie.close (tie.spec returns returns-2 returns-3 returns-4 returns-5)
