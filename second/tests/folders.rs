@@ -21,15 +21,15 @@ fn formulas(name: &str) -> Vec<Vec<u8>> {
     made(name).iter().map(|files| files.formula.contents().to_vec()).collect()
 }
 
-fn texts(name: &str) -> Vec<String> {
+fn texts(name: &str) -> impl Iterator<Item = String> {
     let printed =
-        |files: &Files| print::explain_files(files.table.contents(), files.formula.contents());
-    made(name).iter().map(|files| String::from_utf8(printed(files)).expect("ASCII")).collect()
+        |files: Files| print::explain_files(files.table.contents(), files.formula.contents());
+    made(name).into_iter().map(move |files| String::from_utf8(printed(files)).expect("ASCII"))
 }
 
 /// Some folder of the kind is answered by a text that begins so.
 fn answers(name: &str, beginning: &str) {
-    assert!(texts(name).iter().any(|text| text.starts_with(beginning)), "{name}: {beginning}");
+    assert!(texts(name).any(|text| text.starts_with(beginning)), "{name}: {beginning}");
 }
 
 fn ends_in_line_end(text: &[u8]) -> bool {
@@ -65,7 +65,7 @@ fn files_are_missing_empty_or_folders() {
 #[test]
 fn a_table_that_is_read_and_no_formula_is_refusal_6() {
     for kind in ["formula missing", "formula empty", "formula a folder"] {
-        assert!(texts(kind).iter().all(|text| text == "     6     0\n"), "{kind}");
+        assert!(texts(kind).all(|text| text == "     6     0\n"), "{kind}");
     }
 }
 
@@ -145,11 +145,11 @@ fn listings_reach_the_limits_and_one_more() {
     answers("rows at the limit", "     1     1  1024 ");
     answers("rows at the limit", "    11  1025\n");
     answers("edges at the limit", "    12  4097\n");
-    let fewer_rows_and_all_edges = |text: &String| {
+    let fewer_rows_and_all_edges = |text: String| {
         let line = text.lines().next().expect("a line");
         line.len() == 24 && &line[12..18] < "  1023" && &line[18..] == "  4096"
     };
-    assert!(texts("edges at the limit").iter().any(fewer_rows_and_all_edges));
+    assert!(texts("edges at the limit").any(fewer_rows_and_all_edges));
 }
 
 #[test]

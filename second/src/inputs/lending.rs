@@ -58,7 +58,7 @@ pub const FORMULA: Layout<Question> = Layout {
     },
 };
 
-const TABLE_PLACES: [Place<Table>; 26] = [
+const TABLE_PLACES: [Place<Table>; 29] = [
     place("states, low byte", |_, _| Some(0)),
     place("states, high byte", |_, _| Some(1)),
     place("labels", |_, _| Some(2)),
@@ -82,6 +82,10 @@ const TABLE_PLACES: [Place<Table>; 26] = [
     place("first unused name slot, last byte", |_, table| {
         (table.labels() < MAX_LABELS).then_some(NAMES + (table.labels() + 1) * NAME_SLOT - 1)
     }),
+    place("some unused name slot, first byte", |rng, table| unused_name(rng, table)),
+    place("some unused name slot, last byte", |rng, table| {
+        Some(unused_name(rng, table)? + NAME_SLOT - 1)
+    }),
     place("last name slot, first byte", |_, _| Some(TRANSITIONS - NAME_SLOT)),
     place("last name slot, last byte", |_, _| Some(TRANSITIONS - 1)),
     place("first transition's first byte", |_, _| Some(TRANSITIONS)),
@@ -95,6 +99,10 @@ const TABLE_PLACES: [Place<Table>; 26] = [
     place("first unused transition's from", |_, table| unused_transition(table)),
     place("first unused transition's label", |_, table| Some(unused_transition(table)? + 1)),
     place("first unused transition's to", |_, table| Some(unused_transition(table)? + 2)),
+    place("some unused transition", |rng, table| {
+        let begin = unused_transition(table)?;
+        Some(rng.between(begin, TABLE_LENGTH - 1))
+    }),
     place("last slot's from", |_, _| Some(TABLE_LENGTH - 3)),
     place("last slot's label", |_, _| Some(TABLE_LENGTH - 2)),
     place("last byte", |_, _| Some(TABLE_LENGTH - 1)),
@@ -113,6 +121,11 @@ fn name(rng: &mut Rng, table: &Table) -> Option<(usize, usize)> {
     Some((NAMES + label * NAME_SLOT, table.names[label].len()))
 }
 
+fn unused_name(rng: &mut Rng, table: &Table) -> Option<usize> {
+    let unused = rng.below((MAX_LABELS - table.labels()).max(1));
+    (table.labels() < MAX_LABELS).then_some(NAMES + (table.labels() + unused) * NAME_SLOT)
+}
+
 fn transition(rng: &mut Rng, table: &Table) -> Option<usize> {
     Some(TRANSITIONS + one_of(rng, table.transitions.len())? * TRANSITION_SLOT)
 }
@@ -122,7 +135,7 @@ fn unused_transition(table: &Table) -> Option<usize> {
     (used < MAX_TRANSITIONS).then_some(TRANSITIONS + used * TRANSITION_SLOT)
 }
 
-const FORMULA_PLACES: [Place<Question>; 12] = [
+const FORMULA_PLACES: [Place<Question>; 13] = [
     place("node count", |_, _| Some(0)),
     place("kind of a node", |rng, question| node(rng, question)),
     place("first mask, first byte", |rng, question| Some(node(rng, question)? + 1)),
@@ -132,6 +145,10 @@ const FORMULA_PLACES: [Place<Question>; 12] = [
     place("first unused node, kind", |_, question| unused_node(question)),
     place("first unused node, first mask", |_, question| Some(unused_node(question)? + 1)),
     place("first unused node, last byte", |_, question| Some(unused_node(question)? + 16)),
+    place("some unused node", |rng, question| {
+        let begin = unused_node(question)?;
+        Some(rng.between(begin, FORMULA_LENGTH - 1))
+    }),
     place("last slot, kind", |_, _| Some(FORMULA_LENGTH - NODE_SLOT)),
     place("last byte but one", |_, _| Some(FORMULA_LENGTH - 2)),
     place("last byte", |_, _| Some(FORMULA_LENGTH - 1)),

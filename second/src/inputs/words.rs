@@ -4,7 +4,7 @@ use std::ops::RangeInclusive;
 
 use super::kinds::{Kind, Kinds};
 use super::rng::Rng;
-use crate::listing::{Edge, Listing};
+use crate::listing::{Edge, Listing, Row};
 use crate::tally::{Expected, Outcome};
 use crate::word::MAX_WORD;
 
@@ -129,11 +129,10 @@ fn an_edge(
     edges.iter().min_by_key(|edge| to_final[edge.target as usize]).copied()
 }
 
-/// By row: how many edges lead to a final row at least. A row that no number of them leads to has
-/// none.
+/// By row: the fewest edges that lead to a final row. Only from a bare root none do.
 fn edges_to_final(listing: &Listing) -> Vec<usize> {
-    let is_final = |row: &crate::listing::Row| if row.is_final { 0 } else { usize::MAX };
-    let mut least: Vec<usize> = listing.rows.iter().map(is_final).collect();
+    let at_end = |row: &Row| if row.is_final { 0 } else { usize::MAX };
+    let mut least: Vec<usize> = listing.rows.iter().map(at_end).collect();
     let mut changed = true;
     while changed {
         changed = false;
