@@ -1,14 +1,11 @@
-//! Links the static library, if a feature asks for one of its entries.
+//! Links the static library, if the feature `library` asks for it.
 
 use std::env;
 use std::path::Path;
 
-const COMPARED: [&str; 5] = ["READ_TABLE", "READ_FORMULA", "VERDICT", "BUILD", "ACCEPTS"];
-
 fn main() {
     println!("cargo::rerun-if-changed=build.rs");
-    let asked = |entry| env::var_os(format!("CARGO_FEATURE_{entry}")).is_some();
-    if !COMPARED.into_iter().any(asked) {
+    if env::var_os("CARGO_FEATURE_LIBRARY").is_none() {
         return;
     }
     let package = env::var("CARGO_MANIFEST_DIR").expect("cargo names the package's folder");

@@ -1,8 +1,9 @@
-//! One call of an entry, made of two explainers and held against each other: number, figure, count
-//! of edges and every lent byte.
+//! One call of an entry, made of two explainers and held against each other: number, figure, every
+//! further value and every lent byte.
 
 use crate::entries::Entries;
 use crate::inputs::rng::filled;
+use crate::interface::interface;
 use crate::reply::Reply;
 use crate::tally::Outcome;
 
@@ -31,29 +32,33 @@ fn inside(buffer: &mut [u8]) -> &mut [u8] {
 #[derive(Debug, PartialEq, Eq)]
 pub struct Answer {
     pub reply: Reply,
-    pub edge_count: u64,
+    /// What the call writes beside the figure if it accepts.
+    values: Vec<(&'static str, u64)>,
     /// The buffers that the call may write, guards included.
     written: Vec<Vec<u8>>,
     /// The buffers that the call may only read.
     read: Vec<Vec<u8>>,
 }
 
-/// Stands where only an accepted build writes.
-const NO_COUNT: u64 = 0x5a5a_5a5a_5a5a_5a5a;
-
 impl Answer {
-    fn reading(reply: Reply, read: Vec<Vec<u8>>) -> Answer {
-        Answer { reply, edge_count: NO_COUNT, written: Vec::new(), read }
+    /// What is written beside the figure, by its name in the header.
+    pub fn value(&self, name: &str) -> u64 {
+        let mut values = self.values.iter();
+        values.find(|(known, _)| *known == name).expect("the entry writes such a value").1
     }
 }
 
+/// Stands where only an accepted call writes.
+const UNWRITTEN: u64 = 0x5a5a_5a5a_5a5a_5a5a;
+
 pub trait Case {
     const ENTRY: &'static str;
-    /// Whether the figure of an accepted call is its answer, 1 or 0.
-    const ANSWERS: bool = false;
 
     fn outcome(reply: Reply) -> Outcome {
-        let is_one_of_few = matches!(reply.number, 10 | 14) || (reply.number == 0 && Self::ANSWERS);
+        let is_one_of_few = match reply.number {
+            0 => matches!(Self::ENTRY, "verdict" | "accepts"),
+            number => matches!(number, 10 | 14),
+        };
         Outcome { number: reply.number, figure: is_one_of_few.then_some(reply.figure) }
     }
 
@@ -64,122 +69,76 @@ pub trait Case {
     fn code(&self) -> String;
 }
 
-pub struct ReadTable {
-    pub text: Vec<u8>,
-    pub table: Lent,
+/// A slice as a case holds it, and as a call is handed it.
+macro_rules! held {
+    (read) => { Vec<u8> };
+    (written) => { Lent };
 }
 
-pub struct ReadFormula {
-    pub table: Vec<u8>,
-    pub text: Vec<u8>,
-    pub formula: Lent,
+macro_rules! buffer {
+    (read $held:expr) => {
+        $held.clone()
+    };
+    (written $held:expr) => {
+        $held.buffer()
+    };
 }
 
-pub struct Verdict {
-    pub table: Vec<u8>,
-    pub formula: Vec<u8>,
+macro_rules! lent {
+    (read $buffer:ident) => {
+        &$buffer
+    };
+    (written $buffer:ident) => {
+        inside(&mut $buffer)
+    };
 }
 
-pub struct Build {
-    pub table: Vec<u8>,
-    pub formula: Vec<u8>,
-    pub rows: Lent,
-    pub edges: Lent,
+macro_rules! keep {
+    (read $buffer:ident $read:ident $written:ident) => {
+        $read.push($buffer)
+    };
+    (written $buffer:ident $read:ident $written:ident) => {
+        $written.push($buffer)
+    };
 }
 
-pub struct Accepts {
-    pub table: Vec<u8>,
-    pub formula: Vec<u8>,
-    pub word: Vec<u8>,
+macro_rules! code {
+    (read $held:expr) => {
+        literal(&$held)
+    };
+    (written $held:expr) => {
+        format!("{:?}", $held)
+    };
 }
 
-impl Case for ReadTable {
-    const ENTRY: &'static str = "read_table";
+macro_rules! cases {
+    ($($type:ident $entry:ident $function:ident($($slice:ident: $kind:tt),*) [$($value:ident),*];)*) => {$(
+        pub struct $type {
+            $(pub $slice: held!($kind)),*
+        }
 
-    fn answer(&self, of: &Entries) -> Option<Answer> {
-        let (text, mut table) = (self.text.clone(), self.table.buffer());
-        let reply = of.read_table?(&text, inside(&mut table));
-        Some(Answer { written: vec![table], ..Answer::reading(reply, vec![text]) })
-    }
+        impl Case for $type {
+            const ENTRY: &'static str = stringify!($entry);
 
-    fn code(&self) -> String {
-        let (text, table) = (literal(&self.text), self.table);
-        format!("ReadTable {{ text: {text}, table: {table:?} }}")
-    }
+            #[allow(unused_mut)]
+            fn answer(&self, of: &Entries) -> Option<Answer> {
+                $(let mut $slice = buffer!($kind self.$slice);)*
+                $(let mut $value = UNWRITTEN;)*
+                let reply = of.$entry?($(lent!($kind $slice),)* $(&mut $value),*);
+                let (mut read, mut written) = (Vec::new(), Vec::new());
+                $(keep!($kind $slice read written);)*
+                Some(Answer { reply, values: vec![$((stringify!($value), $value)),*], written, read })
+            }
+
+            fn code(&self) -> String {
+                let fields = [$(format!("{}: {}", stringify!($slice), code!($kind self.$slice))),*];
+                format!("{} {{ {} }}", stringify!($type), fields.join(", "))
+            }
+        }
+    )*};
 }
 
-impl Case for ReadFormula {
-    const ENTRY: &'static str = "read_formula";
-
-    fn answer(&self, of: &Entries) -> Option<Answer> {
-        let (table, text) = (self.table.clone(), self.text.clone());
-        let mut formula = self.formula.buffer();
-        let reply = of.read_formula?(&table, &text, inside(&mut formula));
-        Some(Answer { written: vec![formula], ..Answer::reading(reply, vec![table, text]) })
-    }
-
-    fn code(&self) -> String {
-        let (table, text, formula) = (literal(&self.table), literal(&self.text), self.formula);
-        format!("ReadFormula {{ table: {table}, text: {text}, formula: {formula:?} }}")
-    }
-}
-
-impl Case for Verdict {
-    const ENTRY: &'static str = "verdict";
-    const ANSWERS: bool = true;
-
-    fn answer(&self, of: &Entries) -> Option<Answer> {
-        let (table, formula) = (self.table.clone(), self.formula.clone());
-        let reply = of.verdict?(&table, &formula);
-        Some(Answer::reading(reply, vec![table, formula]))
-    }
-
-    fn code(&self) -> String {
-        let (table, formula) = (literal(&self.table), literal(&self.formula));
-        format!("Verdict {{ table: {table}, formula: {formula} }}")
-    }
-}
-
-impl Case for Build {
-    const ENTRY: &'static str = "build";
-
-    fn answer(&self, of: &Entries) -> Option<Answer> {
-        let (table, formula) = (self.table.clone(), self.formula.clone());
-        let (mut rows, mut edges) = (self.rows.buffer(), self.edges.buffer());
-        let mut edge_count = NO_COUNT;
-        let places = (inside(&mut rows), inside(&mut edges));
-        let reply = of.build?(&table, &formula, places.0, places.1, &mut edge_count);
-        Some(Answer {
-            edge_count,
-            written: vec![rows, edges],
-            ..Answer::reading(reply, vec![table, formula])
-        })
-    }
-
-    fn code(&self) -> String {
-        let (table, formula) = (literal(&self.table), literal(&self.formula));
-        let (rows, edges) = (self.rows, self.edges);
-        format!("Build {{ table: {table}, formula: {formula}, rows: {rows:?}, edges: {edges:?} }}")
-    }
-}
-
-impl Case for Accepts {
-    const ENTRY: &'static str = "accepts";
-    const ANSWERS: bool = true;
-
-    fn answer(&self, of: &Entries) -> Option<Answer> {
-        let (table, formula) = (self.table.clone(), self.formula.clone());
-        let word = self.word.clone();
-        let reply = of.accepts?(&table, &formula, &word);
-        Some(Answer::reading(reply, vec![table, formula, word]))
-    }
-
-    fn code(&self) -> String {
-        let (table, formula) = (literal(&self.table), literal(&self.formula));
-        let word = literal(&self.word);
-        format!("Accepts {{ table: {table}, formula: {formula}, word: {word} }}")
-    }
-}
+interface!(cases);
 
 /// What the two explainers answer differently, with the inputs as a test.
 pub fn disagreement<C: Case>(case: &C, second: &Answer, other: &Answer) -> Option<String> {
@@ -191,9 +150,10 @@ pub fn disagreement<C: Case>(case: &C, second: &Answer, other: &Answer) -> Optio
     let shown = |answer: &Answer| (answer.reply.number, answer.reply.figure);
     let (of_second, of_other) = (shown(second), shown(other));
     tell(format!("{}: number and figure {of_second:?} here, {of_other:?} there", C::ENTRY));
-    if second.edge_count != other.edge_count {
-        let counts = (second.edge_count, other.edge_count);
-        tell(format!("edge counts {} here, {} there", counts.0, counts.1));
+    for ((value, of_second), (_, of_other)) in second.values.iter().zip(&other.values) {
+        if of_second != of_other {
+            tell(format!("{value} {of_second} here, {of_other} there"));
+        }
     }
     for (number, buffers) in second.written.iter().zip(&other.written).enumerate() {
         if let Some(difference) = first_difference(buffers.0, buffers.1, GUARD) {

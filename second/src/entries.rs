@@ -1,6 +1,7 @@
 //! The entries, byte for byte as in the C interface: any explainer's, and the second one's own.
 
 use crate::formula::Formula;
+use crate::interface::{interface, slice};
 use crate::listing::Listing;
 use crate::prepared::{self, FORMULA_LENGTH, TABLE_LENGTH};
 use crate::reply::{Refusal, Reply};
@@ -10,36 +11,26 @@ use crate::{verdict, word};
 pub const ROW_PLACE: usize = 3;
 pub const EDGE_PLACE: usize = 5;
 
-pub type ReadTable = fn(text: &[u8], table: &mut [u8]) -> Reply;
-pub type ReadFormula = fn(table: &[u8], text: &[u8], formula: &mut [u8]) -> Reply;
-pub type Verdict = fn(table: &[u8], formula: &[u8]) -> Reply;
-/// The count of edges is written if the build is accepted.
-pub type Build = fn(
-    table: &[u8],
-    formula: &[u8],
-    rows: &mut [u8],
-    edges: &mut [u8],
-    edge_count: &mut u64,
-) -> Reply;
-pub type Accepts = fn(table: &[u8], formula: &[u8], word: &[u8]) -> Reply;
+macro_rules! entries {
+    ($($type:ident $entry:ident $function:ident($($slice:ident: $kind:tt),*) [$($value:ident),*];)*) => {
+        $(
+            /// The values are written if the call is accepted.
+            pub type $type = fn($($slice: slice!($kind),)* $($value: &mut u64),*) -> Reply;
+        )*
 
-/// An explainer; an entry that it lacks is not compared.
-#[derive(Clone, Copy, Default)]
-pub struct Entries {
-    pub read_table: Option<ReadTable>,
-    pub read_formula: Option<ReadFormula>,
-    pub verdict: Option<Verdict>,
-    pub build: Option<Build>,
-    pub accepts: Option<Accepts>,
+        /// An explainer; an entry that it lacks is not compared.
+        #[derive(Clone, Copy, Default)]
+        pub struct Entries {
+            $(pub $entry: Option<$type>),*
+        }
+
+        pub const NONE: Entries = Entries { $($entry: None),* };
+
+        pub const SECOND: Entries = Entries { $($entry: Some($entry)),* };
+    };
 }
 
-pub const SECOND: Entries = Entries {
-    read_table: Some(read_table),
-    read_formula: Some(read_formula),
-    verdict: Some(verdict),
-    build: Some(build),
-    accepts: Some(accepts),
-};
+interface!(entries);
 
 pub fn read_table(text: &[u8], table: &mut [u8]) -> Reply {
     let outcome = long_enough(table, TABLE_LENGTH, Refusal::ShortTable)
@@ -80,11 +71,62 @@ pub fn build(
         Ok((table, formula)) => Listing::of(&table, &formula),
         Err(refusal) => return refusal.into(),
     };
+    let written = write_listing(&listing, rows, edges);
+    if written.is_ok() {
+        *edge_count = listing.edges.len() as u64;
+    }
+    written.map(|()| listing.rows.len() as u64).into()
+}
+
+pub fn accepts(table: &[u8], formula: &[u8], letters: &[u8]) -> Reply {
+    let outcome = question(table, formula).and_then(|(table, formula)| {
+        word::check(letters, table.labels())?;
+        Ok(word::is_accepted(&table, &formula, letters).into())
+    });
+    outcome.into()
+}
+
+/// From the two texts to the listing. Nothing is written unless all of it is.
+#[allow(clippy::too_many_arguments)]
+pub fn explain(
+    table_text: &[u8],
+    formula_text: &[u8],
+    table: &mut [u8],
+    formula: &mut [u8],
+    rows: &mut [u8],
+    edges: &mut [u8],
+    verdict: &mut u64,
+    formula_class: &mut u64,
+    edge_count: &mut u64,
+) -> Reply {
+    let mut explained = || {
+        long_enough(table, TABLE_LENGTH, Refusal::ShortTable)?;
+        long_enough(formula, FORMULA_LENGTH, Refusal::ShortFormula)?;
+        let table = Table::read(table_text)?;
+        let formula = Formula::read(&table, formula_text)?;
+        let listing = Listing::of(&table, &formula);
+        write_listing(&listing, rows, edges)?;
+        Ok((table, formula, listing))
+    };
+    let (table_read, formula_read, listing) = match explained() {
+        Ok(explained) => explained,
+        Err(refusal) => return Refusal::into(refusal),
+    };
+    table[..TABLE_LENGTH].copy_from_slice(&prepared::table_bytes(&table_read));
+    formula[..FORMULA_LENGTH].copy_from_slice(&prepared::formula_bytes(&formula_read));
+    *verdict = verdict::holds(&table_read, &formula_read).into();
+    *formula_class = formula_read.root_class().number();
+    *edge_count = listing.edges.len() as u64;
+    Reply::accepted(listing.rows.len() as u64)
+}
+
+/// Refusals 11 and 12.
+fn write_listing(listing: &Listing, rows: &mut [u8], edges: &mut [u8]) -> Result<(), Refusal> {
     if listing.rows.len() > rows.len() / ROW_PLACE {
-        return Refusal::RowPlaces(listing.rows.len()).into();
+        return Err(Refusal::RowPlaces(listing.rows.len()));
     }
     if listing.edges.len() > edges.len() / EDGE_PLACE {
-        return Refusal::EdgePlaces(listing.edges.len()).into();
+        return Err(Refusal::EdgePlaces(listing.edges.len()));
     }
     for (place, row) in rows.chunks_mut(ROW_PLACE).zip(&listing.rows) {
         place.copy_from_slice(&[row.place, row.state, row.is_final.into()]);
@@ -94,16 +136,7 @@ pub fn build(
         place[2] = edge.label;
         place[3..5].copy_from_slice(&edge.target.to_le_bytes());
     }
-    *edge_count = listing.edges.len() as u64;
-    Reply::accepted(listing.rows.len() as u64)
-}
-
-pub fn accepts(table: &[u8], formula: &[u8], letters: &[u8]) -> Reply {
-    let outcome = question(table, formula).and_then(|(table, formula)| {
-        word::check(letters, table.labels())?;
-        Ok(word::is_accepted(&table, &formula, letters).into())
-    });
-    outcome.into()
+    Ok(())
 }
 
 /// Refusals 14 and 10.

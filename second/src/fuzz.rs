@@ -8,6 +8,7 @@ use crate::inputs::kinds::{self, Kind, Kinds, Way, way};
 use crate::inputs::lending::{self, LENGTHS, lend};
 use crate::inputs::rng::Rng;
 use crate::inputs::{formulas, questions, tables, words};
+use crate::interface::interface;
 use crate::listing::Listing;
 use crate::prepared::{FORMULA_LENGTH, TABLE_LENGTH};
 use crate::tally::{Expected, Tally};
@@ -35,11 +36,12 @@ pub fn run(
     mut agreed: impl FnMut(Tally),
 ) -> Result<(), Disagreement> {
     let calls = Calls { second, other, seed, count };
-    calls.compare(read_table)?.map(&mut agreed);
-    calls.compare(read_formula)?.map(&mut agreed);
-    calls.compare(verdict)?.map(&mut agreed);
-    calls.compare(build)?.map(&mut agreed);
-    calls.compare(accepts)?.map(&mut agreed);
+    macro_rules! compared {
+        ($($type:ident $entry:ident $function:ident($($slices:tt)*) [$($values:tt)*];)*) => {
+            $(calls.compare::<compare::$type>($entry)?.map(&mut agreed);)*
+        };
+    }
+    interface!(compared);
     Ok(())
 }
 
@@ -113,12 +115,30 @@ fn expected(entry: &str) -> (&'static [u32], Vec<Expected>) {
                 words::expected().into_iter().chain([questions::expected_with_long_words()]);
             (&[0, 10, 13, 14], questions().chain(words).collect())
         }
+        "explain" => {
+            let table = kinds::expected(TABLE_TEXT, &tables::TEXTS);
+            let formula = kinds::expected(FORMULA_TEXT, &formulas::TEXTS);
+            let buffers = kinds::expected(TABLE_BUFFER, &LENGTHS)
+                .into_iter()
+                .chain(kinds::expected(FORMULA_BUFFER, &LENGTHS));
+            let places =
+                kinds::expected(ROWS, &PLACES).into_iter().chain(kinds::expected(EDGES, &PLACES));
+            let all = questions::expected().into_iter().chain(table).chain(formula);
+            (
+                &[0, 1, 2, 3, 4, 5, 6, 7, 8, 9, 11, 12, 14],
+                all.chain(buffers).chain(places).collect(),
+            )
+        }
         _ => unreachable!("no other entry is compared"),
     }
 }
 
 const TEXT: &str = "text";
+const TABLE_TEXT: &str = "table's text";
+const FORMULA_TEXT: &str = "formula's text";
 const WRITTEN: &str = "written buffer";
+const TABLE_BUFFER: &str = "table's buffer";
+const FORMULA_BUFFER: &str = "formula's buffer";
 const ROWS: &str = "places for rows";
 const EDGES: &str = "places for edges";
 
@@ -166,12 +186,17 @@ pub fn build(rng: &mut Rng) -> Input<compare::Build> {
     let table = lend(rng, &mut kinds, &lending::TABLE, &question.table);
     let formula = lend(rng, &mut kinds, &lending::FORMULA, &question);
     let listing = Listing::of(&question.table, &question.formula);
+    let [rows, edges] = places(rng, &mut kinds, &listing);
+    Input { case: compare::Build { table, formula, rows, edges }, kinds: kinds.0 }
+}
+
+/// What is lent for the rows and the edges of a listing.
+fn places(rng: &mut Rng, kinds: &mut Kinds, listing: &Listing) -> [Lent; 2] {
     let rows = kinds.make(rng, ROWS, &PLACES, &listing.rows.len());
     let edges = kinds.make(rng, EDGES, &PLACES, &listing.edges.len());
-    let [rows, edges] = [(rows, ROW_PLACE), (edges, EDGE_PLACE)]
-        .map(|(places, size)| places * size + rng.pick(&[0, 0, 1, size - 1]));
-    let case = compare::Build { table, formula, rows: lent(rng, rows), edges: lent(rng, edges) };
-    Input { case, kinds: kinds.0 }
+    [(rows, ROW_PLACE), (edges, EDGE_PLACE)]
+        .map(|(places, size)| places * size + rng.pick(&[0, 0, 1, size - 1]))
+        .map(|length| lent(rng, length))
 }
 
 /// Places lent where so many are needed; a part of one may be left over.
@@ -194,4 +219,39 @@ pub fn accepts(rng: &mut Rng) -> Input<compare::Accepts> {
     let listing = Listing::of(&question.table, &question.formula);
     let word = words::word(rng, &mut kinds, &listing, question.table.labels(), length);
     Input { case: compare::Accepts { table, formula, word }, kinds: kinds.0 }
+}
+
+/// The texts of a question, or one of them any text.
+pub fn explain(rng: &mut Rng) -> Input<compare::Explain> {
+    let mut kinds = Kinds::default();
+    let question = questions::of_any_size(rng, &mut kinds, 100, 1_000);
+    let (any_table, any_formula) = match rng.below(4) {
+        0 => (true, false),
+        1 => (false, true),
+        _ => (false, false),
+    };
+    let table_text = match any_table {
+        true => kinds.make(rng, TABLE_TEXT, &tables::TEXTS, &question.table),
+        false => question.table.text(),
+    };
+    let formula_text = match any_formula {
+        true => kinds.make(rng, FORMULA_TEXT, &formulas::TEXTS, &question.table),
+        false => {
+            let tokens = formulas::tokens(rng, &question.formula, &question.table);
+            formulas::spaced(rng, &tokens)
+        }
+    };
+    let table = kinds.make(rng, TABLE_BUFFER, &LENGTHS, &TABLE_LENGTH);
+    let formula = kinds.make(rng, FORMULA_BUFFER, &LENGTHS, &FORMULA_LENGTH);
+    let listing = Listing::of(&question.table, &question.formula);
+    let [rows, edges] = places(rng, &mut kinds, &listing);
+    let case = compare::Explain {
+        table_text,
+        formula_text,
+        table: lent(rng, table),
+        formula: lent(rng, formula),
+        rows,
+        edges,
+    };
+    Input { case, kinds: kinds.0 }
 }

@@ -12,6 +12,7 @@ pub mod formula;
 pub mod fuzz;
 pub mod grammar;
 pub mod inputs;
+pub mod interface;
 #[allow(unsafe_code)]
 pub mod link;
 pub mod listing;

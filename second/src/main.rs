@@ -106,7 +106,9 @@ fn fuzz(seed: u64, count: u64) -> ExitCode {
             ExitCode::FAILURE
         }
         Ok(()) if tallies.is_empty() => {
-            eprintln!("second: no feature links an entry of the library, so nothing was compared");
+            eprintln!(
+                "second: the library is not linked (--all-features), so nothing was compared"
+            );
             ExitCode::from(2)
         }
         Ok(()) => all_occurred(&tallies, count >= fuzz::ENOUGH, fuzz::missing),

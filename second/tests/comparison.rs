@@ -174,7 +174,38 @@ fn a_count_of_edges_written_on_a_refusal_is_found() {
         }),
         ..Entries::default()
     });
-    assert!(told.contains("edge counts "), "{told}");
+    assert!(told.contains("edge_count "), "{told}");
+}
+
+#[test]
+fn a_verdict_written_on_a_refusal_is_found() {
+    let told = told(Entries {
+        explain: Some(|text, formula, t, f, rows, edges, verdict, class, edge_count| {
+            let reply =
+                entries::explain(text, formula, t, f, rows, edges, verdict, class, edge_count);
+            *verdict = if reply.number == 9 { 0 } else { *verdict };
+            reply
+        }),
+        ..Entries::default()
+    });
+    assert!(told.contains("\nverdict "), "{told}");
+}
+
+#[test]
+fn a_prepared_table_left_by_a_refusal_is_found() {
+    let told = told(Entries {
+        explain: Some(|text, formula, t, f, rows, edges, verdict, class, edge_count| {
+            let reply =
+                entries::explain(text, formula, t, f, rows, edges, verdict, class, edge_count);
+            if reply.number == 11 {
+                entries::read_table(text, t);
+            }
+            reply
+        }),
+        ..Entries::default()
+    });
+    assert!(told.contains("explain: number and figure (11, "), "{told}");
+    assert!(told.contains("written buffer 0: byte "), "{told}");
 }
 
 #[test]

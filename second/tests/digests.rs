@@ -155,6 +155,7 @@ fn a_layout_of_prepared_bytes_is_no_part_of_what_texts_show() {
         accepts: Some(|table, formula, word| {
             entries::accepts(&turned(table), &turned(formula), word)
         }),
+        ..Entries::default()
     };
     assert_eq!(differing(other, "texts", "small-some-without-class-2"), 0);
 }

@@ -1,29 +1,19 @@
-//! The library that the features link, on a few random calls; `second fuzz` makes more. A
-//! disagreement is told as a test that can stand here. Without all features these tests are ignored,
-//! and counted as such.
+//! The library, on a few random calls; `second fuzz` makes more. A disagreement is told as a test
+//! that can stand here. Without the library these tests are ignored, and counted as such.
 
 #[allow(unused_imports)]
 use second::compare::*;
-use second::entries::{Entries, SECOND};
+use second::entries::SECOND;
 use second::fuzz;
+use second::interface::INTERFACE;
 use second::link::library;
 
 #[test]
-#[cfg_attr(
-    not(all(
-        feature = "read_table",
-        feature = "read_formula",
-        feature = "verdict",
-        feature = "build",
-        feature = "accepts"
-    )),
-    ignore = "the library is linked by --all-features"
-)]
+#[cfg_attr(not(feature = "library"), ignore = "the library is linked by --all-features")]
 fn random_calls_of_every_entry_of_the_library_agree() {
-    let Entries { read_table, read_formula, verdict, build, accepts } = library();
-    assert!(read_table.is_some() && read_formula.is_some() && verdict.is_some());
-    assert!(build.is_some() && accepts.is_some());
-    assert_eq!(fuzz::run(&SECOND, &library(), 41, 2_000, |_| ()), Ok(()));
+    let mut compared = 0;
+    assert_eq!(fuzz::run(&SECOND, &library(), 41, 2_000, |_| compared += 1), Ok(()));
+    assert_eq!(compared, INTERFACE.len());
 }
 
 /// For a disagreement's test.

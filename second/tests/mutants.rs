@@ -6,7 +6,7 @@ use std::path::Path;
 use std::process::{ExitStatus, Output};
 
 use second::baseline::{BASELINE, accepts, build, read_formula, verdict};
-use second::entries::{EDGE_PLACE, Entries, ROW_PLACE, SECOND};
+use second::entries::{EDGE_PLACE, Entries, NONE, ROW_PLACE, SECOND};
 use second::prepared::{FORMULA_LENGTH, NODE_SLOT, TABLE_LENGTH, TRANSITION_SLOT, TRANSITIONS};
 use second::reply::Reply;
 use second::{fuzz, print, program};
@@ -15,9 +15,6 @@ use second::{fuzz, print, program};
 const SEED: u64 = 1;
 const INPUTS: u64 = 200_000;
 const FOLDERS: u64 = 3_000;
-
-const NONE: Entries =
-    Entries { read_table: None, read_formula: None, verdict: None, build: None, accepts: None };
 
 /// The first input that shows the fault.
 fn first_found(wrong: &Entries) -> Option<u64> {

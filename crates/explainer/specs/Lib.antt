@@ -1,3 +1,4 @@
+pub mod Interface
 pub mod Promise
 pub mod Readings
 pub mod Replies

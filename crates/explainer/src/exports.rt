@@ -6,6 +6,14 @@ ghost use Rattle.satisfaction.specs.VerdictAsked.{verdictReplied};
 ghost use Rattle.automaton.specs.Build.{buildReplied, rowsLeft, edgesLeft};
 ghost use Rattle.automaton.specs.WordAsked.{wordReplied};
 ghost use Rattle.replies.specs.Interface.{numberIn, figureIn, edgesIn};
+ghost use Rattle.explanations.specs.Explanation.{explaining};
+ghost use Rattle.explainer.specs.Interface.{Returned, Promised};
+use crate::explain;
+use crate::explained::explain_class;
+use crate::explained::explain_edges;
+use crate::explained::explain_figure;
+use crate::explained::explain_number;
+use crate::explained::explain_verdict;
 use building::build;
 use formula_text::read_formula;
 use labelling::verdict;
@@ -95,4 +103,31 @@ pub extern "C" fn explainer_build(
     *figure = build_figure(reply);
     *count = build_edges(reply, before);
     build_number(reply)
+}
+
+#[no_mangle]
+pub extern "C" fn explainer_explain(
+    tabletext: &[u8],
+    formulatext: &[u8],
+    table: &mut [u8],
+    formula: &mut [u8],
+    rows: &mut [u8],
+    edges: &mut [u8],
+    figure: &mut u64,
+    holds: &mut u64,
+    class: &mut u64,
+    count: &mut u64,
+) -> u32
+    ensures { λ r. ⌜ Returned (explaining (now (tabletext .entry)) (now (formulatext .entry)) (now (table .entry)) (now (formula .entry)) (now (rows .entry)) (now (edges .entry))) r (now (figure .exit)) (now (holds .entry)) (now (holds .exit)) (now (class .entry)) (now (class .exit)) (now (count .entry)) (now (count .exit)) (now (table .entry)) (now (table .exit)) (now (formula .entry)) (now (formula .exit)) (now (rows .entry)) (now (rows .exit)) (now (edges .entry)) (now (edges .exit)) ⌝ }
+    ensures { λ _. ⌜ Promised (now (tabletext .entry)) (now (formulatext .entry)) (now (table .entry)) (now (table .exit)) (now (formula .entry)) (now (formula .exit)) (now (rows .entry)) (now (rows .exit)) (now (edges .entry)) (now (edges .exit)) ⌝ }
+{
+    let reply = explain(tabletext, formulatext, table, formula, rows, edges);
+    let verdict_before = *holds;
+    let class_before = *class;
+    let count_before = *count;
+    *figure = explain_figure(reply);
+    *holds = explain_verdict(reply, verdict_before);
+    *class = explain_class(reply, class_before);
+    *count = explain_edges(reply, count_before);
+    explain_number(reply)
 }

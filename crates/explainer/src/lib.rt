@@ -6,6 +6,7 @@ use crate::finishing::finish;
 use crate::readings::BothRead;
 use crate::readings::read_both;
 
+pub mod explained;
 pub mod exports;
 pub mod finishing;
 pub mod readings;

@@ -12,7 +12,11 @@ abbrev pub figureIn : {A : Type 0} → (A → ℕ) → Reply A → ℕ
 figureIn value (accepted a) = value a
 figureIn value (refusal number figure) = figure
 
--- "`*edge_count` is written when a build is accepted": what it holds afterwards, if it held `before`.
+-- A value that only an accepted call writes, and that held `before`: what it holds afterwards.
+abbrev pub keptIn : {A : Type 0} → (A → ℕ) → ℕ → Reply A → ℕ
+keptIn value before (accepted a) = value a
+keptIn value before (refusal number figure) = before
+
+-- "`*edge_count` is written when a build is accepted"
 abbrev pub edgesIn : ℕ → Reply Counts → ℕ
-edgesIn before (accepted c) = c .edges
-edgesIn before (refusal number figure) = before
+edgesIn before r = keptIn (λ c. c .edges) before r

@@ -13,7 +13,7 @@ pub use labelling::verdict;
 pub use read_formula::read_formula;
 pub use read_table::read_table;
 
-use crate::entries::Entries;
+use crate::entries::{Entries, NONE};
 
 pub const BASELINE: Entries = Entries {
     read_table: Some(read_table),
@@ -21,4 +21,5 @@ pub const BASELINE: Entries = Entries {
     verdict: Some(verdict),
     build: Some(build),
     accepts: Some(accepts),
+    ..NONE
 };

@@ -1,6 +1,8 @@
 //! Tables of 01 and the answers to a question by way of the entries.
 #![allow(dead_code)]
 
+pub mod header;
+
 use second::entries::{self, EDGE_PLACE, ROW_PLACE};
 use second::formula::Formula;
 use second::listing::{Edge, Listing, Row};
