@@ -34,6 +34,7 @@
 #define EXPLAINER_LONGEST_FORMULA_TEXT 512
 #define EXPLAINER_MOST_NODES 40
 #define EXPLAINER_MOST_ROWS 10496
+#define EXPLAINER_MOST_EDGES 2151680
 #define EXPLAINER_LONGEST_WORD 1024
 
 /* The class of a formula: what its automaton lists. */

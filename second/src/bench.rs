@@ -114,13 +114,14 @@ struct Buffers {
 
 type Call = fn(&Entries, &Input, &mut Buffers) -> Option<Reply>;
 
-const CALLS: [(&str, Call); 6] = [
+const CALLS: [(&str, Call); 7] = [
     ("read_table", read_table),
     ("read_formula", read_formula),
     ("verdict", verdict),
     ("build", build),
     ("accepts", accepts),
     ("whole", whole),
+    ("explain", explain),
 ];
 
 fn read_table(of: &Entries, input: &Input, lent: &mut Buffers) -> Option<Reply> {
@@ -151,6 +152,22 @@ fn whole(of: &Entries, input: &Input, lent: &mut Buffers) -> Option<Reply> {
     read_formula(of, input, lent)?;
     verdict(of, input, lent)?;
     build(of, input, lent)
+}
+
+/// The same in one call.
+fn explain(of: &Entries, input: &Input, lent: &mut Buffers) -> Option<Reply> {
+    let [mut verdict, mut formula_class, mut edge_count] = [0; 3];
+    Some(of.explain?(
+        &input.table_text,
+        &input.formula_text,
+        &mut lent.table,
+        &mut lent.formula,
+        &mut lent.rows,
+        &mut lent.edges,
+        &mut verdict,
+        &mut formula_class,
+        &mut edge_count,
+    ))
 }
 
 /// Whether some row's name has this part.

@@ -33,6 +33,7 @@ fn constants() -> Vec<(&'static str, usize)> {
         ("LONGEST_FORMULA_TEXT", MAX_BYTES),
         ("MOST_NODES", MAX_NODES),
         ("MOST_ROWS", (MAX_NODES + 1) * MAX_STATES),
+        ("MOST_EDGES", (MAX_NODES + 1) * (MAX_NODES + 1) * (MAX_TRANSITIONS + MAX_STATES)),
         ("LONGEST_WORD", MAX_WORD),
         ("WITNESSES", common::question(common::M, "T").class() as usize),
         ("COUNTEREXAMPLES", common::question(common::M, "~T").class() as usize),

@@ -2,6 +2,7 @@
 //! labelling by worklist over predecessors, target places as masks.
 
 mod automaton;
+mod explain;
 mod graph;
 mod labelling;
 mod prepared;
@@ -9,11 +10,12 @@ mod read_formula;
 mod read_table;
 
 pub use automaton::{accepts, build};
+pub use explain::explain;
 pub use labelling::verdict;
 pub use read_formula::read_formula;
 pub use read_table::read_table;
 
-use crate::entries::{Entries, NONE};
+use crate::entries::Entries;
 
 pub const BASELINE: Entries = Entries {
     read_table: Some(read_table),
@@ -21,5 +23,5 @@ pub const BASELINE: Entries = Entries {
     verdict: Some(verdict),
     build: Some(build),
     accepts: Some(accepts),
-    ..NONE
+    explain: Some(explain),
 };
