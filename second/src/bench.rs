@@ -154,7 +154,7 @@ fn whole(of: &Entries, input: &Input, lent: &mut Buffers) -> Option<Reply> {
     build(of, input, lent)
 }
 
-/// The same in one call.
+/// Both texts in one call; the largest formula's text is not that of the longest listing.
 fn explain(of: &Entries, input: &Input, lent: &mut Buffers) -> Option<Reply> {
     let [mut verdict, mut formula_class, mut edge_count] = [0; 3];
     Some(of.explain?(
