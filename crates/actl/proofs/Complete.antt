@@ -8,8 +8,10 @@ use native.Mathlib.Nat.{add-zero, add-suc}
 use native.Mathlib.Omega.{arith}
 use lib.Dec.{eqb}
 use borrow.Author.Tests.{ne-eqb}
-use Rattle.lts.specs.Names.{isLower, isNameByte, atMost, isName}
-use Rattle.actl.specs.Grammar.{Name, Set, operand, union, Operand, name, any, except, group, Condition, dot, set, Quantifier, existential, universal, Head, next, until, untilThen, Disjunction, term, or, Term, tru, not, modal, paren, gap, showS, showO, showC, showQ, showH, showF, showT}
+use Rattle.lts.specs.Names.{isLower, isNameByte, marked, isMark, atMost, isName}
+use Rattle.lts.proofs.Lists.{and-true-of}
+use Rattle.lts.proofs.Laws.NameBytes.{name-more, name-ends}
+use Rattle.actl.specs.Grammar.{Name, Set, operand, union, Operand, name, any, received, sent, except, group, Condition, dot, set, Quantifier, existential, universal, Head, next, until, untilThen, Disjunction, term, or, Term, tru, not, modal, paren, gap, showS, showO, showC, showQ, showH, showF, showT}
 use Rattle.actl.specs.Reader.{InDisjunction, fTop, fParen, InTerm, tFirst, tOr, tNot, tModal, InSet, sParen, sNext, sUntil, sThen, InOperand, oFirst, oOr, oNot, State, termAt, afterE, afterA, afterNext, afterUntil, bracketAt, operandAt, afterDot, naming, afterSet, afterDisjunction, ReaderStep, go, stop, on, plugT, plugO, named, leaveO, readByte, finish, finishDisjunction, proceed, run, start, read, Result, whole, refused}
 use Rattle.actl.proofs.Sound.{leave-step}
 
@@ -33,42 +35,6 @@ pub gaps : (x : ℕ → State) → ((g : ℕ) → readByte (x g) 32 ≡ go (x (s
 gaps x h n s = gaps-up x h n 0 s ∙ ap (λ g. run s (x g)) (up-zero n)
 
 -- Names.
-pub both : (a b : Bool) → a && b ≡ true → (a ≡ true) × (b ≡ true)
-both true b e = (refl, e)
-both false b e = absurd (true≢false (sym e))
-
-pub ands : (a b : Bool) → a ≡ true → b ≡ true → a && b ≡ true
-ands true b p q = q
-ands false b p q = p
-
-pub none : (a b : Bool) → b ≡ false → a && b ≡ false
-none true b q = q
-none false b q = refl
-
-first-false : (a b : Bool) → (a || b) ≡ false → a ≡ false
-first-false true b e = e
-first-false false b e = refl
-
-atMost-more : (n : ℕ) (p : List ℕ) (b : ℕ) (q : List ℕ) → atMost n (p ++ b ∷ q) ≡ true → atMost n (p ++ (b ∷ [])) ≡ true
-atMost-more zero [] b q e = e
-atMost-more (suc n) [] b q e = ands (isNameByte b) true (both (isNameByte b) (atMost n q) e .0) refl
-atMost-more zero (c ∷ p) b q e = e
-atMost-more (suc n) (c ∷ p) b q e = let (x, y) = both (isNameByte c) (atMost n (p ++ b ∷ q)) e in ands (isNameByte c) _ x (atMost-more n p b q y)
-
-name-more : (p : List ℕ) (b : ℕ) (q : List ℕ) → isName (p ++ b ∷ q) ≡ true → isName (p ++ (b ∷ [])) ≡ true
-name-more [] b q e = ands (isLower b) true (both (isLower b) (atMost 11 q) e .0) refl
-name-more (c ∷ p) b q e = let (x, y) = both (isLower c) (atMost 11 (p ++ b ∷ q)) e in ands (isLower c) _ x (atMost-more 11 p b q y)
-
-atMost-end : (n : ℕ) (p : List ℕ) (b : ℕ) → isNameByte b ≡ false → atMost n (p ++ (b ∷ [])) ≡ false
-atMost-end zero [] b h = refl
-atMost-end (suc n) [] b h = ap (λ t. t && true) h
-atMost-end zero (c ∷ p) b h = refl
-atMost-end (suc n) (c ∷ p) b h = none (isNameByte c) _ (atMost-end n p b h)
-
-pub name-end : (p : List ℕ) (b : ℕ) → isNameByte b ≡ false → isName (p ++ (b ∷ [])) ≡ false
-name-end [] b h = ap (λ t. t && true) (first-false (isLower b) _ h)
-name-end (c ∷ p) b h = none (isLower c) _ (atMost-end 11 p b h)
-
 pub same-name : (m n : Name) → m .bytes ≡ n .bytes → m ≡ n
 same-name m n e = λ i. record { bytes = e i; fits = isProp→PathP (λ j. isName (e j) ≡ true) (λ j. Bool-set (isName (e j)) true) (m .fits) (n .fits) i }
 
@@ -90,11 +56,11 @@ spell (b ∷ q) m n k s e =
 -- What a name cannot go on with.
 abbrev pub Ends : List ℕ → Type 0
 Ends [] = Unit {0}
-Ends (b ∷ s) = isNameByte b ≡ false
+Ends (b ∷ s) = (isMark b ≡ false) × (isNameByte b ≡ false)
 
-pub ends-gap : (a b : ℕ) (s : List ℕ) → isNameByte b ≡ false → Ends (gap a (b ∷ s))
-ends-gap zero b s h = h
-ends-gap (suc a) b s h = refl
+pub ends-gap : (a b : ℕ) (s : List ℕ) → isMark b ≡ false → isNameByte b ≡ false → Ends (gap a (b ∷ s))
+ends-gap zero b s p h = (p, h)
+ends-gap (suc a) b s p h = (refl, refl)
 
 pub leave-end : (o : Operand) (k : InOperand) → refused [] ≡ finish (plugO o k)
 leave-end o (oFirst k) = refl
@@ -106,7 +72,7 @@ leave-at b s n k h = ap (λ v. proceed v (run s) (refused (b ∷ s))) (named-no 
 
 pub leave : (s : List ℕ) (n : Name) (k : InOperand) → Ends s → run s (naming n k) ≡ run s (plugO (name n) k)
 leave [] n k h = leave-end (name n) k
-leave (b ∷ s) n k h = leave-at b s n k (name-end (n .bytes) b h)
+leave (b ∷ s) n k h = leave-at b s n k (name-ends b (h .0) (h .1) (n .bytes))
 
 lower-not : (b m : ℕ) → isLower b ≡ true → isLower m ≡ false → eqb b m ≡ false
 lower-not b m p q = ne-eqb b m (λ e. true≢false (sym p ∙ (ap isLower e ∙ q)))
@@ -116,8 +82,8 @@ on-not b m y z p q = ap (λ t. cond t y z) (lower-not b m p q)
 
 pub name-start : (b : ℕ) (k : InOperand) (h : isName (b ∷ []) ≡ true) → readByte (operandAt k) b ≡ go (naming (record { bytes = b ∷ []; fits = h }) k)
 name-start b k h =
-    let l = both (isLower b) true h .0 in
-    on-not b 32 _ _ l refl ∙ (on-not b 42 _ _ l refl ∙ (on-not b 126 _ _ l refl ∙ (on-not b 40 _ _ l refl ∙ named-yes (b ∷ []) k (isName (b ∷ [])) refl _ h)))
+    let l = and-true-of (isLower b) true h .0 in
+    on-not b 32 _ _ l refl ∙ (on-not b 42 _ _ l refl ∙ (on-not b 63 _ _ l refl ∙ (on-not b 33 _ _ l refl ∙ (on-not b 126 _ _ l refl ∙ (on-not b 40 _ _ l refl ∙ named-yes (b ∷ []) k (isName (b ∷ [])) refl _ h)))))
 
 spelled : (l : List ℕ) (h : isName l ≡ true) (k : InOperand) (s : List ℕ) → run (l ++ s) (operandAt k) ≡ run s (naming (record { bytes = l; fits = h }) k)
 spelled [] h k s = absurd (true≢false (sym h))
@@ -130,28 +96,32 @@ mutual
   pub set-read : (x : Set) (k : InSet) (s : List ℕ) → Ends s → run (showS x s) (operandAt (oFirst k)) ≡ run s (afterSet x k 0)
   set-read (operand o) k s h = operand-read o (oFirst k) s h
   set-read (union x a b o) k s h =
-      set-read x k (gap a (124 ∷ gap b (showO o s))) (ends-gap a 124 _ refl)
+      set-read x k (gap a (124 ∷ gap b (showO o s))) (ends-gap a 124 _ refl refl)
       ∙ (gaps (afterSet x k) (λ g. refl) a (124 ∷ gap b (showO o s))
       ∙ (gaps (λ g. operandAt (oOr x a k g)) (λ g. refl) b (showO o s) ∙ operand-read o (oOr x a k b) s h))
 
   pub operand-read : (o : Operand) (k : InOperand) (s : List ℕ) → Ends s → run (showO o s) (operandAt k) ≡ run s (plugO o k)
   operand-read (name n) k s h = spelled (n .bytes) (n .fits) k s ∙ leave s n k h
   operand-read any k s h = refl
+  operand-read received k s h = refl
+  operand-read sent k s h = refl
   operand-read (except a o) k s h = gaps (λ g. operandAt (oNot k g)) (λ g. refl) a (showO o s) ∙ operand-read o (oNot k a) s h
   operand-read (group a x b) k s h =
       gaps (λ g. operandAt (oFirst (sParen k g))) (λ g. refl) a (showS x (gap b (41 ∷ s)))
-      ∙ (set-read x (sParen k a) (gap b (41 ∷ s)) (ends-gap b 41 s refl) ∙ gaps (afterSet x (sParen k a)) (λ g. refl) b (41 ∷ s))
+      ∙ (set-read x (sParen k a) (gap b (41 ∷ s)) (ends-gap b 41 s refl refl) ∙ gaps (afterSet x (sParen k a)) (λ g. refl) b (41 ∷ s))
 
 -- A set in the bracket of EX or AX is read as any set.
 enter-name : (q : Quantifier) (a : ℕ) (k : InTerm) (g : ℕ) (l : List ℕ) (s : List ℕ) → isName l ≡ true → run (l ++ s) (bracketAt q a k g) ≡ run (l ++ s) (operandAt (oFirst (sNext q a k g)))
 enter-name q a k g [] s h = absurd (true≢false (sym h))
 enter-name q a k g (b ∷ l) s h =
-    let i = both (isLower b) (atMost 11 l) h .0 in
+    let i = and-true-of (isLower b) (atMost marked 11 l) h .0 in
     ap (λ v. proceed v (run (l ++ s)) (refused (b ∷ (l ++ s)))) (on-not b 32 _ _ i refl ∙ (on-not b 46 _ _ i refl ∙ sym (on-not b 32 _ _ i refl)))
 
 enter-operand : (q : Quantifier) (a : ℕ) (k : InTerm) (g : ℕ) (o : Operand) (s : List ℕ) → run (showO o s) (bracketAt q a k g) ≡ run (showO o s) (operandAt (oFirst (sNext q a k g)))
 enter-operand q a k g (name n) s = enter-name q a k g (n .bytes) s (n .fits)
 enter-operand q a k g any s = refl
+enter-operand q a k g received s = refl
+enter-operand q a k g sent s = refl
 enter-operand q a k g (except b o) s = refl
 enter-operand q a k g (group b x c) s = refl
 
@@ -165,7 +135,7 @@ quant-read universal k s = refl
 
 cond-read : (c : Condition) (q : Quantifier) (a b d : ℕ) (k : InTerm) (s : List ℕ) → run (showC c (gap d (93 ∷ s))) (bracketAt q a k b) ≡ run s (termAt (tModal (next q a b c d) k 0))
 cond-read dot q a b d k s = gaps (afterDot q a b k) (λ g. refl) d (93 ∷ s)
-cond-read (set x) q a b d k s = enter q a k b x (gap d (93 ∷ s)) ∙ (set-read x (sNext q a k b) (gap d (93 ∷ s)) (ends-gap d 93 s refl) ∙ gaps (afterSet x (sNext q a k b)) (λ g. refl) d (93 ∷ s))
+cond-read (set x) q a b d k s = enter q a k b x (gap d (93 ∷ s)) ∙ (set-read x (sNext q a k b) (gap d (93 ∷ s)) (ends-gap d 93 s refl refl) ∙ gaps (afterSet x (sNext q a k b)) (λ g. refl) d (93 ∷ s))
 
 pub head-read : (h : Head) (k : InTerm) (s : List ℕ) → run (showH h s) (termAt k) ≡ run s (termAt (tModal h k 0))
 head-read (next q a b c d) k s =
@@ -175,14 +145,14 @@ head-read (next q a b c d) k s =
 head-read (until a b x d) k s =
     gaps (afterUntil k) (λ g. refl) a (91 ∷ gap b (showS x (gap d (93 ∷ s))))
     ∙ (gaps (λ g. operandAt (oFirst (sUntil a k g))) (λ g. refl) b (showS x (gap d (93 ∷ s)))
-    ∙ (set-read x (sUntil a k b) (gap d (93 ∷ s)) (ends-gap d 93 s refl) ∙ gaps (afterSet x (sUntil a k b)) (λ g. refl) d (93 ∷ s)))
+    ∙ (set-read x (sUntil a k b) (gap d (93 ∷ s)) (ends-gap d 93 s refl refl) ∙ gaps (afterSet x (sUntil a k b)) (λ g. refl) d (93 ∷ s)))
 head-read (untilThen a b x c d y e) k s =
     gaps (afterUntil k) (λ g. refl) a (91 ∷ gap b (showS x (gap c (59 ∷ gap d (showS y (gap e (93 ∷ s)))))))
     ∙ (gaps (λ g. operandAt (oFirst (sUntil a k g))) (λ g. refl) b (showS x (gap c (59 ∷ gap d (showS y (gap e (93 ∷ s))))))
-    ∙ (set-read x (sUntil a k b) (gap c (59 ∷ gap d (showS y (gap e (93 ∷ s))))) (ends-gap c 59 _ refl)
+    ∙ (set-read x (sUntil a k b) (gap c (59 ∷ gap d (showS y (gap e (93 ∷ s))))) (ends-gap c 59 _ refl refl)
     ∙ (gaps (afterSet x (sUntil a k b)) (λ g. refl) c (59 ∷ gap d (showS y (gap e (93 ∷ s))))
     ∙ (gaps (λ g. operandAt (oFirst (sThen a b x c k g))) (λ g. refl) d (showS y (gap e (93 ∷ s)))
-    ∙ (set-read y (sThen a b x c k d) (gap e (93 ∷ s)) (ends-gap e 93 s refl) ∙ gaps (afterSet y (sThen a b x c k d)) (λ g. refl) e (93 ∷ s))))))
+    ∙ (set-read y (sThen a b x c k d) (gap e (93 ∷ s)) (ends-gap e 93 s refl refl) ∙ gaps (afterSet y (sThen a b x c k d)) (λ g. refl) e (93 ∷ s))))))
 
 mutual
   pub formula-read : (f : Disjunction) (k : InDisjunction) (s : List ℕ) → run (showF f s) (termAt (tFirst k)) ≡ run s (afterDisjunction f k 0)

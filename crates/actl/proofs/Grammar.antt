@@ -8,10 +8,12 @@ use native.Mathlib.Decide.{decLe}
 use native.Mathlib.Omega.{arith}
 use lib.ListN.{length, take, drop, length-append, take-append-drop}
 use lib.Seq.{take-append-seam, take-append-add, take-append-le}
+use Rattle.lts.specs.Names.{Marks, marked}
 use Rattle.actl.specs.Grammar.{Disjunction, showF, gap, Text, Viable, Longest}
 use Rattle.actl.specs.Reader.{InDisjunction, fTop, fParen, State, termAt, afterE, afterA, afterNext, afterUntil, bracketAt, operandAt, afterDot, naming, afterSet, afterDisjunction, ReaderStep, go, stop, readByte, finish, finishDisjunction, proceed, run, start, read, Result, whole, refused}
 use Rattle.actl.proofs.Sound.{shown, Reads, goes, stops, step-reads, completes}
 use Rattle.actl.proofs.Complete.{formula-read}
+use Rattle.actl.proofs.Marks.{formula-fits}
 
 pub not-both : {A : Type 0} {r : List ℕ} {f : Disjunction} → refused r ≡ whole f → A
 not-both e = absurd (let z : _≡_ {A = ℕ} 0 1 = cc in omega arith)
@@ -103,37 +105,40 @@ run-refused (b ∷ s) x r e = next (readByte x b) refl (step-reads x b) (λ y. r
     }
 
 -- The theorems.
-pub read-text : (s : List ℕ) (f : Disjunction) → (read s ≡ whole f) ↔ Text s f
-read-text s f = (λ e. sym (run-whole s start f e), λ e. ap read (sym e) ∙ formula-read f fTop [])
+shown-read : (s : List ℕ) (f : Disjunction) → showF f [] ≡ s → read s ≡ whole f
+shown-read s f e = ap read (sym e) ∙ formula-read f fTop []
 
-pub one-tree : (s : List ℕ) (f g : Disjunction) → Text s f → Text s g → f ≡ g
-one-tree s f g p q = same-tree (sym (read-text s f .1 p) ∙ read-text s g .1 q)
+pub read-text : (s : List ℕ) (f : Disjunction) → (read s ≡ whole f) ↔ Text marked s f
+read-text s f = (λ e. record { fits = formula-fits f; shows = sym (run-whole s start f e) }, λ e. shown-read s f (e .shows))
 
-pub refused-text : (s r : List ℕ) (f : Disjunction) → read s ≡ refused r → Text s f → ⊥
-refused-text s r f e p = not-both (sym e ∙ read-text s f .1 p)
+pub one-tree : (m : Marks) (s : List ℕ) (f g : Disjunction) → Text m s f → Text m s g → f ≡ g
+one-tree m s f g p q = same-tree (sym (shown-read s f (p .shows)) ∙ shown-read s g (q .shows))
+
+pub refused-text : (s r : List ℕ) (f : Disjunction) → read s ≡ refused r → showF f [] ≡ s → ⊥
+refused-text s r f e p = not-both (sym e ∙ shown-read s f p)
 
 module _ (p : List ℕ) (x : State) (reached : (t : List ℕ) → p ++ t ≡ shown x t) where
   beyond : (r : List ℕ) (j : ℕ) → ((b : ℕ) (l : List ℕ) → r ≡ b ∷ l → (t : List ℕ) → read (p ++ b ∷ t) ≡ refused (b ∷ t))
-      → suc j ≤ length r → Viable (p ++ take (suc j) r) → ⊥
+      → suc j ≤ length r → Viable marked (p ++ take (suc j) r) → ⊥
   beyond [] j dead h v = omega arith
-  beyond (b ∷ r) j dead h (t, (f, e)) = refused-text (p ++ b ∷ (take j r ++ t)) _ f (dead b r refl (take j r ++ t)) (e ∙ append-assoc p (b ∷ take j r) t)
+  beyond (b ∷ r) j dead h (t, (f, e)) = refused-text (p ++ b ∷ (take j r ++ t)) _ f (dead b r refl (take j r ++ t)) (e .shows ∙ append-assoc p (b ∷ take j r) t)
 
-  longest : (r : List ℕ) → ((b : ℕ) (l : List ℕ) → r ≡ b ∷ l → (t : List ℕ) → read (p ++ b ∷ t) ≡ refused (b ∷ t)) → Longest (p ++ r) (length p)
+  longest : (r : List ℕ) → ((b : ℕ) (l : List ℕ) → r ≡ b ∷ l → (t : List ℕ) → read (p ++ b ∷ t) ≡ refused (b ∷ t)) → Longest marked (p ++ r) (length p)
   longest r dead = record {
     within = simp length-append (omega arith);
-    begins = rw take-append-seam (let (f, t, e) = completes x in (t, (f, sym (reached t ∙ e))));
+    begins = rw take-append-seam (let (f, t, e, _) = completes x in (t, (f, record { fits = formula-fits f; shows = sym (reached t ∙ e) })));
     most = λ m h v. case m h v (decLe m (length p));
   }
     where
-      case : (m : ℕ) → m ≤ length (p ++ r) → Viable (take m (p ++ r)) → Dec (m ≤ length p) → m ≤ length p
+      case : (m : ℕ) → m ≤ length (p ++ r) → Viable marked (take m (p ++ r)) → Dec (m ≤ length p) → m ≤ length p
       case m h v (yes q) = q
       case m h v (no q) =
           let j = m - length p - 1 in
           let e : m ≡ length p + suc j = omega arith in
-          absurd (beyond r j dead (omega (arith, length-append p r)) (subst Viable (ap (λ i. take i (p ++ r)) e ∙ take-append-add p r (suc j)) v))
+          absurd (beyond r j dead (omega (arith, length-append p r)) (subst (Viable marked) (ap (λ i. take i (p ++ r)) e ∙ take-append-add p r (suc j)) v))
 
-pub read-refused : (s r : List ℕ) → read s ≡ refused r → Longest s (length s - length r)
+pub read-refused : (s r : List ℕ) → read s ≡ refused r → Longest marked s (length s - length r)
 read-refused s r e =
     let h = run-refused s start r e in
     let d : length s - length r ≡ length (h .front) = omega (arith, simp length-append at (ap length (h .parts))) in
-    rw d (subst (λ l. Longest l (length (h .front))) (sym (h .parts)) (longest (h .front) (h .at) (h .reached) r (h .dead)))
+    rw d (subst (λ l. Longest marked l (length (h .front))) (sym (h .parts)) (longest (h .front) (h .at) (h .reached) r (h .dead)))

@@ -6,7 +6,7 @@ use Prim.Native.Nat.{ℕ, zero, suc, _-_}
 use native.Mathlib.Omega.{arith}
 use lib.ListN.{length, drop, length-append}
 use lib.Seq.{drop-append-seam}
-use Rattle.actl.specs.Grammar.{Name, Set, operand, union, Operand, name, any, except, group, Condition, dot, set, Quantifier, existential, universal, Head, next, until, untilThen, Disjunction, term, or, Term, tru, not, modal, paren, gap, showS, showO, showC, showQ, showH, showT, showF}
+use Rattle.actl.specs.Grammar.{Name, Set, operand, union, Operand, name, any, received, sent, except, group, Condition, dot, set, Quantifier, existential, universal, Head, next, until, untilThen, Disjunction, term, or, Term, tru, not, modal, paren, gap, showS, showO, showC, showQ, showH, showT, showF}
 use Rattle.actl.specs.Mentions.{Mention, namesS, namesO, namesC, namesH, namesF, namesT, offset}
 
 -- r ends t.
@@ -35,6 +35,8 @@ mutual
   endO : (o : Operand) {r t : List ℕ} → Ends r t → Ends r (showO o t)
   endO (name n) h = joined (n .bytes) h
   endO any h = past 42 h
+  endO received h = past 63 h
+  endO sent h = past 33 h
   endO (except a o) h = past 126 (gapped a (endO o h))
   endO (group a x b) h = past 40 (gapped a (endS x (gapped b (past 41 h))))
 
@@ -76,6 +78,8 @@ mutual
   memO : (o : Operand) (s : List ℕ) (m : Mention) → List·Memᴰ m (namesO o s) → Stands m (showO o s)
   memO (name n) s m h = let e = List·Memᴰ·eq-of-singleton h in ([], ap (λ (k : Mention). k .name .bytes ++ k .behind) (sym e))
   memO any s m h = absurd (List·Memᴰ·not-nil h)
+  memO received s m h = absurd (List·Memᴰ·not-nil h)
+  memO sent s m h = absurd (List·Memᴰ·not-nil h)
   memO (except a o) s m h = past 126 (gapped a (memO o s m h))
   memO (group a x b) s m h = past 40 (gapped a (memS x (gap b (41 ∷ s)) m h))
 

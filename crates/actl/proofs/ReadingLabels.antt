@@ -11,10 +11,10 @@ use lib.Pow.{shl-exact}
 use lib.Seq.{take-at}
 use Rattle.actl.specs.Sizes.{mostNodes}
 use Rattle.columns.specs.Bytes.{sameBytes}
-use Rattle.lts.specs.Names.{findFrom, lookup}
+use Rattle.lts.specs.Names.{Direction, labelDirection, findFrom, lookup}
 use Rattle.actl.specs.Actions.{Action, maskOf}
 use Rattle.actl.specs.Grammar.{Disjunction, name, showF}
-use Rattle.actl.specs.Meaning.{labelNumber}
+use Rattle.actl.specs.Meaning.{labelNumber, labelsOf}
 use Rattle.actl.specs.Mentions.{Mention}
 use Rattle.actl.specs.Reading.{unknownAt, firstUnknown}
 use Rattle.actl.specs.Cursor.{Named}
@@ -67,8 +67,11 @@ pub found-range : (N : List (List ℕ)) (y : List ℕ) (a : ℕ) → some a ≡ 
 found-range N y a e = let z = found-from 1 N y a e in omega (arith, z .0, z .1)
 
 -- Shifts within a word.
-pub shifted-all : (n : ℕ) → n ≤ mostNodes → 2 * 2 ^ n % 2 ^ 64 ≡ maskOf n Action.any + 2
-shifted-all n h = shl-exact 2 n 64 (omega arith) (omega arith) ∙ (sym (pow-succ' 2 n) ∙ mask-any n)
+pub shifted-all : (d : ℕ → Direction) (n : ℕ) → n ≤ mostNodes → 2 * 2 ^ n % 2 ^ 64 ≡ maskOf d n Action.any + 2
+shifted-all d n h = shl-exact 2 n 64 (omega arith) (omega arith) ∙ (sym (pow-succ' 2 n) ∙ mask-any d n)
+
+pub shifted-two : (k : ℕ) → k < 40 → 2 * 2 ^ k % 2 ^ 64 ≡ 2 ^ suc k
+shifted-two k h = shl-exact 2 k 64 (omega arith) (omega arith) ∙ sym (pow-succ' 2 k)
 
 pub shifted-one : (a : ℕ) → a ≤ 40 → 1 * 2 ^ a % 2 ^ 64 ≡ 2 ^ a
 shifted-one a h = shl-exact 1 a 64 (omega arith) (omega arith) ∙ omega arith
@@ -98,7 +101,7 @@ module _ (N : List (List ℕ)) (s : List ℕ) (at lost to : ℕ) (h : Named s at
         value = name (h .value);
         up = h .up;
         moves = h .moves;
-        means = sym (mask-label (length N) a (r .0) (r .1)) ∙ ap (λ o. maskOf (length N) (Action.label (labelNumber o))) (sym z);
+        means = sym (mask-label (labelDirection N) (length N) a (r .0) (r .1)) ∙ ap (λ o. labelsOf N (Action.label (labelNumber o))) (sym z);
         lacks = sym (ap (λ o. earlier lost (unknownAt o (length s - length (h .value .bytes ++ drop to s)) none)) z ∙ earlier-none lost);
       }
 
@@ -109,6 +112,6 @@ module _ (N : List (List ℕ)) (s : List ℕ) (at lost to : ℕ) (h : Named s at
         value = name (h .value);
         up = h .up;
         moves = h .moves;
-        means = sym (mask-none (length N) 0 (λ k l m q. omega arith)) ∙ ap (λ o. maskOf (length N) (Action.label (labelNumber o))) (sym z);
+        means = sym (mask-none (labelDirection N) (length N) 0 (λ k l m q. omega arith)) ∙ ap (λ o. labelsOf N (Action.label (labelNumber o))) (sym z);
         lacks = sym (ap (λ o. earlier lost (unknownAt o (length s - length (h .value .bytes ++ drop to s)) none)) z ∙ ap (λ q. earlier lost (some q)) (name-lengths .1));
       }

@@ -6,7 +6,8 @@ use Prim.Native.Nat.{ℕ, zero, suc}
 use lib.Dec.{eqb}
 use borrow.Author.Tests.{eqb-true}
 use Rattle.lts.specs.Names.{isName}
-use Rattle.actl.specs.Grammar.{Name, Set, operand, union, Operand, name, any, except, group, Condition, dot, set, Quantifier, existential, universal, Head, next, until, untilThen, Disjunction, term, or, Term, tru, not, modal, paren, gap, showS, showO, showC, showQ, showH, showF, showT}
+use Rattle.actl.specs.Unmarked.{Plain}
+use Rattle.actl.specs.Grammar.{Name, Set, operand, union, Operand, name, any, received, sent, except, group, Condition, dot, set, Quantifier, existential, universal, Head, next, until, untilThen, Disjunction, term, or, Term, tru, not, modal, paren, gap, showS, showO, showC, showQ, showH, showF, showT}
 use Rattle.actl.specs.Reader.{InDisjunction, fTop, fParen, InTerm, tFirst, tOr, tNot, tModal, InSet, sParen, sNext, sUntil, sThen, InOperand, oFirst, oOr, oNot, State, termAt, afterE, afterA, afterNext, afterUntil, bracketAt, operandAt, afterDot, naming, afterSet, afterDisjunction, ReaderStep, go, stop, on, plugT, plugO, blankF, blankT, blankS, blankO, termStep, named, operandStep, closeStep, setStep, leaveO, parenStep, readByte, finish, finishDisjunction, proceed, run, start, read, Result, whole, refused}
 
 abbrev mutual
@@ -105,8 +106,9 @@ named-reads b l k false e p q = q
 
 operand-reads : (k : InOperand) (b : ℕ) → Reads (shown (operandAt k)) b (operandStep k b)
 operand-reads k b =
-    on-reads b 42 (goes (plugO-shown any k)) (on-reads b 126 (goes (λ s. refl)) (on-reads b 40 (goes (λ s. refl))
-    (named-reads b (b ∷ []) k (isName (b ∷ [])) refl (λ s. refl) stops)))
+    on-reads b 42 (goes (plugO-shown any k)) (on-reads b 63 (goes (plugO-shown received k)) (on-reads b 33 (goes (plugO-shown sent k))
+    (on-reads b 126 (goes (λ s. refl)) (on-reads b 40 (goes (λ s. refl))
+    (named-reads b (b ∷ []) k (isName (b ∷ [])) refl (λ s. refl) stops)))))
 
 close-reads : (x : Set) (k : InSet) (g b : ℕ) → Reads (shown (afterSet x k g)) b (closeStep x k g b)
 close-reads x (sParen k a) g b = on-reads b 41 (goes (plugO-shown (group a x g) k)) stops
@@ -145,14 +147,14 @@ step-reads (naming n k) b = named-reads b (n .bytes ++ (b ∷ [])) k (isName (n 
 step-reads (afterSet x k g) b = set-reads x k g b
 step-reads (afterDisjunction f k g) b = on-reads b 32 (goes (λ s. ap (λ l. preF k (showF f l)) (gap-more g s))) (on-reads b 124 (goes (λ s. refl)) (paren-reads f k g b))
 
--- What was read can be completed: some text that starts with it is a formula's.
+-- What was read can be completed: some text that starts with it is a formula's, and no mark is needed for that.
 abbrev pub Completes : (List ℕ → List ℕ) → Type 0
-Completes r = (f : Disjunction) × (s : List ℕ) × (r s ≡ showF f [])
+Completes r = (f : Disjunction) × (s : List ℕ) × (r s ≡ showF f []) × Plain s
 
 mutual
   completeF : (k : InDisjunction) (f : Disjunction) → Completes (λ s. preF k (showF f s))
-  completeF fTop f = (f, [], refl)
-  completeF (fParen k a) f = let (g, s, e) = completeT k (paren a f 0) in (g, 41 ∷ s, e)
+  completeF fTop f = (f, [], refl, refl)
+  completeF (fParen k a) f = let (g, s, e, p) = completeT k (paren a f 0) in (g, 41 ∷ s, e, p)
 
   completeT : (k : InTerm) (t : Term) → Completes (λ s. preT k (showT t s))
   completeT (tFirst k) t = completeF k (term t)
@@ -161,17 +163,17 @@ mutual
   completeT (tModal h k a) t = completeT k (modal h a t)
 
 complete-tru : (k : InTerm) → Completes (preT k)
-complete-tru k = let (g, s, e) = completeT k tru in (g, 84 ∷ s, e)
+complete-tru k = let (g, s, e, p) = completeT k tru in (g, 84 ∷ s, e, p)
 
 complete-head : (k : InTerm) (h : Head) → Completes (λ s. preT k (showH h s))
-complete-head k h = let (g, s, e) = completeT k (modal h 0 tru) in (g, 84 ∷ s, e)
+complete-head k h = let (g, s, e, p) = completeT k (modal h 0 tru) in (g, 84 ∷ s, e, p)
 
 mutual
   completeS : (k : InSet) (x : Set) → Completes (λ s. preS k (showS x s))
-  completeS (sParen k a) x = let (g, s, e) = completeO k (group a x 0) in (g, 41 ∷ s, e)
-  completeS (sNext q a k b) x = let (g, s, e) = complete-head k (next q a b (set x) 0) in (g, 93 ∷ s, e)
-  completeS (sUntil a k b) x = let (g, s, e) = complete-head k (until a b x 0) in (g, 93 ∷ s, e)
-  completeS (sThen a b x c k d) y = let (g, s, e) = complete-head k (untilThen a b x c d y 0) in (g, 93 ∷ s, e)
+  completeS (sParen k a) x = let (g, s, e, p) = completeO k (group a x 0) in (g, 41 ∷ s, e, p)
+  completeS (sNext q a k b) x = let (g, s, e, p) = complete-head k (next q a b (set x) 0) in (g, 93 ∷ s, e, p)
+  completeS (sUntil a k b) x = let (g, s, e, p) = complete-head k (until a b x 0) in (g, 93 ∷ s, e, p)
+  completeS (sThen a b x c k d) y = let (g, s, e, p) = complete-head k (untilThen a b x c d y 0) in (g, 93 ∷ s, e, p)
 
   completeO : (k : InOperand) (o : Operand) → Completes (λ s. preO k (showO o s))
   completeO (oFirst k) o = completeS k (operand o)
@@ -180,13 +182,13 @@ mutual
 
 pub completes : (x : State) → Completes (shown x)
 completes (termAt k) = complete-tru k
-completes (afterE k) = let (g, s, e) = complete-head k (next existential 0 0 dot 0) in (g, 88 ∷ 91 ∷ 46 ∷ 93 ∷ s, e)
-completes (afterA k) = let (g, s, e) = complete-head k (next universal 0 0 dot 0) in (g, 88 ∷ 91 ∷ 46 ∷ 93 ∷ s, e)
-completes (afterNext q k a) = let (g, s, e) = complete-head k (next q a 0 dot 0) in (g, 91 ∷ 46 ∷ 93 ∷ s, e)
-completes (afterUntil k a) = let (g, s, e) = complete-head k (until a 0 (operand any) 0) in (g, 91 ∷ 42 ∷ 93 ∷ s, e)
-completes (bracketAt q a k b) = let (g, s, e) = complete-head k (next q a b dot 0) in (g, 46 ∷ 93 ∷ s, e)
-completes (operandAt k) = let (g, s, e) = completeO k any in (g, 42 ∷ s, e)
-completes (afterDot q a c k b) = let (g, s, e) = complete-head k (next q a c dot b) in (g, 93 ∷ s, e)
+completes (afterE k) = let (g, s, e, p) = complete-head k (next existential 0 0 dot 0) in (g, 88 ∷ 91 ∷ 46 ∷ 93 ∷ s, e, p)
+completes (afterA k) = let (g, s, e, p) = complete-head k (next universal 0 0 dot 0) in (g, 88 ∷ 91 ∷ 46 ∷ 93 ∷ s, e, p)
+completes (afterNext q k a) = let (g, s, e, p) = complete-head k (next q a 0 dot 0) in (g, 91 ∷ 46 ∷ 93 ∷ s, e, p)
+completes (afterUntil k a) = let (g, s, e, p) = complete-head k (until a 0 (operand any) 0) in (g, 91 ∷ 42 ∷ 93 ∷ s, e, p)
+completes (bracketAt q a k b) = let (g, s, e, p) = complete-head k (next q a b dot 0) in (g, 46 ∷ 93 ∷ s, e, p)
+completes (operandAt k) = let (g, s, e, p) = completeO k any in (g, 42 ∷ s, e, p)
+completes (afterDot q a c k b) = let (g, s, e, p) = complete-head k (next q a c dot b) in (g, 93 ∷ s, e, p)
 completes (naming n k) = completeO k (name n)
-completes (afterSet x k a) = let (g, s, e) = completeS k (union x a 0 any) in (g, 124 ∷ 42 ∷ s, e)
-completes (afterDisjunction f k a) = let (g, s, e) = completeF k (or f a 0 tru) in (g, 124 ∷ 84 ∷ s, e)
+completes (afterSet x k a) = let (g, s, e, p) = completeS k (union x a 0 any) in (g, 124 ∷ 42 ∷ s, e, p)
+completes (afterDisjunction f k a) = let (g, s, e, p) = completeF k (or f a 0 tru) in (g, 124 ∷ 84 ∷ s, e, p)

@@ -1,10 +1,11 @@
--- 01, "The formula as text": trees that keep their blanks and brackets, and the text of each. `showX x s` is x's text with s behind it.
+-- 01, "The formula as text", with 02's marks: trees that keep their blanks and brackets, and the text of each. `showX x s` is x's text with
+-- s behind it.
 use mathlib.Core.Path.{_≡_}
-use mathlib.Core.Bool.{true}
+use mathlib.Core.Bool.{Bool, true, false, _&&_}
 use mathlib.Core.List.{List, [], _∷_, _++_}
 use Prim.Native.Nat.{ℕ, zero, suc, _≤_}
 use lib.ListN.{length, take}
-use Rattle.lts.specs.Names.{isName}
+use Rattle.lts.specs.Names.{Marks, unmarked, marked, isNameWith, isName}
 
 pub record Name : Type 0 where
   pub bytes : List ℕ
@@ -17,10 +18,11 @@ mutual
     operand : Operand → Set
     union : Set → ℕ → ℕ → Operand → Set
 
-  -- 01: "an operand is a name, `*` (all labels), `~` and an operand, or a set in round brackets"
+  -- 01: "an operand is a name, `*` (all labels), `~` and an operand, or a set in round brackets"; 02: "In a set, an operand `?` is all
+  -- received labels and an operand `!` all sent ones."
   pub data Operand : Type 0 where
     name : Name → Operand
-    any : Operand
+    any received sent : Operand
     except : ℕ → Operand → Operand
     group : ℕ → Set → ℕ → Operand
 
@@ -63,6 +65,8 @@ abbrev mutual
   pub showO : Operand → List ℕ → List ℕ
   showO (name n) s = n .bytes ++ s
   showO any s = 42 ∷ s
+  showO received s = 63 ∷ s
+  showO sent s = 33 ∷ s
   showO (except a o) s = 126 ∷ gap a (showO o s)
   showO (group a x b) s = 40 ∷ gap a (showS x (gap b (41 ∷ s)))
 
@@ -91,19 +95,58 @@ abbrev mutual
   showT (modal h a t) s = showH h (gap a (showT t s))
   showT (paren a f b) s = 40 ∷ gap a (showF f (gap b (41 ∷ s)))
 
--- f is the tree of the text s.
-abbrev pub Text : List ℕ → Disjunction → Type 0
-Text s f = showF f [] ≡ s
+-- Whether a tree is one of the grammar with marks (02), which every tree is, or of the one without (01).
+abbrev pub allows : Marks → Bool
+allows unmarked = false
+allows marked = true
 
-abbrev pub Grammatical : List ℕ → Type 0
-Grammatical s = (f : Disjunction) × Text s f
+abbrev mutual
+  pub fitsS : Marks → Set → Bool
+  fitsS m (operand o) = fitsO m o
+  fitsS m (union x a b o) = fitsS m x && fitsO m o
+
+  pub fitsO : Marks → Operand → Bool
+  fitsO m (name n) = isNameWith m (n .bytes)
+  fitsO m any = true
+  fitsO m received = allows m
+  fitsO m sent = allows m
+  fitsO m (except a o) = fitsO m o
+  fitsO m (group a x b) = fitsS m x
+
+abbrev pub fitsC : Marks → Condition → Bool
+fitsC m dot = true
+fitsC m (set x) = fitsS m x
+
+abbrev pub fitsH : Marks → Head → Bool
+fitsH m (next q a b c d) = fitsC m c
+fitsH m (until a b x d) = fitsS m x
+fitsH m (untilThen a b x c d y e) = fitsS m x && fitsS m y
+
+abbrev mutual
+  pub fitsF : Marks → Disjunction → Bool
+  fitsF m (term t) = fitsT m t
+  fitsF m (or f a b t) = fitsF m f && fitsT m t
+
+  pub fitsT : Marks → Term → Bool
+  fitsT m tru = true
+  fitsT m (not a t) = fitsT m t
+  fitsT m (modal h a t) = fitsH m h && fitsT m t
+  fitsT m (paren a f b) = fitsF m f
+
+-- f is the tree of the text s.
+pub record Text (m : Marks) (s : List ℕ) (f : Disjunction) : Type 0 where
+  pub fits : fitsF m f ≡ true
+  pub shows : showF f [] ≡ s
+
+abbrev pub Grammatical : Marks → List ℕ → Type 0
+Grammatical m s = (f : Disjunction) × Text m s f
 
 -- A beginning that some grammatical text, of any length, has.
-abbrev pub Viable : List ℕ → Type 0
-Viable p = (rest : List ℕ) × Grammatical (p ++ rest)
+abbrev pub Viable : Marks → List ℕ → Type 0
+Viable m p = (rest : List ℕ) × Grammatical m (p ++ rest)
 
 -- 01: "length of the longest beginning that some grammatical text, of any length, has"
-pub record Longest (s : List ℕ) (n : ℕ) : Type 0 where
+pub record Longest (m : Marks) (s : List ℕ) (n : ℕ) : Type 0 where
   pub within : n ≤ length s
-  pub begins : Viable (take n s)
-  pub most : (m : ℕ) → m ≤ length s → Viable (take m s) → m ≤ n
+  pub begins : Viable m (take n s)
+  pub most : (k : ℕ) → k ≤ length s → Viable m (take k s) → k ≤ n

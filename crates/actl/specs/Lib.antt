@@ -16,5 +16,6 @@ pub mod Readers
 pub mod Reading
 pub mod Shaped
 pub mod Sizes
+pub mod Unmarked
 pub mod Walk
 pub mod Writing

@@ -3,10 +3,10 @@ use mathlib.Core.List.{List}
 use mathlib.Core.Option.{Option, none, some}
 use Prim.Native.Nat.{ℕ}
 use lib.ListN.{length}
-use Rattle.lts.specs.Names.{lookup}
+use Rattle.lts.specs.Names.{Direction, labelDirection, lookup}
 use Rattle.actl.specs.Actions.{Action, Mask, maskOf, Cond, silent, labels}
 use Rattle.actl.specs.Formulas.{Formula}
-use Rattle.actl.specs.Grammar.{Name, Set, operand, union, Operand, name, any, except, group, Condition, dot, set, Quantifier, existential, universal, Head, next, until, untilThen, Disjunction, term, or, Term, tru, not, modal, paren}
+use Rattle.actl.specs.Grammar.{Name, Set, operand, union, Operand, name, any, received, sent, except, group, Condition, dot, set, Quantifier, existential, universal, Head, next, until, untilThen, Disjunction, term, or, Term, tru, not, modal, paren}
 
 -- A label's number; 0, which satisfies no set, stands for a name that the table lacks.
 abbrev pub labelNumber : Option ℕ → ℕ
@@ -21,11 +21,17 @@ abbrev mutual
   pub actionOfOperand : List (List ℕ) → Operand → Action
   actionOfOperand names (name n) = Action.label (labelNumber (lookup names (n .bytes)))
   actionOfOperand names any = Action.any
+  actionOfOperand names received = Action.directed Direction.received
+  actionOfOperand names sent = Action.directed Direction.sent
   actionOfOperand names (except a o) = Action.not (actionOfOperand names o)
   actionOfOperand names (group a x b) = actionOfSet names x
 
+-- The labels, of a table with these names, that satisfy an action formula.
+abbrev pub labelsOf : List (List ℕ) → Action → Mask
+labelsOf names x = maskOf (labelDirection names) (length names) x
+
 abbrev pub maskIn : List (List ℕ) → Set → Mask
-maskIn names x = maskOf (length names) (actionOfSet names x)
+maskIn names x = labelsOf names (actionOfSet names x)
 
 abbrev pub condOf : List (List ℕ) → Condition → Cond
 condOf names dot = silent

@@ -2,7 +2,7 @@
 use mathlib.Core.List.{List, [], _∷_, _++_}
 use Prim.Native.Nat.{ℕ, _-_}
 use lib.ListN.{length}
-use Rattle.actl.specs.Grammar.{Name, Set, operand, union, Operand, name, any, except, group, Condition, dot, set, Head, next, until, untilThen, Disjunction, term, or, Term, tru, not, modal, paren, gap, showS, showO, showT, showF}
+use Rattle.actl.specs.Grammar.{Name, Set, operand, union, Operand, name, any, received, sent, except, group, Condition, dot, set, Head, next, until, untilThen, Disjunction, term, or, Term, tru, not, modal, paren, gap, showS, showO, showT, showF}
 
 pub record Mention : Type 0 where
   pub name : Name
@@ -16,6 +16,8 @@ abbrev mutual
   pub namesO : Operand → List ℕ → List Mention
   namesO (name n) s = record { name = n; behind = s } ∷ []
   namesO any s = []
+  namesO received s = []
+  namesO sent s = []
   namesO (except a o) s = namesO o s
   namesO (group a x b) s = namesS x (gap b (41 ∷ s))
 

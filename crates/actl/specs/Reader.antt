@@ -6,7 +6,7 @@ use Prim.Native.Nat.{ℕ, zero, suc, _-_}
 use lib.Dec.{eqb}
 use lib.ListN.{length}
 use Rattle.lts.specs.Names.{isName}
-use Rattle.actl.specs.Grammar.{Name, Set, operand, union, Operand, name, any, except, group, dot, set, Quantifier, existential, universal, Head, next, until, untilThen, Disjunction, term, or, Term, tru, not, modal, paren}
+use Rattle.actl.specs.Grammar.{Name, Set, operand, union, Operand, name, any, received, sent, except, group, dot, set, Quantifier, existential, universal, Head, next, until, untilThen, Disjunction, term, or, Term, tru, not, modal, paren}
 
 mutual
   pub data InDisjunction : Type 0 where
@@ -96,8 +96,9 @@ named l k false e y = y
 
 abbrev pub operandStep : InOperand → ℕ → ReaderStep
 operandStep k b =
-    on b 42 (go (plugO any k)) (on b 126 (go (operandAt (oNot k 0))) (on b 40 (go (operandAt (oFirst (sParen k 0))))
-    (named (b ∷ []) k (isName (b ∷ [])) refl stop)))
+    on b 42 (go (plugO any k)) (on b 63 (go (plugO received k)) (on b 33 (go (plugO sent k))
+    (on b 126 (go (operandAt (oNot k 0))) (on b 40 (go (operandAt (oFirst (sParen k 0))))
+    (named (b ∷ []) k (isName (b ∷ [])) refl stop)))))
 
 abbrev pub closeStep : Set → InSet → ℕ → ℕ → ReaderStep
 closeStep x (sParen k a) g b = on b 41 (go (plugO (group a x g) k)) stop

@@ -12,12 +12,12 @@ use Rattle.lts.specs.Lists.{bind}
 use Rattle.lts.specs.Names.{lookup}
 use Rattle.lts.specs.Prepared.{tableIn}
 use Rattle.lts.specs.HoldsTable.{HoldsTable}
-use Rattle.actl.specs.Actions.{Cond, maskOf}
+use Rattle.actl.specs.Actions.{Cond}
 use Rattle.actl.specs.Formulas.{Formula, size, nodes}
 use Rattle.actl.specs.Grammar.{gap, Set, Operand, Condition, Quantifier, Head, next, Disjunction, Term, showS, showO, showC, showH, showF, showT}
 use Rattle.actl.specs.Reader.{oFirst, InTerm, tFirst, tModal, termAt, afterNext, afterUntil, operandAt, afterSet, afterDisjunction, plugO, plugT, read, whole, refused}
 use Rattle.actl.specs.Mentions.{Mention, namesS, namesO, namesC, namesH, namesF, namesT}
-use Rattle.actl.specs.Meaning.{actionOfOperand, maskIn, condOf, modalOf, formulaOf, formulaOfTerm}
+use Rattle.actl.specs.Meaning.{labelsOf, actionOfOperand, maskIn, condOf, modalOf, formulaOf, formulaOfTerm}
 use Rattle.actl.specs.Reading.{unknownAt, firstUnknown}
 use Rattle.actl.specs.Prepared.{Slot, slot, slotOf, slotBytes}
 use Rattle.actl.specs.Cursor.{peek, Token, Moves, Marked}
@@ -47,7 +47,7 @@ pub record OperandRead (N : List (List ℕ)) (s : List ℕ) (at lost to mask lef
   pub value : Operand
   pub up : at < to
   pub moves : Moves s at to (showO value) operandAt (plugO value)
-  pub means : mask ≡ maskOf (length N) (actionOfOperand N value)
+  pub means : mask ≡ labelsOf N (actionOfOperand N value)
   pub lacks : left ≡ earlier lost (unknownIn N (length s) (namesO value (drop to s)))
 
 -- A set is read with the blanks behind it.

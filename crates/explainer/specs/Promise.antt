@@ -4,6 +4,7 @@ use mathlib.Core.Path.{_≡_}
 use mathlib.Core.List.{List}
 use Prim.Native.Nat.{ℕ}
 use Rattle.lts.specs.Reply.{refusal}
+use Rattle.lts.specs.Names.{marked}
 use Rattle.actl.specs.Grammar.{Grammatical, Longest}
 use Rattle.explanations.specs.Demands.{FromTexts}
 use Rattle.explanations.specs.Explanation.{explaining}
@@ -15,5 +16,5 @@ use Rattle.explainer.specs.declared.ExplainReply.{ExplainReply}
 pub record Promise (tableText formulaText table table′ formula formula′ rows rows′ edges edges′ : List ℕ) (r : ExplainReply) : Type 0 where
   pub outcome : Outcome (explaining tableText formulaText table formula rows edges) r table table′ formula formula′ rows rows′ edges edges′
   -- 01: "formula not in the grammar": "length of the longest beginning that some grammatical text, of any length, has"
-  pub longest : (n : ℕ) → explainReply r ≡ refusal 6 n → Longest formulaText n × (Grammatical formulaText → ⊥)
+  pub longest : (n : ℕ) → explainReply r ≡ refusal 6 n → Longest marked formulaText n × (Grammatical marked formulaText → ⊥)
   pub demands : FromTexts tableText formulaText (explainReply r) table′ formula′ rows′ edges′

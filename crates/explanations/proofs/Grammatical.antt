@@ -12,6 +12,7 @@ use Rattle.lts.specs.Reading.{readTable}
 use Rattle.lts.proofs.Laws.Refusals.{Between, numbered-of, numbered-answers, same-refusal, unless-refused, table-numbers}
 use Rattle.actl.specs.Sizes.{formulaLength}
 use Rattle.actl.specs.Formulas.{Formula}
+use Rattle.lts.specs.Names.{marked}
 use Rattle.actl.specs.Grammar.{Grammatical, Longest}
 use Rattle.actl.specs.Reading.{readFormula}
 use Rattle.actl.proofs.Laws.ByGrammar.{reading-longest}
@@ -37,14 +38,14 @@ module _ (tableText formulaText table formula rows edges : List ℕ) where
   abbrev onFormula : Table → Formula → Reply Explanation
   onFormula t F = answers (onListing t F) (fitted (listing t F) rows edges)
 
-  pub explanation-longest : (n : ℕ) → explanation tableText formulaText rows edges ≡ refusal 6 n → Longest formulaText n × (Grammatical formulaText → ⊥)
+  pub explanation-longest : (n : ℕ) → explanation tableText formulaText rows edges ≡ refusal 6 n → Longest marked formulaText n × (Grammatical marked formulaText → ⊥)
   explanation-longest n e =
       let (t, d) = second-refused 6 n (λ t. andThen (readFormula (t .names) formulaText) (onFormula t)) (readTable tableText)
       (λ z. let h = numbered-of (Between 1 4) (readTable tableText) 6 n (table-numbers tableText) z in omega (arith, h .1)) e in
       reading-longest (t .names) formulaText n (first-refused 6 n (onFormula t) (readFormula (t .names) formulaText)
       (λ F z. let h = numbered-of (Between 11 12) (onFormula t F) 6 n (numbered-answers (Between 11 12) (onListing t F) (fitted (listing t F) rows edges) (fitted-numbers (listing t F) rows edges)) z in omega (arith, h .0)) d)
 
-  pub explaining-longest : (n : ℕ) → explaining tableText formulaText table formula rows edges ≡ refusal 6 n → Longest formulaText n × (Grammatical formulaText → ⊥)
+  pub explaining-longest : (n : ℕ) → explaining tableText formulaText table formula rows edges ≡ refusal 6 n → Longest marked formulaText n × (Grammatical marked formulaText → ⊥)
   unfolding explaining
   explaining-longest n e =
       let next = explanation tableText formulaText rows edges in

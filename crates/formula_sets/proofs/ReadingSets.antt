@@ -7,11 +7,11 @@ use Prim.Native.Nat.{ℕ, _+_, _-_, _≤_}
 use native.Mathlib.Omega.{arith}
 use lib.Bits.{bitOr, or-zero-l}
 use lib.ListN.{length, drop}
-use Rattle.lts.specs.Names.{isLower}
-use Rattle.actl.specs.Actions.{Action, maskOf}
-use Rattle.actl.specs.Grammar.{gap, Set, operand, union, Operand, any, except, group, showS, showO}
+use Rattle.lts.specs.Names.{isLower, Direction, labelDirection}
+use Rattle.actl.specs.Actions.{Action}
+use Rattle.actl.specs.Grammar.{gap, Set, operand, union, Operand, any, received, sent, except, group, showS, showO}
 use Rattle.actl.specs.Reader.{InSet, sParen, InOperand, oFirst, oOr, oNot, operandAt, afterSet, stop, closeStep, plugO}
-use Rattle.actl.specs.Meaning.{actionOfSet, actionOfOperand, maskIn}
+use Rattle.actl.specs.Meaning.{labelsOf, actionOfSet, actionOfOperand, maskIn}
 use Rattle.actl.specs.Mentions.{namesS, namesO}
 use Rattle.actl.specs.Cursor.{peek, Token, Skipped, Moves, Fails, Marked, Tokened}
 use Rattle.actl.specs.Readers.{unknownIn, earlier, OperandRead, SetRead, EnclosedRead, Unclosed}
@@ -20,7 +20,7 @@ use Rattle.formula_sets.specs.declared.Labels.{Labels}
 use Rattle.formula_sets.specs.declared.Labels.the-variants.{Read, Refused}
 use Rattle.actl.proofs.ReadingMasks.{mask-complement, mask-union}
 use Rattle.formula_cursor.proofs.ReadingMoves.{on-other, skipped-token, then, fail, at-only, fail-only, written-as, skip, stops, equal, marked, tokened}
-use Rattle.formula_cursor.proofs.ReadingNames.{named-no}
+use Rattle.actl.proofs.Complete.{named-no}
 use Rattle.actl.proofs.ReadingLabels.{earlier-none, earlier-append}
 
 pub token-behind : {s : List ℕ} {at mark d : ℕ} → Tokened s at mark d → Token s d
@@ -35,28 +35,34 @@ set-stops {s} {to} h f e =
     (λ k. on-other (peek s to) 32 _ _ (m .token .past) ∙ (on-other (peek s to) 124 _ _ (m .last) ∙ e (m .value) (m .blanks) k (h .other))))
 
 module _ (N : List (List ℕ)) (s : List ℕ) (at lost : ℕ) where
-  pub operand-any : {to m : ℕ} → Marked s at 42 to → m ≡ maskOf (length N) Action.any → OperandRead N s at lost to m lost
+  pub operand-any : {to m : ℕ} → Marked s at 42 to → m ≡ labelsOf N Action.any → OperandRead N s at lost to m lost
   operand-any h e = record { value = any; up = omega (arith, h .next); moves = marked h (omega arith) (λ k. refl); means = e; lacks = sym (earlier-none lost) }
 
-  pub operand-stops : Token s at → (peek s at ≡ 42 → ⊥) → (peek s at ≡ 126 → ⊥) → (peek s at ≡ 40 → ⊥) → isLower (peek s at) ≡ false → Fails s at at operandAt
+  pub operand-received : {to m : ℕ} → Marked s at 63 to → m ≡ labelsOf N (Action.directed Direction.received) → OperandRead N s at lost to m lost
+  operand-received h e = record { value = received; up = omega (arith, h .next); moves = marked h (omega arith) (λ k. refl); means = e; lacks = sym (earlier-none lost) }
+
+  pub operand-sent : {to m : ℕ} → Marked s at 33 to → m ≡ labelsOf N (Action.directed Direction.sent) → OperandRead N s at lost to m lost
+  operand-sent h e = record { value = sent; up = omega (arith, h .next); moves = marked h (omega arith) (λ k. refl); means = e; lacks = sym (earlier-none lost) }
+
+  pub operand-stops : Token s at → (peek s at ≡ 42 → ⊥) × (peek s at ≡ 63 → ⊥) × (peek s at ≡ 33 → ⊥) → (peek s at ≡ 126 → ⊥) → (peek s at ≡ 40 → ⊥) → isLower (peek s at) ≡ false → Fails s at at operandAt
   operand-stops h p q r l = stops (h .within) (λ k. refl)
-      (λ k. on-other (peek s at) 32 _ _ (h .past) ∙ (on-other (peek s at) 42 _ _ p ∙ (on-other (peek s at) 126 _ _ q ∙ (on-other (peek s at) 40 _ _ r
-      ∙ named-no (peek s at ∷ []) k _ refl stop (ap (λ t. t && true) l)))))
+      (λ k. on-other (peek s at) 32 _ _ (h .past) ∙ (on-other (peek s at) 42 _ _ (p .0) ∙ (on-other (peek s at) 63 _ _ (p .1) ∙ (on-other (peek s at) 33 _ _ (p .2)
+      ∙ (on-other (peek s at) 126 _ _ q ∙ (on-other (peek s at) 40 _ _ r ∙ named-no (peek s at ∷ []) k _ refl stop (ap (λ t. t && true) l)))))))
 
   module _ {d : ℕ} (t : Tokened s at 126 d) where
     excepted : Moves s at d (λ r. 126 ∷ gap (d - (at + 1)) r) operandAt (λ i. operandAt (oNot i (d - (at + 1))))
     excepted = tokened (λ g i. operandAt (oNot i g)) t (omega arith) (λ i. refl) (λ g i. refl)
 
     -- The complement does not wrap.
-    pub except-within : {to m l all : ℕ} → OperandRead N s d lost to m l → all ≡ maskOf (length N) Action.any → m ≤ all
-    except-within h e = omega (arith, h .means, mask-complement (length N) (actionOfOperand N (h .value)))
+    pub except-within : {to m l all : ℕ} → OperandRead N s d lost to m l → all ≡ labelsOf N Action.any → m ≤ all
+    except-within h e = omega (arith, h .means, mask-complement (labelDirection N) (length N) (actionOfOperand N (h .value)))
 
-    pub operand-except : {to m l all : ℕ} → OperandRead N s d lost to m l → all ≡ maskOf (length N) Action.any → OperandRead N s at lost to (all - m) l
+    pub operand-except : {to m l all : ℕ} → OperandRead N s d lost to m l → all ≡ labelsOf N Action.any → OperandRead N s at lost to (all - m) l
     operand-except h e = record {
       value = except (d - (at + 1)) (h .value);
       up = omega (arith, h .up, t .skipped .up);
       moves = then excepted (at-only (λ i. oNot i (d - (at + 1))) (h .moves));
-      means = omega (arith, h .means, mask-complement (length N) (actionOfOperand N (h .value)));
+      means = omega (arith, h .means, mask-complement (labelDirection N) (length N) (actionOfOperand N (h .value)));
       lacks = h .lacks;
     }
 
@@ -93,7 +99,7 @@ pub record Pending (N : List (List ℕ)) (s : List ℕ) (at lost to mask left : 
   pub shows : (o : Operand) (r : List ℕ) → text (showO o r) ≡ showS (value o) r
   pub token : Token s to
   pub moves : Moves s at to text (λ k. operandAt (oFirst k)) (λ k. operandAt (place k))
-  pub means : (o : Operand) → bitOr mask (maskOf (length N) (actionOfOperand N o)) ≡ maskIn N (value o)
+  pub means : (o : Operand) → bitOr mask (labelsOf N (actionOfOperand N o)) ≡ maskIn N (value o)
   pub lacks : (o : Operand) (r : List ℕ) → drop to s ≡ showO o r
       → earlier left (unknownIn N (length s) (namesO o r)) ≡ earlier lost (unknownIn N (length s) (namesS (value o) r))
 
@@ -106,7 +112,7 @@ pending-first N s at lost h = record {
   shows = λ o r. refl;
   token = h;
   moves = equal (h .within) (λ k. refl);
-  means = λ o. or-zero-l (maskOf (length N) (actionOfOperand N o));
+  means = λ o. or-zero-l (labelsOf N (actionOfOperand N o));
   lacks = λ o r e. refl;
 }
 
@@ -150,7 +156,7 @@ module _ {N : List (List ℕ)} {s : List ℕ} {at lost d mask left : ℕ} (j : P
           shows = λ o r. refl;
           token = token-behind t;
           moves = then joined v;
-          means = λ o. ap (λ z. bitOr z (maskOf (length N) (actionOfOperand N o))) joined-means ∙ sym (mask-union (length N) (actionOfSet N x) (actionOfOperand N o));
+          means = λ o. ap (λ z. bitOr z (labelsOf N (actionOfOperand N o))) joined-means ∙ sym (mask-union (labelDirection N) (length N) (actionOfSet N x) (actionOfOperand N o));
           lacks = λ o r q. ap (λ z. earlier z (unknownIn N (length s) (namesO o r)))
               (joined-lacks ∙ ap (λ z. earlier lost (unknownIn N (length s) (namesS x (gap (f - e) z)))) (v .text ∙ ap (λ z. 124 ∷ gap n z) q))
               ∙ sym (earlier-append N (length s) lost (namesS x (gap (f - e) (124 ∷ gap n (showO o r)))) (namesO o r));

@@ -1,12 +1,20 @@
 -- What the readers of sets answer.
+use mathlib.Core.Path.{_≡_}
 use mathlib.Core.Logic.{_⊎_}
 use mathlib.Core.List.{List}
 use Prim.Native.Nat.{ℕ}
 use Rattle.actl.specs.Reader.{oFirst, operandAt}
-use Rattle.actl.specs.Cursor.{Fails}
+use Rattle.actl.specs.Cursor.{peek, Fails}
+use Rattle.formula_sets.specs.declared.Wildcard.{Wildcard}
+use Rattle.formula_sets.specs.declared.Wildcard.the-variants as wildcard
 use Rattle.formula_sets.specs.declared.Labels.{Labels}
 use Rattle.formula_sets.specs.declared.Labels.the-variants as labels
 use Rattle.actl.specs.Readers.{OperandRead, SetRead, EnclosedRead, Unclosed}
+
+-- An operand that is one mark.
+abbrev pub WildcardAnswer : List (List ℕ) → List ℕ → ℕ → Wildcard → Type 0
+WildcardAnswer N s at (wildcard.Past c m) = (lost : ℕ) → OperandRead N s at lost (c .at) m lost
+WildcardAnswer N s at wildcard.Missing = (peek s at ≡ 42 → ⊥) × (peek s at ≡ 63 → ⊥) × (peek s at ≡ 33 → ⊥)
 
 abbrev pub OperandAnswer : List (List ℕ) → List ℕ → ℕ → ℕ → Labels → Type 0
 OperandAnswer N s at lost (labels.Read c m l) = OperandRead N s at lost (c .at) m l

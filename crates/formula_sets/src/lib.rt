@@ -1,17 +1,26 @@
 // Reading a set of labels: readers that call each other, each from a cursor to the cursor behind what it read.
 ghost use mathlib.Core.Path.{_≡_};
 ghost use mathlib.Core.Option.{some};
-ghost use Prim.Native.Nat.{_+_, _*_, _-_, _<_};
+ghost use Prim.Native.Nat.{_+_, _*_, _-_, _^_, _<_, suc};
 ghost use lib.ListN.{length};
 ghost use Rattle.actl.specs.Sizes.{longestText};
 ghost use Rattle.lts.specs.HoldsTable.{HoldsTable};
-ghost use Rattle.actl.specs.Actions.{Action, maskOf};
+ghost use mathlib.Core.Bool.{cond};
+ghost use Rattle.lts.specs.Names.{labelDirection, sameDirection};
+ghost use Rattle.lts.specs.Prepared.{tableIn};
+ghost use Rattle.lts.specs.Steps.{labels};
+ghost use Rattle.actl.specs.Actions.{Action};
+ghost use Rattle.actl.specs.Meaning.{labelsOf};
+ghost use Rattle.tables.specs.Access.{directionIn};
 ghost use Rattle.actl.specs.Cursor.{Named};
 ghost use Rattle.actl.specs.Readers.{namesIn, ReaderStart, earlier};
-ghost use Rattle.formula_sets.specs.SetReplies.{OperandAnswer, EnclosedAnswer, SetAnswer};
+ghost use Rattle.formula_sets.specs.SetReplies.{WildcardAnswer, OperandAnswer, EnclosedAnswer, SetAnswer};
 use formula_cursor::Cursor;
 use formula_cursor::Match;
+use tables::names::Direction;
 use tables::names::Lookup;
+use tables::names::label_direction;
+use tables::names::same_direction;
 
 // A set of labels as a mask; or the place where the text is refused. The last number is 0 as long as the table has
 // every name, and else one more than the offset of the first that it lacks.
@@ -20,12 +29,45 @@ pub enum Labels {
     Refused(Cursor),
 }
 
+// The labels that one mark stands for, as a mask; or no such mark stands here.
+pub enum Wildcard {
+    Past(Cursor, u64),
+    Missing,
+}
+
 // 01: "`*` (all labels)". Label 0 is none of them.
 fn all_labels(table: &[u8]) -> u64
     requires { ⌜ HoldsTable (now table) ⌝ }
-    ensures { λ r. ⌜ r ≡ maskOf (length (namesIn (now (table .entry)))) Action.any ⌝ }
+    ensures { λ r. ⌜ r ≡ labelsOf (namesIn (now (table .entry))) Action.any ⌝ }
 {
     (2u64 << tables::prepared::label_count(table)) - 2
+}
+
+// The bit of label k + 1 if it has the direction, and else none.
+fn directed_bit(table: &[u8], k: usize, wanted: Direction) -> u64
+    requires { ⌜ HoldsTable (now table) × (k < labels (tableIn (now table))) ⌝ }
+    ensures { λ r. ⌜ r ≡ cond (sameDirection (labelDirection (namesIn (now (table .entry))) (suc k)) (directionIn wanted)) (2 ^ suc k) 0 ⌝ }
+{
+    if same_direction(label_direction(table, k), wanted) {
+        2u64 << k
+    } else {
+        0
+    }
+}
+
+// 02: "an operand `?` is all received labels and an operand `!` all sent ones"
+fn directed_labels(table: &[u8], wanted: Direction) -> u64
+    requires { ⌜ HoldsTable (now table) ⌝ }
+    ensures { λ r. ⌜ r ≡ labelsOf (namesIn (now (table .entry))) (Action.directed (directionIn wanted)) ⌝ }
+{
+    let count = tables::prepared::label_count(table);
+    let mut mask = 0u64;
+    let mut k: usize = 0;
+    while k < count {
+        mask = mask + directed_bit(table, k, wanted);
+        k += 1;
+    }
+    mask
 }
 
 // The first offset so far is kept.
@@ -50,13 +92,30 @@ fn label(table: &[u8], text: &[u8], c: Cursor, d: Cursor, lost: usize) -> Labels
     }
 }
 
+// 01: "`*` (all labels)"; 02: `?` and `!`.
+fn wildcard_labels(table: &[u8], text: &[u8], c: Cursor) -> Wildcard
+    requires { ⌜ ReaderStart (now table) (now text) (c .at) ⌝ }
+    ensures { λ r. ⌜ WildcardAnswer (namesIn (now (table .entry))) (now (text .entry)) (c .at) r ⌝ }
+{
+    if let Match::Past(d) = c.mark(text, b'*') {
+        return Wildcard::Past(d, all_labels(table));
+    }
+    if let Match::Past(d) = c.mark(text, b'?') {
+        return Wildcard::Past(d, directed_labels(table, Direction::Received));
+    }
+    if let Match::Past(d) = c.mark(text, b'!') {
+        return Wildcard::Past(d, directed_labels(table, Direction::Sent));
+    }
+    Wildcard::Missing
+}
+
 // 01: "an operand is a name, `*` (all labels), `~` and an operand, or a set in round brackets"
 fn operand(table: &[u8], text: &[u8], c: Cursor, lost: usize) -> Labels
     requires { ⌜ ReaderStart (now table) (now text) (c .at) ⌝ }
     ensures { λ r. ⌜ OperandAnswer (namesIn (now (table .entry))) (now (text .entry)) (c .at) lost r ⌝ }
 {
-    if let Match::Past(d) = c.mark(text, b'*') {
-        return Labels::Read(d, all_labels(table), lost);
+    if let Wildcard::Past(d, m) = wildcard_labels(table, text, c) {
+        return Labels::Read(d, m, lost);
     }
     if let Match::Past(d) = c.token(text, b'~') {
         let x = operand(table, text, d, lost);

@@ -10,6 +10,7 @@ pub mod LabelLayout
 pub mod Layout
 pub mod Lines
 pub mod LinesRead
+pub mod NameBytes
 pub mod NameRuns
 pub mod Names
 pub mod Pasted
@@ -20,6 +21,7 @@ pub mod Refusals
 pub mod SlotBytes
 pub mod SlotNames
 pub mod Slots
+pub mod Stems
 pub mod TableBytes
 pub mod Tests
 pub mod Texts

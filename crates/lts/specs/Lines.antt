@@ -22,5 +22,5 @@ pub record Labelled (s : List ℕ) (at number end : ℕ) : Type 0 where
   pub lies : LineAt labelLaidOut s at (end + 1) bytes
   pub numbered : valueAt 0 bytes ≡ number
   pub starts : at + 7 ≤ end
-  pub ends : end ≤ at + 19
+  pub ends : end ≤ at + 20
   pub name : drop 7 bytes ≡ take (end - (at + 7)) (drop (at + 7) s)

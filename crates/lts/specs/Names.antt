@@ -1,11 +1,11 @@
--- Label names: which bytes are one, where one ends in a text, and looking one up.
+-- Label names: which bytes are one, what its mark says, where one ends in a text, and looking one up.
 use mathlib.Core.Path.{_≡_}
 use mathlib.Core.Bool.{Bool, true, false, cond, _&&_, _||_}
 use mathlib.Core.List.{List, [], _∷_}
 use mathlib.Core.Option.{Option, none, some}
 use Prim.Native.Nat.{ℕ, zero, suc, _+_}
 use lib.Dec.{leb, eqb}
-use lib.ListN.{drop}
+use lib.ListN.{take, drop, getD}
 use Rattle.columns.specs.Bytes.{sameBytes}
 
 -- 01: "a lower-case letter, then lower-case letters, digits or underscores"
@@ -15,33 +15,97 @@ isLower b = leb 97 b && leb b 122
 abbrev pub isNameByte : ℕ → Bool
 isNameByte b = isLower b || (eqb b 95 || (leb 48 b && leb b 57))
 
-abbrev pub atMost : ℕ → List ℕ → Bool
-atMost n [] = true
-atMost zero (b ∷ l) = false
-atMost (suc n) (b ∷ l) = isNameByte b && atMost n l
+-- 02: "A name may end in one `?` or `!` beyond its 12 bytes". Whether it may is a parameter: 01's names have no marks.
+pub data Marks : Type 0 where
+  unmarked marked : Marks
+
+abbrev pub isMark : ℕ → Bool
+isMark b = eqb b 63 || eqb b 33
+
+-- The byte b is a mark, and nothing stands behind it.
+abbrev pub isLastMark : Marks → ℕ → List ℕ → Bool
+isLastMark unmarked b l = false
+isLastMark marked b [] = isMark b
+isLastMark marked b (c ∷ l) = false
+
+-- At most n bytes of a name, and perhaps a mark.
+abbrev pub atMost : Marks → ℕ → List ℕ → Bool
+atMost m n [] = true
+atMost m zero (b ∷ l) = isLastMark m b l
+atMost m (suc n) (b ∷ l) = isLastMark m b l || (isNameByte b && atMost m n l)
 
 -- 01: "A name has 1 to 12 bytes"
+abbrev pub isNameWith : Marks → List ℕ → Bool
+isNameWith m [] = false
+isNameWith m (b ∷ l) = isLower b && atMost m 11 l
+
 abbrev pub isName : List ℕ → Bool
-isName [] = false
-isName (b ∷ l) = isLower b && atMost 11 l
+isName l = isNameWith marked l
 
 abbrev pub longestName : ℕ
-longestName = 12
+longestName = 13
 
--- How many bytes the longest name has that a text starts with; 0 if it starts with none (proofs/Laws/NameRuns.antt: `run-is-name`,
--- `run-is-longest`).
-abbrev pub nameRun : ℕ → List ℕ → ℕ
-nameRun zero s = 0
-nameRun (suc n) [] = 0
-nameRun (suc n) (b ∷ s) = cond (isNameByte b) (suc (nameRun n s)) 0
+-- 02: "its direction (none, in, out)": "`clamp!` is sent, `clamp?` is received"
+pub data Direction : Type 0 where
+  neither received sent : Direction
+
+abbrev pub directionOfMark : ℕ → Direction
+directionOfMark b = cond (eqb b 63) received (cond (eqb b 33) sent neither)
+
+-- A name's last byte tells.
+abbrev pub directionBehind : ℕ → List ℕ → Direction
+directionBehind b [] = directionOfMark b
+directionBehind b (c ∷ l) = directionBehind c l
+
+abbrev pub directionOf : List ℕ → Direction
+directionOf [] = neither
+directionOf (b ∷ l) = directionBehind b l
+
+-- Numbers tell directions apart (proofs/Laws/NameRuns.antt: `same-direction`).
+abbrev pub directionCode : Direction → ℕ
+directionCode neither = 0
+directionCode received = 1
+directionCode sent = 2
+
+abbrev pub sameDirection : Direction → Direction → Bool
+sameDirection d e = eqb (directionCode d) (directionCode e)
+
+-- The direction of label a, which has the name at a - 1.
+abbrev pub labelDirection : List (List ℕ) → ℕ → Direction
+labelDirection names zero = neither
+labelDirection names (suc k) = directionOf (getD names k [])
+
+-- How many bytes the longest name without its mark has that a text starts with; 0 if it starts with none.
+abbrev pub stemRun : ℕ → List ℕ → ℕ
+stemRun zero s = 0
+stemRun (suc n) [] = 0
+stemRun (suc n) (b ∷ s) = cond (isNameByte b) (suc (stemRun n s)) 0
+
+abbrev pub stemLength : List ℕ → ℕ
+stemLength [] = 0
+stemLength (b ∷ s) = cond (isLower b) (suc (stemRun 11 s)) 0
+
+abbrev pub stemEnd : List ℕ → ℕ → ℕ
+stemEnd s from = from + stemLength (drop from s)
+
+-- The same of the longest name, its mark included (proofs/Laws/Names.antt: `run-is-name`, `run-is-longest`).
+abbrev pub markLength : List ℕ → ℕ
+markLength [] = 0
+markLength (b ∷ s) = cond (isMark b) 1 0
+
+abbrev pub withMark : ℕ → List ℕ → ℕ
+withMark zero s = 0
+withMark (suc n) s = suc n + markLength (drop (suc n) s)
 
 abbrev pub nameLength : List ℕ → ℕ
-nameLength [] = 0
-nameLength (b ∷ s) = cond (isLower b) (suc (nameRun 11 s)) 0
+nameLength s = withMark (stemLength s) s
 
--- The place behind the longest name that stands at a place of a text; the place itself if none does.
+-- The place behind the longest name that stands at a place of a text, and its direction; the place itself if none does.
 abbrev pub nameEnd : List ℕ → ℕ → ℕ
 nameEnd s from = from + nameLength (drop from s)
+
+abbrev pub nameDirection : List ℕ → ℕ → Direction
+nameDirection s from = directionOf (take (nameLength (drop from s)) (drop from s))
 
 -- Where a name stands in a list of names, from k; that is its label's number if k is 1.
 unfoldable pub findFrom : ℕ → List (List ℕ) → List ℕ → Option ℕ

@@ -42,7 +42,7 @@ firstsLength = suc mostStates
 
 -- The longest text of a table: its lines with their LFs. One byte more gets the same answer as any longer text.
 abbrev pub longestTableText : ℕ
-longestTableText = 25 + (mostLabels * 20 + mostTransitions * 19)
+longestTableText = 25 + (mostLabels * 21 + mostTransitions * 19)
 
 abbrev pub enoughTableText : ℕ
 enoughTableText = suc longestTableText

@@ -11,7 +11,7 @@ use lts::sizes::TRANSITIONS;
 use lts::sizes::TRANSITIONS_AT;
 use tables::names::Lookup;
 use tables::names::find;
-use tables::names::name_end;
+use tables::names::read_name;
 use tables::prepared::below;
 use tables::prepared::byte;
 use tables::prepared::label_count;
@@ -114,7 +114,8 @@ fn name_held(table: &[u8], k: usize) -> bool
     ensures { λ r. ⌜ Decides (NameHeld (now (table .entry)) k) r ⌝ }
 {
     let at = NAME_BYTES_AT + k * NAME_SLOT;
-    let end = name_end(table, at);
+    let name = read_name(table, at);
+    let end = name.end;
     if end == at {
         return false;
     }

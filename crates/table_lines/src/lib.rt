@@ -10,7 +10,7 @@ ghost use Rattle.lts.specs.Reading.{headerInRange, stepInRange};
 ghost use Rattle.table_lines.specs.LineReplies.{header, HeaderAnswer, LabelAnswer, TransitionAnswer};
 ghost use Rattle.tables.specs.Access.{stepIn};
 use columns::Column;
-use tables::names::name_end;
+use tables::names::read_name;
 use tables::prepared::Transition;
 
 pub mod slots;
@@ -87,7 +87,8 @@ pub fn label_line(text: &[u8], at: usize) -> LabelLine
         return LabelLine::NoLabel;
     }
     let from = at + 7;
-    let end = name_end(text, from);
+    let name = read_name(text, from);
+    let end = name.end;
     if end == from {
         return LabelLine::NoLabel;
     }

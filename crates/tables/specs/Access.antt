@@ -4,8 +4,11 @@ use mathlib.Core.List.{List}
 use mathlib.Core.Option.{Option, none, some}
 use Prim.Native.Nat.{ℕ, _<_}
 use Rattle.lts.specs.Steps.{Step}
+use Rattle.lts.specs.Names as names
 use Rattle.lts.specs.Prepared.{transitionAt}
 use Rattle.tables.specs.declared.prepared.Transition.{Transition}
+use Rattle.tables.specs.declared.names.Direction.{Direction}
+use Rattle.tables.specs.declared.names.Direction.the-variants.{Neither, Received, Sent}
 use Rattle.tables.specs.declared.names.Lookup.{Lookup}
 use Rattle.tables.specs.declared.names.Lookup.the-variants.{At, Nowhere}
 
@@ -23,3 +26,9 @@ pub record StepRead (b : List ℕ) (k : ℕ) (r : Transition) : Type 0 where
 abbrev pub foundIn : Lookup → Option ℕ
 foundIn (At k) = some k
 foundIn Nowhere = none
+
+-- A name's direction.
+abbrev pub directionIn : Direction → names.Direction
+directionIn Neither = names.neither
+directionIn Received = names.received
+directionIn Sent = names.sent

@@ -1,19 +1,35 @@
-// Names of labels: where a name ends in a text, whether two are equal, and where one stands in slots of names. A slot has 16 bytes:
-// the name's length, its bytes, zeros. Nothing else knows the bytes of a name or how names are compared.
+// Names of labels: where a name ends in a text and which direction its mark gives it, whether two are equal, and where one stands in slots
+// of names. A slot has 16 bytes: the name's length, its bytes, zeros. Nothing else knows the bytes of a name or how names are compared.
+use crate::prepared::byte;
 use crate::prepared::label_count;
 use lts::sizes::HEAD;
+use lts::sizes::NAME_BYTES_AT;
 use lts::sizes::NAME_SLOT;
 use lts::sizes::TRANSITIONS_AT;
 ghost use mathlib.Core.Path.{_≡_};
-ghost use Prim.Native.Nat.{_+_, _*_, _≤_};
+ghost use Prim.Native.Nat.{_+_, _*_, _≤_, _<_, suc};
 ghost use lib.ListN.{length};
 ghost use Rattle.lts.specs.Sizes.{mostLabels, nameSlotLength, tableLength};
 ghost use Rattle.columns.specs.Bytes.{sameBytes};
 ghost use Rattle.lts.specs.Steps.{labels};
-ghost use Rattle.lts.specs.Names.{longestName, isLower, isNameByte, nameEnd, lookup};
+ghost use Rattle.lts.specs.Names.{longestName, isLower, isNameByte, stemEnd, nameEnd, nameDirection, labelDirection, directionCode, sameDirection, lookup};
 ghost use Rattle.lts.specs.Prepared.{tableIn};
+ghost use Rattle.lts.specs.HoldsTable.{HoldsTable};
 ghost use Rattle.lts.specs.Slots.{storedName, storedNames};
-ghost use Rattle.tables.specs.Access.{foundIn};
+ghost use Rattle.tables.specs.Access.{foundIn, directionIn};
+
+// 02: "its direction (none, in, out)"
+pub enum Direction {
+    Neither,
+    Received,
+    Sent,
+}
+
+// The place behind a name, and its direction.
+pub struct NameRead {
+    pub end: usize,
+    pub direction: Direction,
+}
 
 pub enum Lookup {
     At(usize),
@@ -38,10 +54,10 @@ fn is_name_byte(b: usize) -> bool
     48 <= b && b <= 57
 }
 
-// The place behind the longest name that stands at `from`; `from` if none does. 01: "A name has 1 to 12 bytes"
-pub fn name_end(text: &[u8], from: usize) -> usize
+// The place behind the longest name at `from`, its mark left out; `from` if none stands there. 01: "A name has 1 to 12 bytes"
+fn stem_end(text: &[u8], from: usize) -> usize
     requires { ⌜ from ≤ length (now text) ⌝ }
-    ensures { λ r. ⌜ r ≡ nameEnd (now (text .entry)) from ⌝ }
+    ensures { λ r. ⌜ r ≡ stemEnd (now (text .entry)) from ⌝ }
 {
     if text.len() <= from {
         return from;
@@ -61,6 +77,70 @@ pub fn name_end(text: &[u8], from: usize) -> usize
         n += 1;
     }
     from + n
+}
+
+// The longest name that stands at `from`; it ends there if none does. 02: "A name may end in one `?` or `!` beyond its 12 bytes"
+pub fn read_name(text: &[u8], from: usize) -> NameRead
+    requires { ⌜ from ≤ length (now text) ⌝ }
+    ensures { λ r. ⌜ (r .end ≡ nameEnd (now (text .entry)) from) × (directionIn (r .direction) ≡ nameDirection (now (text .entry)) from) ⌝ }
+{
+    let end = stem_end(text, from);
+    if end == from {
+        return NameRead {
+            end: end,
+            direction: Direction::Neither,
+        };
+    }
+    if text.len() <= end {
+        return NameRead {
+            end: end,
+            direction: Direction::Neither,
+        };
+    }
+    if text[end] == b'?' {
+        return NameRead {
+            end: end + 1,
+            direction: Direction::Received,
+        };
+    }
+    if text[end] == b'!' {
+        return NameRead {
+            end: end + 1,
+            direction: Direction::Sent,
+        };
+    }
+    NameRead {
+        end: end,
+        direction: Direction::Neither,
+    }
+}
+
+// The direction of label k + 1 of a prepared table.
+pub fn label_direction(table: &[u8], k: usize) -> Direction
+    requires { ⌜ HoldsTable (now table) × (k < labels (tableIn (now table))) ⌝ }
+    ensures { λ r. ⌜ directionIn r ≡ labelDirection (tableIn (now (table .entry)) .names) (suc k) ⌝ }
+{
+    let at = NAME_BYTES_AT + k * NAME_SLOT;
+    let end = at + byte(table, HEAD + k * NAME_SLOT);
+    let name = read_name(&table[at..end], 0);
+    name.direction
+}
+
+// Numbers tell directions apart.
+fn direction_code(d: Direction) -> u8
+    ensures { λ r. ⌜ r ≡ directionCode (directionIn d) ⌝ }
+{
+    match d {
+        Direction::Neither => 0,
+        Direction::Received => 1,
+        Direction::Sent => 2,
+    }
+}
+
+pub fn same_direction(a: Direction, b: Direction) -> bool
+    ensures { λ r. ⌜ r ≡ sameDirection (directionIn a) (directionIn b) ⌝ }
+{
+    direction_code(a) == direction_code(b)
 }
 
 // Whether the name in slot k is `name`: most differ in their lengths.

@@ -11,6 +11,7 @@ use lib.ListN.{length}
 use lib.Pow.{pow-pos}
 use borrow.Author.Tests.{leb-true, lt-ltb}
 use Rattle.actl.specs.Sizes.{mostNodes, longestText}
+use Rattle.lts.specs.Names.{labelDirection}
 use Rattle.lts.specs.Reply.{Reply, accepted, refusal, unless}
 use Rattle.lts.proofs.Lists.{and-true-to}
 use Rattle.actl.specs.Actions.{Mask, Cond, silent, labels, maskOf}
@@ -41,7 +42,7 @@ module _ (names : List (List ℕ)) where
 
   set-within : (x : Set) → maskWithin n (maskIn names x) ≡ true
   unfolding n
-  set-within x = mask-within n (actionOfSet names x)
+  set-within x = mask-within (labelDirection names) n (actionOfSet names x)
 
   within-node : (F : Formula) (l : List Formula) → maskWithin n (slotOf F .first) ≡ true → maskWithin n (slotOf F .second) ≡ true → EachWithin n l → EachWithin n (F ∷ l)
   within-node F l d e h g m = step (List·Memᴰ·cases-cons m)

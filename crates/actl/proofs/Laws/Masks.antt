@@ -9,6 +9,7 @@ use native.Mathlib.Omega.{arith}
 use lib.Dec.{eqb, ltb}
 use borrow.Author.Tests.{eq-eqb, ne-eqb, lt-ltb, eqb-true, ltb-true}
 use Rattle.lts.specs.Steps.{silent}
+use Rattle.lts.specs.Names.{Direction}
 use Rattle.lts.proofs.Lists.{and-true-of, and-true-to}
 use Rattle.actl.specs.Actions.{Action, satisfies, Mask, inSet, maskOf}
 use Rattle.actl.specs.Prepared.{maskWithin}
@@ -57,36 +58,37 @@ more-added : (m k : ℕ) (t : Bool) → m < 2 ^ k → eqb ((m + cond t (2 ^ k) 0
 more-added m k true h = eq-eqb ((m + 2 ^ k) / 2 ^ k % 2) 1 (bit-added m k h)
 more-added m k false h = let z = bit-above m k h in rw add-zero (ne-eqb (m / 2 ^ k % 2) 1 (λ e. omega arith))
 
-mask-low : (n : ℕ) (x : Action) → maskOf n x < 2 ^ suc n
-unfolding maskOf
-mask-low zero x = omega arith
-mask-low (suc n) x = more-low (maskOf n x) n (satisfies (suc n) x) (mask-low n x)
+module _ (d : ℕ → Direction) where
+  mask-low : (n : ℕ) (x : Action) → maskOf d n x < 2 ^ suc n
+  unfolding maskOf
+  mask-low zero x = omega arith
+  mask-low (suc n) x = more-low (maskOf d n x) n (satisfies d (suc n) x) (mask-low n x)
 
-mask-even : (n : ℕ) (x : Action) → maskOf n x % 2 ≡ 0
-unfolding maskOf
-mask-even zero x = refl
-mask-even (suc n) x = more-even (maskOf n x) n (satisfies (suc n) x) (mask-even n x)
+  mask-even : (n : ℕ) (x : Action) → maskOf d n x % 2 ≡ 0
+  unfolding maskOf
+  mask-even zero x = refl
+  mask-even (suc n) x = more-even (maskOf d n x) n (satisfies d (suc n) x) (mask-even n x)
 
-pub mask-within : (n : ℕ) (x : Action) → maskWithin n (maskOf n x) ≡ true
-mask-within n x =
-    let m = maskOf n x in
-    and-true-to (eqb (m % 2) 0) (ltb m (2 ^ suc n)) (eq-eqb (m % 2) 0 (mask-even n x)) (lt-ltb m (2 ^ suc n) (mask-low n x))
+  pub mask-within : (n : ℕ) (x : Action) → maskWithin n (maskOf d n x) ≡ true
+  mask-within n x =
+      let m = maskOf d n x in
+      and-true-to (eqb (m % 2) 0) (ltb m (2 ^ suc n)) (eq-eqb (m % 2) 0 (mask-even n x)) (lt-ltb m (2 ^ suc n) (mask-low n x))
 
-bit-satisfied : (n : ℕ) (x : Action) (a : ℕ) → a ≤ n → 1 ≤ a → eqb (maskOf n x / 2 ^ a % 2) 1 ≡ satisfies a x
-unfolding maskOf
-bit-satisfied zero x a h l = absurd (omega arith)
-bit-satisfied (suc n) x a h l = case (decLe a n) (λ d. bit-satisfied n x a d l)
-  where
-    t : Bool
-    t = satisfies (suc n) x
+  bit-satisfied : (n : ℕ) (x : Action) (a : ℕ) → a ≤ n → 1 ≤ a → eqb (maskOf d n x / 2 ^ a % 2) 1 ≡ satisfies d a x
+  unfolding maskOf
+  bit-satisfied zero x a h l = absurd (omega arith)
+  bit-satisfied (suc n) x a h l = case (decLe a n) (λ w. bit-satisfied n x a w l)
+    where
+      t : Bool
+      t = satisfies d (suc n) x
 
-    case : Dec (a ≤ n) → (a ≤ n → eqb (maskOf n x / 2 ^ a % 2) 1 ≡ satisfies a x) → eqb ((maskOf n x + cond t (2 ^ suc n) 0) / 2 ^ a % 2) 1 ≡ satisfies a x
-    case (yes d) ih = ap (λ r. eqb r 1) (more-kept (maskOf n x) a n t d) ∙ ih d
-    case (no d) ih = let e : a ≡ suc n = omega arith in rw e (more-added (maskOf n x) (suc n) t (mask-low n x))
+      case : Dec (a ≤ n) → (a ≤ n → eqb (maskOf d n x / 2 ^ a % 2) 1 ≡ satisfies d a x) → eqb ((maskOf d n x + cond t (2 ^ suc n) 0) / 2 ^ a % 2) 1 ≡ satisfies d a x
+      case (yes w) ih = ap (λ r. eqb r 1) (more-kept (maskOf d n x) a n t w) ∙ ih w
+      case (no w) ih = let e : a ≡ suc n = omega arith in rw e (more-added (maskOf d n x) (suc n) t (mask-low n x))
 
--- Label a is in the mask exactly if it satisfies the formula; 0 and what lies above the labels never is.
-pub mask-satisfied : (n : ℕ) (x : Action) (a : ℕ) → 1 ≤ a → a ≤ n → inSet (maskOf n x) a ≡ satisfies a x
-mask-satisfied n x a l h = in-set-bit (maskOf n x) a l ∙ bit-satisfied n x a h l
+  -- Label a is in the mask exactly if it satisfies the formula; 0 and what lies above the labels never is.
+  pub mask-satisfied : (n : ℕ) (x : Action) (a : ℕ) → 1 ≤ a → a ≤ n → inSet (maskOf d n x) a ≡ satisfies d a x
+  mask-satisfied n x a l h = in-set-bit (maskOf d n x) a l ∙ bit-satisfied n x a h l
 
 pub within-low : (n : ℕ) (m : Mask) → maskWithin n m ≡ true → (m % 2 ≡ 0) × (m < 2 ^ suc n)
 within-low n m e = let (a, b) = and-true-of (eqb (m % 2) 0) (ltb m (2 ^ suc n)) e in (eqb-true (m % 2) 0 a, ltb-true m (2 ^ suc n) b)
@@ -97,5 +99,5 @@ in-set-above n m e a h =
     let z = bit-above m a (lt-of-lt-of-le low (pow-mono h)) in
     in-set-bit m a (omega arith) ∙ ne-eqb (m / 2 ^ a % 2) 1 (λ d. omega arith)
 
-pub mask-none : (n : ℕ) (x : Action) (a : ℕ) → n < a → inSet (maskOf n x) a ≡ false
-mask-none n x a h = in-set-above n (maskOf n x) (mask-within n x) a h
+pub mask-none : (d : ℕ → Direction) (n : ℕ) (x : Action) (a : ℕ) → n < a → inSet (maskOf d n x) a ≡ false
+mask-none d n x a h = in-set-above n (maskOf d n x) (mask-within d n x) a h

@@ -13,7 +13,7 @@ use Rattle.formula_sets.proofs.+enclosed+operand+set.{statement}
 use Rattle.formula_sets.proofs.+enclosed+operand+set.Tie.{close}
 use Rattle.formula_sets.proofs.+enclosed+operand+set.Proof.Measures.{μ-enclosed, μ-operand, μ-set, enclosed-at, operand-at, set-at, enclosed-claims, operand-claims, set-claims}
 use Rattle.formula_sets.proofs.+enclosed+operand+set.Proof.Enclosed.{enclosed-set-requires, enclosed-enum-known-x, enclosed-enum-known-x-2, enclosed-mark-requires, enclosed-enum-known-f, enclosed-enum-told, enclosed-returns, enclosed-returns-2, enclosed-returns-3}
-use Rattle.formula_sets.proofs.+enclosed+operand+set.Proof.Operand.{operand-mark-requires, operand-enum-known-d, operand-all-labels-requires, operand-returns, operand-enum-told, operand-token-requires, operand-enum-known-d-2, operand-operand-requires, operand-enum-known-x, operand-all-labels-requires-2, operand-sub-t19, operand-enum-known-x-2, operand-returns-2, operand-returns-3, operand-enum-told-2, operand-token-requires-2, operand-enum-known-d-3, operand-enclosed-requires, operand-returns-4, operand-enum-told-3, operand-name-requires, operand-enum-known-d-4, operand-label-requires, operand-returns-5, operand-enum-told-4, operand-returns-6}
+use Rattle.formula_sets.proofs.+enclosed+operand+set.Proof.Operand.{operand-wildcard-labels-requires, operand-enum-known-d, operand-returns, operand-enum-told, operand-token-requires, operand-enum-known-d-2, operand-operand-requires, operand-enum-known-x, operand-all-labels-requires, operand-sub-t19, operand-enum-known-x-2, operand-returns-2, operand-returns-3, operand-enum-told-2, operand-token-requires-2, operand-enum-known-d-3, operand-enclosed-requires, operand-returns-4, operand-enum-told-3, operand-name-requires, operand-enum-known-d-4, operand-label-requires, operand-returns-5, operand-enum-told-4, operand-returns-6}
 use Rattle.formula_sets.proofs.+enclosed+operand+set.Proof.Set.{set-Inv-loop, set-μ-loop, set-loop-holds, set-operand-requires, set-enum-known-x, set-returns, set-enum-known-x-2, set-skip-blanks-requires, set-token-requires, set-enum-known-g, set-enum-told, set-returns-2, set-loop-less, set-loop-again}
 
 pub +enclosed+operand+set-spec : {M : Type 1} → statement M
@@ -32,16 +32,15 @@ pub +enclosed+operand+set-spec : {M : Type 1} → statement M
     (λ t. operand-lts.spec (operand-claims t)
     (operand-at t)
     operand.Post
-    (operand-mark-requires t)
+    (operand-wildcard-labels-requires t)
     (operand-enum-known-d t)
-    (operand-all-labels-requires t)
     (operand-returns t)
     (operand-enum-told t)
     (operand-token-requires t)
     (operand-enum-known-d-2 t)
     (operand-operand-requires t)
     (operand-enum-known-x t)
-    (operand-all-labels-requires-2 t)
+    (operand-all-labels-requires t)
     (operand-sub-t19 t)
     (operand-enum-known-x-2 t)
     (operand-returns-2 t)

@@ -1,4 +1,4 @@
--- A table's text has at most 20,281 bytes, so a reader need not hold more than 20,282 of a longer text: they get the same answer.
+-- A table's text has at most 20,321 bytes, so a reader need not hold more than 20,322 of a longer text: they get the same answer.
 use mathlib.Core.Path.{_≡_, refl, sym, ap, _∙_, subst}
 use mathlib.Core.Logic.{_⊎_, inl, inr}
 use mathlib.Core.Bool.{Bool, true, false, cond, not, true≢false, _&&_}
@@ -112,7 +112,7 @@ step-narrow l e =
     let (n₃, d₃) = peeled (drop 12 l) [] last in
     omega (arith, n₁, ap length d₁, n₂, ap length d₂, n₃, ap length last, length-append (column (st .label)) (column (st .to)), ap length twelve, length-append (column (st .to)) [])
 
-label-narrow : (l : List ℕ) → labelLaidOut l ≡ true → length l ≤ 19
+label-narrow : (l : List ℕ) → labelLaidOut l ≡ true → length l ≤ 20
 label-narrow l e =
     let (a, b) = and-true-of (sameBytes l (labelLine (valueAt 0 l) (drop 7 l))) (isName (drop 7 l)) e in
     let (n, d) = peeled l (32 ∷ drop 7 l) (same-of l (labelLine (valueAt 0 l) (drop 7 l)) a) in
@@ -150,12 +150,12 @@ transitions-bounded h names (suc left) steps m text g =
     (transitions-bounded h names left (steps ++ (stepOf l ∷ [])) (m - suc (length l)) rest (omega (arith, step-narrow l e))))
     text
 
-labels-bounded : (h : Header) → h .transitions ≤ mostTransitions → (left : ℕ) (names : List (List ℕ)) (m : ℕ) (text : List ℕ) → 20 * left + 19457 ≤ m
+labels-bounded : (h : Header) → h .transitions ≤ mostTransitions → (left : ℕ) (names : List (List ℕ)) (m : ℕ) (text : List ℕ) → 21 * left + 19457 ≤ m
     → readLabels h left names (take m text) ≡ readLabels h left names text
 unfolding readLabels
 labels-bounded h few zero names m text g = transitions-bounded h names (h .transitions) [] m text (omega arith)
 labels-bounded h few (suc left) names m text g =
-    line-bounded (2 + length names) 19 m labelLaidOut
+    line-bounded (2 + length names) 20 m labelLaidOut
     (λ l rest. unless (eqb (valueAt 0 l) (suc (length names))) 2 (2 + length names) (unless (not (used names (drop 7 l))) 3 (2 + length names) (readLabels h left (names ++ (drop 7 l ∷ [])) rest)))
     label-narrow (omega arith)
     (λ l rest e. ap (λ r. unless (eqb (valueAt 0 l) (suc (length names))) 2 (2 + length names) (unless (not (used names (drop 7 l))) 3 (2 + length names) r))

@@ -85,6 +85,6 @@ module _ (s : List ℕ) (at : ℕ) where
       → (end ≡ at + 7 → ⊥) × (getD s end 256 ≡ 10)
   end-of-name name rest e d end r =
       let n = nameLength (drop (at + 7) s) in
-      let long : n ≡ length name = ap nameLength d ∙ name-is-run 10 rest refl name e in
+      let long : n ≡ length name = ap nameLength d ∙ name-is-run 10 rest refl refl name e in
       let behind : drop end s ≡ 10 ∷ rest = sym (drop-further s (at + 7) n end (sym r)) ∙ ap (drop n) d ∙ drop-at name (10 ∷ rest) n (sym long) in
       ((λ z. omega (arith, name-short name e .0)), byte-back s end (end + 1) 10 rest refl behind .0)

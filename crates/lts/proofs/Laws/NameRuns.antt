@@ -1,165 +1,292 @@
--- Laws of the longest name that a text starts with: how a loop finds it, that it is a name, and which names are it.
-use mathlib.Core.Path.{_≡_, refl, ap, ap₂, _∙_}
+-- Laws of names and their marks: a name is a stem with or without a mark, which names are the longest at a place, and their directions.
+use mathlib.Core.Path.{_≡_, refl, sym, ap, ap₂, _∙_, subst}
 use mathlib.Core.Logic.{_⊎_, inl, inr}
-use mathlib.Core.Bool.{Bool, true, false, cond, false≢true, _&&_, _||_}
-use mathlib.Core.List.{List, [], _∷_, _++_}
-use Prim.Native.Nat.{ℕ, zero, suc, _+_, _-_, _<_, _≤_}
-use native.Mathlib.Numerals.{add-one}
+use mathlib.Core.Bool.{Bool, true, false, cond, true≢false, false≢true, _&&_, _||_}
+use mathlib.Core.List.{List, [], _∷_, _++_, append-assoc, append-nil}
+use Prim.Native.Nat.{ℕ, zero, suc, _+_, _<_, _≤_}
 use native.Mathlib.Omega.{arith}
-use borrow.Author.Tests.{leb-true, eqb-true}
-use lib.Dec.{leb, eqb}
-use lib.ListN.{length, getD, take, drop, drop-of-length-le}
-use lib.Seq.{drop-cons}
-use Rattle.columns.proofs.Laws.Compared.{Each}
-use Rattle.lts.specs.Names.{isLower, isNameByte, atMost, isName, nameRun, nameLength, nameEnd}
-use Rattle.lts.proofs.Lists.{and-true-of, or-true-of}
+use borrow.Author.Tests.{eqb-true, ne-eqb}
+use lib.Dec.{eqb}
+use lib.ListN.{length, getD, take, drop, length-append, length-drop, drop-of-length-le}
+use lib.Seq.{drop-at, drop-cons, drop-drop, take-at, take-add}
+use Rattle.columns.proofs.Laws.Compared.{Each, each-append, each-weaken}
+use Rattle.lts.specs.Names.{isLower, isNameByte, unmarked, marked, isMark, isLastMark, atMost, isNameWith, isName, Direction, neither, received, sent, directionOfMark, directionBehind, directionOf, sameDirection, stemLength, stemEnd, markLength, withMark, nameLength, nameEnd, nameDirection}
+use Rattle.lts.proofs.Lists.{and-true-of, and-true-to, or-true-of, or-true-left, or-true-right}
+use Rattle.lts.proofs.Laws.Stems.{isStem, stem-high, stem-short, stem-is-name, stem-is-longest, stem-is-run}
 
-run-none : (k : ℕ) → nameRun k [] ≡ 0
-run-none zero = refl
-run-none (suc k) = refl
+-- No byte of a name without marks is a mark.
+pub mark-cases : (b : ℕ) → isMark b ≡ true → (b ≡ 63) ⊎ (b ≡ 33)
+mark-cases b e = case (or-true-of (eqb b 63) (eqb b 33) e)
+  where
+    case : (eqb b 63 ≡ true) ⊎ (eqb b 33 ≡ true) → (b ≡ 63) ⊎ (b ≡ 33)
+    case (inl d) = inl (eqb-true b 63 d)
+    case (inr d) = inr (eqb-true b 33 d)
 
--- A run so far: n bytes from `at`.
-pub record NameSoFar (s : List ℕ) (at n : ℕ) : Type 0 where
-  pub some-byte : 1 ≤ n
-  pub few : n ≤ 12
-  pub within : at + n ≤ length s
-  pub left : nameLength (drop at s) ≡ n + nameRun (12 - n) (drop (at + n) s)
+pub mark-foreign : (b : ℕ) → isMark b ≡ true → isNameByte b ≡ false
+mark-foreign b e = case (mark-cases b e)
+  where
+    case : (b ≡ 63) ⊎ (b ≡ 33) → isNameByte b ≡ false
+    case (inl d) = ap isNameByte d
+    case (inr d) = ap isNameByte d
 
-module _ (s : List ℕ) (at : ℕ) where
-  pub no-text : length s ≤ at → at ≡ nameEnd s at
-  no-text h = let none : nameLength (drop at s) ≡ 0 = ap nameLength (drop-of-length-le s h) in omega arith
+-- A name is a stem, or a stem and a mark.
+pub record MarkedBy (P : List ℕ → Type 0) (l : List ℕ) : Type 0 where
+  pub stem : List ℕ
+  pub mark : ℕ
+  pub is-stem : P stem
+  pub is-mark : isMark mark ≡ true
+  pub parts : l ≡ stem ++ (mark ∷ [])
 
-  pub no-letter : at < length s → isLower (getD s at 0) ≡ false → at ≡ nameEnd s at
-  no-letter h e = let none : nameLength (drop at s) ≡ 0 = ap nameLength (drop-cons s at 0 h) ∙ rw e in omega arith
+abbrev AtMost : ℕ → List ℕ → Type 0
+AtMost n p = atMost unmarked n p ≡ true
 
-  pub run-starts : at < length s → isLower (getD s at 0) ≡ true → NameSoFar s at 1
-  run-starts h e = record {
-    some-byte = omega arith;
-    few = omega arith;
-    within = omega arith;
-    left = ap nameLength (drop-cons s at 0 h) ∙ rw (e, add-one) one-more;
-  }
-    where
-      one-more : suc (nameRun 11 (drop (suc at) s)) ≡ 1 + nameRun 11 (drop (suc at) s)
-      one-more = omega arith
+at-most-parts : (n : ℕ) (l : List ℕ) → atMost marked n l ≡ true → AtMost n l ⊎ MarkedBy (AtMost n) l
+at-most-parts n [] e = inl refl
+at-most-parts zero (b ∷ []) e = inr (record { stem = []; mark = b; is-stem = refl; is-mark = e; parts = refl })
+at-most-parts zero (b ∷ c ∷ l) e = absurd (false≢true e)
+at-most-parts (suc n) (b ∷ l) e = case (at-most-parts n l) (or-true-of (isLastMark marked b l) (isNameByte b && atMost marked n l) e)
+  where
+    last : (l : List ℕ) → isLastMark marked b l ≡ true → MarkedBy (AtMost (suc n)) (b ∷ l)
+    last [] d = record { stem = []; mark = b; is-stem = refl; is-mark = d; parts = refl }
+    last (c ∷ l) d = absurd (false≢true d)
 
-  module _ (n : ℕ) (r : NameSoFar s at n) where
-    pub run-at-end : length s ≤ at + n → at + n ≡ nameEnd s at
-    run-at-end h =
-        let none : nameRun (12 - n) (drop (at + n) s) ≡ 0 = ap (nameRun (12 - n)) (drop-of-length-le s h) ∙ run-none (12 - n) in
-        omega (arith, r .left)
+    longer : isNameByte b ≡ true → AtMost n l ⊎ MarkedBy (AtMost n) l → AtMost (suc n) (b ∷ l) ⊎ MarkedBy (AtMost (suc n)) (b ∷ l)
+    longer d (inl h) = inl (and-true-to (isNameByte b) (atMost unmarked n l) d h)
+    longer d (inr h) = inr (record { stem = b ∷ h .stem; mark = h .mark; is-stem = and-true-to (isNameByte b) (atMost unmarked n (h .stem)) d (h .is-stem); is-mark = h .is-mark; parts = ap (λ t. b ∷ t) (h .parts) })
 
-    pub run-full : 12 ≤ n → at + n ≡ nameEnd s at
-    run-full h =
-        let f = r .few in
-        let none : 12 - n ≡ 0 = omega arith in
-        let run : nameRun (12 - n) (drop (at + n) s) ≡ 0 = ap (λ k. nameRun k (drop (at + n) s)) none in
-        omega (arith, r .left)
+    case : (atMost marked n l ≡ true → AtMost n l ⊎ MarkedBy (AtMost n) l) → (isLastMark marked b l ≡ true) ⊎ ((isNameByte b && atMost marked n l) ≡ true)
+        → AtMost (suc n) (b ∷ l) ⊎ MarkedBy (AtMost (suc n)) (b ∷ l)
+    case again (inl d) = inr (last l d)
+    case again (inr d) = let p = and-true-of (isNameByte b) (atMost marked n l) d in longer (p .0) (again (p .1))
 
-    -- One byte further.
-    run-opened : n < 12 → at + n < length s → nameRun (12 - n) (drop (at + n) s) ≡ cond (isNameByte (getD s (at + n) 0)) (suc (nameRun (12 - (n + 1)) (drop (suc (at + n)) s))) 0
-    run-opened h k =
-        let left : 12 - n ≡ suc (12 - (n + 1)) = omega arith in
-        ap₂ nameRun left (drop-cons s (at + n) 0 k)
+abbrev pub IsStem : List ℕ → Type 0
+IsStem l = isStem l ≡ true
 
-    pub run-stops : n < 12 → at + n < length s → isNameByte (getD s (at + n) 0) ≡ false → at + n ≡ nameEnd s at
-    run-stops h k e =
-        let none : nameRun (12 - n) (drop (at + n) s) ≡ 0 = run-opened h k ∙ ap (λ t. cond t (suc (nameRun (12 - (n + 1)) (drop (suc (at + n)) s))) 0) e in
-        omega (arith, r .left)
+pub name-parts : (l : List ℕ) → isName l ≡ true → IsStem l ⊎ MarkedBy IsStem l
+name-parts [] e = absurd (false≢true e)
+name-parts (b ∷ l) e = let p = and-true-of (isLower b) (atMost marked 11 l) e in join (p .0) (at-most-parts 11 l (p .1))
+  where
+    join : isLower b ≡ true → AtMost 11 l ⊎ MarkedBy (AtMost 11) l → IsStem (b ∷ l) ⊎ MarkedBy IsStem (b ∷ l)
+    join d (inl h) = inl (and-true-to (isLower b) (atMost unmarked 11 l) d h)
+    join d (inr h) = inr (record { stem = b ∷ h .stem; mark = h .mark; is-stem = and-true-to (isLower b) (atMost unmarked 11 (h .stem)) d (h .is-stem); is-mark = h .is-mark; parts = ap (λ t. b ∷ t) (h .parts) })
 
-    pub run-goes-on : n < 12 → at + n < length s → isNameByte (getD s (at + n) 0) ≡ true → NameSoFar s at (n + 1)
-    run-goes-on h k e =
-        let more : nameRun (12 - n) (drop (at + n) s) ≡ suc (nameRun (12 - (n + 1)) (drop (suc (at + n)) s)) =
-        run-opened h k ∙ ap (λ t. cond t (suc (nameRun (12 - (n + 1)) (drop (suc (at + n)) s))) 0) e in
-        let place : suc (at + n) ≡ at + (n + 1) = omega arith in
-        let moved : nameRun (12 - (n + 1)) (drop (suc (at + n)) s) ≡ nameRun (12 - (n + 1)) (drop (at + (n + 1)) s) = ap (λ p. nameRun (12 - (n + 1)) (drop p s)) place in
-        record {
-          some-byte = omega arith;
-          few = omega arith;
-          within = omega arith;
-          left = omega (arith, r .left);
-        }
+-- And both are names.
+at-most-marked : (n : ℕ) (l : List ℕ) (m : ℕ) → isMark m ≡ true → AtMost n l → atMost marked n (l ++ (m ∷ [])) ≡ true
+at-most-marked zero [] m h e = h
+at-most-marked (suc n) [] m h e = or-true-left (isMark m) _ h
+at-most-marked zero (b ∷ l) m h e = absurd (false≢true e)
+at-most-marked (suc n) (b ∷ l) m h e =
+    let p = and-true-of (isNameByte b) (atMost unmarked n l) e in
+    or-true-right (isLastMark marked b (l ++ (m ∷ []))) _ (and-true-to (isNameByte b) (atMost marked n (l ++ (m ∷ []))) (p .0) (at-most-marked n l m h (p .1)))
+
+at-most-unmarked : (n : ℕ) (l : List ℕ) → AtMost n l → atMost marked n l ≡ true
+at-most-unmarked n [] e = refl
+at-most-unmarked zero (b ∷ l) e = absurd (false≢true e)
+at-most-unmarked (suc n) (b ∷ l) e =
+    let p = and-true-of (isNameByte b) (atMost unmarked n l) e in
+    or-true-right (isLastMark marked b l) _ (and-true-to (isNameByte b) (atMost marked n l) (p .0) (at-most-unmarked n l (p .1)))
+
+pub stem-marked : (l : List ℕ) (m : ℕ) → isMark m ≡ true → IsStem l → isName (l ++ (m ∷ [])) ≡ true
+stem-marked [] m h e = absurd (false≢true e)
+stem-marked (b ∷ l) m h e = let p = and-true-of (isLower b) (atMost unmarked 11 l) e in and-true-to (isLower b) (atMost marked 11 (l ++ (m ∷ []))) (p .0) (at-most-marked 11 l m h (p .1))
+
+pub stem-named : (l : List ℕ) → IsStem l → isName l ≡ true
+stem-named [] e = absurd (false≢true e)
+stem-named (b ∷ l) e = let p = and-true-of (isLower b) (atMost unmarked 11 l) e in and-true-to (isLower b) (atMost marked 11 l) (p .0) (at-most-unmarked 11 l (p .1))
 
 -- The bytes of a name are above LF and blank.
-lower-high : (b : ℕ) → isLower b ≡ true → 48 ≤ b
-lower-high b e = omega (arith, leb-true 97 b (and-true-of (leb 97 b) (leb b 122) e .0))
-
-name-byte-high : (b : ℕ) → isNameByte b ≡ true → 48 ≤ b
-name-byte-high b e = step (or-true-of (isLower b) (eqb b 95 || (leb 48 b && leb b 57)) e)
-  where
-    rest : (eqb b 95 ≡ true) ⊎ ((leb 48 b && leb b 57) ≡ true) → 48 ≤ b
-    rest (inl d) = omega (arith, eqb-true b 95 d)
-    rest (inr d) = leb-true 48 b (and-true-of (leb 48 b) (leb b 57) d .0)
-
-    step : (isLower b ≡ true) ⊎ ((eqb b 95 || (leb 48 b && leb b 57)) ≡ true) → 48 ≤ b
-    step (inl d) = lower-high b d
-    step (inr d) = rest (or-true-of (eqb b 95) (leb 48 b && leb b 57) d)
-
 abbrev pub High : ℕ → Type 0
-High b = 48 ≤ b
+High b = 33 ≤ b
 
-at-most-high : (n : ℕ) (l : List ℕ) → atMost n l ≡ true → Each High l
-at-most-high n [] e = tt
-at-most-high zero (b ∷ l) e = absurd (false≢true e)
-at-most-high (suc n) (b ∷ l) e = let d = and-true-of (isNameByte b) (atMost n l) e in (name-byte-high b (d .0), at-most-high n l (d .1))
+mark-high : (b : ℕ) → isMark b ≡ true → High b
+mark-high b e = case (mark-cases b e)
+  where
+    case : (b ≡ 63) ⊎ (b ≡ 33) → 33 ≤ b
+    case (inl d) = omega arith
+    case (inr d) = omega arith
 
 pub name-high : (l : List ℕ) → isName l ≡ true → Each High l
-name-high [] e = tt
-name-high (b ∷ l) e = let d = and-true-of (isLower b) (atMost 11 l) e in (lower-high b (d .0), at-most-high 11 l (d .1))
-
-at-most-length : (n : ℕ) (l : List ℕ) → atMost n l ≡ true → length l ≤ n
-at-most-length n [] e = omega arith
-at-most-length zero (b ∷ l) e = absurd (false≢true e)
-at-most-length (suc n) (b ∷ l) e = let d = at-most-length n l (and-true-of (isNameByte b) (atMost n l) e .1) in omega arith
-
-pub name-short : (l : List ℕ) → isName l ≡ true → (0 < length l) × (length l ≤ 12)
-name-short [] e = absurd (false≢true e)
-name-short (b ∷ l) e = let d = at-most-length 11 l (and-true-of (isLower b) (atMost 11 l) e .1) in (omega arith, omega arith)
-
--- A run of name bytes is a name.
-run-at-most : (n : ℕ) (s : List ℕ) → (nameRun n s ≤ length s) × (atMost n (take (nameRun n s) s) ≡ true)
-run-at-most zero s = (omega arith, refl)
-run-at-most (suc n) [] = (omega arith, refl)
-run-at-most (suc n) (b ∷ s) = step (isNameByte b) refl (run-at-most n s)
+name-high l e = case (name-parts l e)
   where
-    step : (t : Bool) → isNameByte b ≡ t → (nameRun n s ≤ length s) × (atMost n (take (nameRun n s) s) ≡ true)
-        → (cond t (suc (nameRun n s)) 0 ≤ suc (length s)) × (atMost (suc n) (take (cond t (suc (nameRun n s)) 0) (b ∷ s)) ≡ true)
-    step true e h = (omega arith, rw e (h .1))
-    step false e h = (omega arith, refl)
+    stem-bytes : (p : List ℕ) → IsStem p → Each High p
+    stem-bytes p h = each-weaken _ High (λ b k. omega arith) p (stem-high p h)
+
+    case : IsStem l ⊎ MarkedBy IsStem l → Each High l
+    case (inl h) = stem-bytes l h
+    case (inr h) = subst (Each High) (sym (h .parts)) (each-append High (h .stem) (h .mark ∷ []) (stem-bytes (h .stem) (h .is-stem)) (mark-high (h .mark) (h .is-mark), tt))
+
+pub name-short : (l : List ℕ) → isName l ≡ true → (0 < length l) × (length l ≤ 13)
+name-short l e = case (name-parts l e)
+  where
+    case : IsStem l ⊎ MarkedBy IsStem l → (0 < length l) × (length l ≤ 13)
+    case (inl h) = let s = stem-short l h in (s .0, omega (arith, s .1))
+    case (inr h) = let n = ap length (h .parts) ∙ length-append (h .stem) (h .mark ∷ []) in let s = stem-short (h .stem) (h .is-stem) in (omega (arith, n), omega (arith, n, s .1))
+
+-- The longest name of a text is its stem, and the mark that stands behind that.
+pub length-split : (s : List ℕ) → 0 < stemLength s → nameLength s ≡ stemLength s + markLength (drop (stemLength s) s)
+length-split s h = split (stemLength s) h
+  where
+    split : (n : ℕ) → 0 < n → withMark n s ≡ n + markLength (drop n s)
+    split zero h = absurd (omega arith)
+    split (suc n) h = refl
+
+pub name-split : (s : List ℕ) → 0 < stemLength s → take (nameLength s) s ≡ take (stemLength s) s ++ take (markLength (drop (stemLength s) s)) (drop (stemLength s) s)
+name-split s h = ap (λ n. take n s) (length-split s h) ∙ take-add (stemLength s) (markLength (drop (stemLength s) s)) s
+
+pub stem-below : (s : List ℕ) → stemLength s ≤ nameLength s
+stem-below s = below (stemLength s)
+  where
+    below : (n : ℕ) → n ≤ withMark n s
+    below zero = omega arith
+    below (suc n) = omega arith
+
+-- What readers take for a name is one.
+marked-run : (p r : List ℕ) → IsStem p → (markLength r ≤ length r) × (isName (p ++ take (markLength r) r) ≡ true)
+marked-run p [] h = (omega arith, ap isName (append-nil p) ∙ stem-named p h)
+marked-run p (b ∷ r) h = case (isMark b) refl
+  where
+    case : (t : Bool) → isMark b ≡ t → (cond t 1 0 ≤ suc (length r)) × (isName (p ++ take (cond t 1 0) (b ∷ r)) ≡ true)
+    case true e = (omega arith, stem-marked p b e h)
+    case false e = (omega arith, ap isName (append-nil p) ∙ stem-named p h)
 
 pub run-is-name : (s : List ℕ) → 0 < nameLength s → (nameLength s ≤ length s) × (isName (take (nameLength s) s) ≡ true)
-run-is-name [] h = absurd (omega arith)
-run-is-name (b ∷ s) h = step (isLower b) refl h (run-at-most 11 s)
+run-is-name s h = case (stemLength s) refl
   where
-    step : (t : Bool) → isLower b ≡ t → 0 < cond t (suc (nameRun 11 s)) 0 → (nameRun 11 s ≤ length s) × (atMost 11 (take (nameRun 11 s) s) ≡ true)
-        → (cond t (suc (nameRun 11 s)) 0 ≤ suc (length s)) × (isName (take (cond t (suc (nameRun 11 s)) 0) (b ∷ s)) ≡ true)
-    step true e k h = (omega arith, rw e (h .1))
-    step false e k h = absurd (omega arith)
+    named : 0 < stemLength s → (nameLength s ≤ length s) × (isName (take (nameLength s) s) ≡ true)
+    named k =
+        let stem = stem-is-name s k in
+        let m = marked-run (take (stemLength s) s) (drop (stemLength s) s) (stem .1) in
+        (omega (arith, length-split s k, stem .0, m .0, length-drop (stemLength s) s), ap isName (name-split s k) ∙ m .1)
 
--- No name that the text starts with is longer.
-at-most-longest : (n : ℕ) (l rest : List ℕ) → atMost n l ≡ true → length l ≤ nameRun n (l ++ rest)
-at-most-longest n [] rest e = omega arith
-at-most-longest zero (b ∷ l) rest e = absurd (false≢true e)
-at-most-longest (suc n) (b ∷ l) rest e =
-    let d = and-true-of (isNameByte b) (atMost n l) e in
-    let h = at-most-longest n l rest (d .1) in
-    rw (d .0) (omega arith)
+    case : (n : ℕ) → stemLength s ≡ n → (nameLength s ≤ length s) × (isName (take (nameLength s) s) ≡ true)
+    case zero e = let none : nameLength s ≡ 0 = ap (λ n. withMark n s) e in absurd (omega arith)
+    case (suc n) e = named (omega arith)
+
+-- A stem with a byte behind it that no stem has.
+module _ (p : List ℕ) (b : ℕ) (r : List ℕ) (stem : IsStem p) (foreign : isNameByte b ≡ false) where
+  abbrev text : List ℕ
+  text = p ++ (b ∷ r)
+
+  first : stemLength (p ++ (b ∷ r)) ≡ length p
+  first = stem-is-run b r foreign p stem
+
+  behind : drop (stemLength (p ++ (b ∷ r))) (p ++ (b ∷ r)) ≡ b ∷ r
+  behind = drop-at p (b ∷ r) (stemLength text) (sym first)
+
+  pub stem-then : nameLength (p ++ (b ∷ r)) ≡ length p + cond (isMark b) 1 0
+  stem-then = length-split text (omega (arith, first, stem-short p stem .0)) ∙ ap₂ (λ n l. n + markLength l) first behind
+
+-- A name with a byte behind it that ends it is the longest one there; and no name that a text starts with is longer.
+marked-length : (l rest : List ℕ) (h : MarkedBy IsStem l) → nameLength (l ++ rest) ≡ length l
+marked-length l rest h =
+    let m = h .mark in
+    let text : l ++ rest ≡ h .stem ++ (m ∷ rest) = ap (λ x. x ++ rest) (h .parts) ∙ append-assoc (h .stem) (m ∷ []) rest in
+    let long : length l ≡ length (h .stem) + 1 = ap length (h .parts) ∙ length-append (h .stem) (m ∷ []) in
+    ap nameLength text ∙ (stem-then (h .stem) m rest (h .is-stem) (mark-foreign m (h .is-mark)) ∙ (ap (λ t. length (h .stem) + cond t 1 0) (h .is-mark) ∙ sym long))
+
+pub name-is-run : (stop : ℕ) (rest : List ℕ) → isNameByte stop ≡ false → isMark stop ≡ false → (l : List ℕ) → isName l ≡ true → nameLength (l ++ (stop ∷ rest)) ≡ length l
+name-is-run stop rest foreign plain l e = case (name-parts l e)
+  where
+    case : IsStem l ⊎ MarkedBy IsStem l → nameLength (l ++ (stop ∷ rest)) ≡ length l
+    case (inl h) = stem-then l stop rest h foreign ∙ (ap (λ t. length l + cond t 1 0) plain ∙ omega arith)
+    case (inr h) = marked-length l (stop ∷ rest) h
 
 pub run-is-longest : (l rest : List ℕ) → isName l ≡ true → length l ≤ nameLength (l ++ rest)
-run-is-longest [] rest e = absurd (false≢true e)
-run-is-longest (b ∷ l) rest e =
-    let d = and-true-of (isLower b) (atMost 11 l) e in
-    let h = at-most-longest 11 l rest (d .1) in
-    rw (d .0) (omega arith)
+run-is-longest l rest e = case (name-parts l e)
+  where
+    case : IsStem l ⊎ MarkedBy IsStem l → length l ≤ nameLength (l ++ rest)
+    case (inl h) = omega (arith, stem-is-longest l rest h, stem-below (l ++ rest))
+    case (inr h) = omega (arith, marked-length l rest h)
 
--- A name with a byte behind it that no name has is the longest one there.
-module _ (stop : ℕ) (rest : List ℕ) (foreign : isNameByte stop ≡ false) where
-  at-most-run : (n : ℕ) (l : List ℕ) → atMost n l ≡ true → nameRun n (l ++ (stop ∷ rest)) ≡ length l
-  at-most-run zero [] e = refl
-  at-most-run (suc n) [] e = ap (λ t. cond t (suc (nameRun n rest)) 0) foreign
-  at-most-run zero (b ∷ l) e = absurd (false≢true e)
-  at-most-run (suc n) (b ∷ l) e = let d = and-true-of (isNameByte b) (atMost n l) e in rw (d .0) (ap suc (at-most-run n l (d .1)))
+-- Directions.
+behind-marked : (c : ℕ) (p : List ℕ) (b : ℕ) → directionBehind c (p ++ (b ∷ [])) ≡ directionOfMark b
+behind-marked c [] b = refl
+behind-marked c (d ∷ p) b = behind-marked d p b
 
-  pub name-is-run : (l : List ℕ) → isName l ≡ true → nameLength (l ++ (stop ∷ rest)) ≡ length l
-  name-is-run [] e = absurd (false≢true e)
-  name-is-run (b ∷ l) e = let d = and-true-of (isLower b) (atMost 11 l) e in rw (d .0) (ap suc (at-most-run 11 l (d .1)))
+pub direction-marked : (p : List ℕ) (b : ℕ) → directionOf (p ++ (b ∷ [])) ≡ directionOfMark b
+direction-marked [] b = refl
+direction-marked (c ∷ p) b = behind-marked c p b
+
+byte-unmarked : (b : ℕ) → isNameByte b ≡ true → directionOfMark b ≡ neither
+byte-unmarked b h = ap (λ t. cond t received (cond (eqb b 33) sent neither)) (other 63 refl) ∙ ap (λ t. cond t sent neither) (other 33 refl)
+  where
+    other : (m : ℕ) → isNameByte m ≡ false → eqb b m ≡ false
+    other m f = ne-eqb b m (λ e. true≢false (sym h ∙ (ap isNameByte e ∙ f)))
+
+behind-unmarked : (n b : ℕ) (l : List ℕ) → isNameByte b ≡ true → AtMost n l → directionBehind b l ≡ neither
+behind-unmarked n b [] h e = byte-unmarked b h
+behind-unmarked zero b (c ∷ l) h e = absurd (false≢true e)
+behind-unmarked (suc n) b (c ∷ l) h e = let p = and-true-of (isNameByte c) (atMost unmarked n l) e in behind-unmarked n c l (p .0) (p .1)
+
+pub direction-unmarked : (l : List ℕ) → IsStem l → directionOf l ≡ neither
+direction-unmarked [] e = absurd (false≢true e)
+direction-unmarked (b ∷ l) e = let p = and-true-of (isLower b) (atMost unmarked 11 l) e in behind-unmarked 11 b l (or-true-left (isLower b) _ (p .0)) (p .1)
+
+pub same-direction : (d e : Direction) → sameDirection d e ≡ true → d ≡ e
+same-direction neither neither h = refl
+same-direction received received h = refl
+same-direction sent sent h = refl
+same-direction neither received h = absurd (false≢true h)
+same-direction neither sent h = absurd (false≢true h)
+same-direction received neither h = absurd (false≢true h)
+same-direction received sent h = absurd (false≢true h)
+same-direction sent neither h = absurd (false≢true h)
+same-direction sent received h = absurd (false≢true h)
+
+-- 02: "The mark is part of the name": names that differ in the mark alone are different.
+pub marks-differ : (p : List ℕ) (b c : ℕ) → (directionOfMark b ≡ directionOfMark c → ⊥) → p ++ (b ∷ []) ≡ p ++ (c ∷ []) → ⊥
+marks-differ p b c h e = h (sym (direction-marked p b) ∙ (ap directionOf e ∙ direction-marked p c))
+
+pub mark-differs : (p : List ℕ) (b : ℕ) → p ≡ p ++ (b ∷ []) → ⊥
+mark-differs p b e = let n = ap length e ∙ length-append p (b ∷ []) in omega (arith, n)
+
+-- The name at a place, by the byte behind its stem.
+module _ (s : List ℕ) (from end : ℕ) (e : end ≡ stemEnd s from) where
+  abbrev t : List ℕ
+  t = drop from s
+
+  pub nothing-read : end ≡ from → (end ≡ nameEnd s from) × (neither ≡ nameDirection s from)
+  nothing-read z =
+      let stem : stemLength t ≡ 0 = omega arith in
+      let none : nameLength t ≡ 0 = ap (λ n. withMark n t) stem in
+      (omega arith, sym (ap (λ n. directionOf (take n t)) none))
+
+  module _ (some : end ≡ from → ⊥) where
+    some-stem : 0 < stemLength t
+    some-stem = omega (arith, some, e)
+
+    here : drop (stemLength t) t ≡ drop end s
+    here = drop-drop (stemLength t) from s ∙ ap (λ n. drop n s) (sym e)
+
+    is-stem : IsStem (take (stemLength t) t)
+    is-stem = stem-is-name t some-stem .1
+
+    pub bare-read : markLength (drop end s) ≡ 0 → (end ≡ nameEnd s from) × (neither ≡ nameDirection s from)
+    bare-read z =
+        let none : markLength (drop (stemLength t) t) ≡ 0 = ap markLength here ∙ z in
+        let name : take (nameLength t) t ≡ take (stemLength t) t = name-split t some-stem ∙ (ap (λ n. take (stemLength t) t ++ take n (drop (stemLength t) t)) none ∙ append-nil (take (stemLength t) t)) in
+        (omega (arith, length-split t some-stem), sym (ap directionOf name ∙ direction-unmarked (take (stemLength t) t) is-stem))
+
+    pub mark-read : (b : ℕ) → end < length s → getD s end 0 ≡ b → isMark b ≡ true → (end + 1 ≡ nameEnd s from) × (directionOfMark b ≡ nameDirection s from)
+    mark-read b w g h =
+        let mark : drop (stemLength t) t ≡ b ∷ drop (suc end) s = here ∙ (drop-cons s end 0 w ∙ ap (λ x. x ∷ drop (suc end) s) g) in
+        let one : markLength (drop (stemLength t) t) ≡ 1 = ap markLength mark ∙ ap (λ x. cond x 1 0) h in
+        let name : take (nameLength t) t ≡ take (stemLength t) t ++ (b ∷ []) = name-split t some-stem ∙ ap₂ (λ n l. take (stemLength t) t ++ take n l) one mark in
+        (omega (arith, length-split t some-stem), sym (ap directionOf name ∙ direction-marked (take (stemLength t) t) b))
+
+-- No mark stands at a place.
+pub no-mark-at-end : (s : List ℕ) (end : ℕ) → length s ≤ end → markLength (drop end s) ≡ 0
+no-mark-at-end s end h = ap markLength (drop-of-length-le s h)
+
+pub no-mark-here : (s : List ℕ) (end : ℕ) → end < length s → (getD s end 0 ≡ 63 → ⊥) → (getD s end 0 ≡ 33 → ⊥) → markLength (drop end s) ≡ 0
+no-mark-here s end w p q =
+    ap markLength (drop-cons s end 0 w) ∙ (ap (λ t. cond (t || eqb (getD s end 0) 33) 1 0) (ne-eqb (getD s end 0) 63 p) ∙ ap (λ t. cond t 1 0) (ne-eqb (getD s end 0) 33 q))
+
+-- Bytes that are a name are read whole.
+pub whole-direction : (l : List ℕ) → isName l ≡ true → nameDirection l 0 ≡ directionOf l
+whole-direction l e =
+    let text = append-nil l in
+    let least = subst (λ x. length l ≤ nameLength x) text (run-is-longest l [] e) in
+    let most = run-is-name l (omega (arith, least, name-short l e .0)) .0 in
+    let all : nameLength l ≡ length l = omega arith in
+    ap (λ n. directionOf (take n l)) all ∙ ap directionOf (ap (take (length l)) (sym text) ∙ take-at l [] (length l) refl)

@@ -46,7 +46,7 @@ padded-inner w u m v h k =
     ∙ simp append-assoc
 
 -- Names.
-slot-length : (n : List ℕ) → length n ≤ 12 → length (nameSlot n) ≡ 16
+slot-length : (n : List ℕ) → length n ≤ 13 → length (nameSlot n) ≡ 16
 slot-length n h = length-append (counted n) (replicate (16 - length (counted n)) 0) ∙ ap (λ k. length (counted n) + k) (length-replicate (16 - length (counted n)) 0) ∙ omega arith
 
 names-length : (names : List (List ℕ)) → every isName names ≡ true → length (bind nameSlot names) ≡ length names * nameSlotLength
@@ -55,7 +55,7 @@ names-length (n ∷ names) e =
     let d = and-true-of (isName n) (every isName names) e in
     length-append (nameSlot n) (bind nameSlot names) ∙ omega (arith, slot-length n (name-short n (d .0) .1), names-length names (d .1))
 
-pub name-written : (names : List (List ℕ)) (name : List ℕ) (k : ℕ) → length names ≡ k → k < mostLabels → every isName names ≡ true → length name ≤ 12
+pub name-written : (names : List (List ℕ)) (name : List ℕ) (k : ℕ) → length names ≡ k → k < mostLabels → every isName names ≡ true → length name ≤ 13
     → pasted (nameBytes names) (k * nameSlotLength) (counted name) ≡ nameBytes (names ++ (name ∷ []))
 name-written names name k c h e s =
     let long : length (bind nameSlot names) ≡ k * nameSlotLength = names-length names e ∙ ap (λ n. n * nameSlotLength) c in

@@ -54,7 +54,7 @@ module _ (b : List ℕ) (long : tableLength ≤ length b) where
         let behind : drop (at + size) b ≡ 0 ∷ drop (suc (at + size)) b =
         drop-cons b (at + size) 0 (omega (arith, fits .1)) ∙ ap (λ x. x ∷ drop (suc (at + size)) b) (h .behind (at + size) (omega arith) (omega (arith, fits .1))) in
         let parts : drop at b ≡ nameAt b k ++ (0 ∷ drop (suc (at + size)) b) = sym (take-append-drop size (drop at b)) ∙ ap (λ l. nameAt b k ++ l) (drop-drop size at b ∙ behind) in
-        let run : nameLength (drop at b) ≡ size = ap nameLength parts ∙ (name-is-run 0 (drop (suc (at + size)) b) refl (nameAt b k) (h .name) ∙ name-length small) in
+        let run : nameLength (drop at b) ≡ size = ap nameLength parts ∙ (name-is-run 0 (drop (suc (at + size)) b) refl refl (nameAt b k) (h .name) ∙ name-length small) in
         ap (λ n. at + n) run
 
     pub end-held : nameEnd b (headLength + 1 + k * nameSlotLength) ≡ (headLength + 1 + k * nameSlotLength) + byteAt b (headLength + k * nameSlotLength) → (nameEnd b (headLength + 1 + k * nameSlotLength) ≡ headLength + 1 + k * nameSlotLength → ⊥) → isName (nameAt b k) ≡ true

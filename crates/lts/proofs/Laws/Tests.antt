@@ -12,7 +12,7 @@ use Rattle.lts.specs.Sizes.{mostStates, mostLabels, mostTransitions}
 use Rattle.columns.specs.Bytes.{sameBytes}
 use Rattle.columns.proofs.Laws.Bytes.{same-of, same-to}
 use Rattle.lts.specs.Lists.{Rising}
-use Rattle.lts.specs.Names.{isLower, isNameByte, atMost, isName}
+use Rattle.lts.specs.Names.{isLower, isNameByte, marked, isMark, isLastMark, atMost, isName}
 use Rattle.lts.specs.Steps.{Step, labels}
 use Rattle.lts.specs.Range.{Below, Differ}
 use Rattle.lts.specs.Reading.{Header, headerInRange, used, stepInRange, stepBelow, above}
@@ -140,31 +140,54 @@ name-byte-range b e = letter (or-true-of (isLower b) _ e)
     letter (inl d) = let p = lower-range b d in (omega arith, p .1)
     letter (inr d) = other (or-true-of (eqb b 95) _ d)
 
-pub at-most-of : (n : ℕ) (l : List ℕ) → atMost n l ≡ true → (length l ≤ n) × ((b : ℕ) → List·Memᴰ b l → (48 ≤ b) × (b ≤ 122))
-at-most-of n [] e = (omega arith, λ b m. absurd (List·Memᴰ·not-nil m))
-at-most-of zero (x ∷ l) e = absurd (false≢true e)
-at-most-of (suc n) (x ∷ l) e = let p = and-true-of (isNameByte x) (atMost n l) e in join (p .0) (at-most-of n l (p .1))
+pub mark-range : (b : ℕ) → isMark b ≡ true → (33 ≤ b) × (b ≤ 122)
+mark-range b e = either (or-true-of (eqb b 63) (eqb b 33) e)
   where
-    member : isNameByte x ≡ true → ((b : ℕ) → List·Memᴰ b l → (48 ≤ b) × (b ≤ 122)) → (b : ℕ) → (b ≡ x) ⊎ List·Memᴰ b l → (48 ≤ b) × (b ≤ 122)
-    member d h b (inl z) = name-byte-range b (ap isNameByte z ∙ d)
-    member d h b (inr m) = h b m
+    either : (eqb b 63 ≡ true) ⊎ (eqb b 33 ≡ true) → (33 ≤ b) × (b ≤ 122)
+    either (inl d) = let z = eqb-true b 63 d in (omega arith, omega arith)
+    either (inr d) = let z = eqb-true b 33 d in (omega arith, omega arith)
 
-    join : isNameByte x ≡ true → (length l ≤ n) × ((b : ℕ) → List·Memᴰ b l → (48 ≤ b) × (b ≤ 122)) → (suc (length l) ≤ suc n) × ((b : ℕ) → List·Memᴰ b (x ∷ l) → (48 ≤ b) × (b ≤ 122))
-    join d h = (omega arith, λ b m. member d (h .1) b (List·Memᴰ·cases-cons m))
+-- 01: "A name has 1 to 12 bytes"; 02: "A name may end in one `?` or `!` beyond its 12 bytes"
+abbrev Bytes : List ℕ → Type 0
+Bytes l = (b : ℕ) → List·Memᴰ b l → (33 ≤ b) × (b ≤ 122)
 
--- 01: "A name has 1 to 12 bytes"
+one-byte : (x : ℕ) → (33 ≤ x) × (x ≤ 122) → Bytes (x ∷ [])
+one-byte x r b m = let z = List·Memᴰ·eq-of-singleton m in (omega (arith, z, r .0), omega (arith, z, r .1))
+
+more-bytes : (x : ℕ) (l : List ℕ) → (33 ≤ x) × (x ≤ 122) → Bytes l → Bytes (x ∷ l)
+more-bytes x l r h b m = member (List·Memᴰ·cases-cons m)
+  where
+    member : (b ≡ x) ⊎ List·Memᴰ b l → (33 ≤ b) × (b ≤ 122)
+    member (inl z) = (omega (arith, r .0), omega (arith, r .1))
+    member (inr k) = h b k
+
+last-mark : (x : ℕ) (l : List ℕ) → isLastMark marked x l ≡ true → (length l ≡ 0) × Bytes (x ∷ l)
+last-mark x [] e = (refl, one-byte x (mark-range x e))
+last-mark x (y ∷ l) e = absurd (false≢true e)
+
+at-most-of : (n : ℕ) (l : List ℕ) → atMost marked n l ≡ true → (length l ≤ suc n) × Bytes l
+at-most-of n [] e = (omega arith, λ b m. absurd (List·Memᴰ·not-nil m))
+at-most-of zero (x ∷ l) e = let p = last-mark x l e in (omega (arith, p .0), p .1)
+at-most-of (suc n) (x ∷ l) e = case (at-most-of n l) (or-true-of (isLastMark marked x l) _ e)
+  where
+    case : (atMost marked n l ≡ true → (length l ≤ suc n) × Bytes l) → (isLastMark marked x l ≡ true) ⊎ ((isNameByte x && atMost marked n l) ≡ true)
+        → (suc (length l) ≤ suc (suc n)) × Bytes (x ∷ l)
+    case again (inl d) = let p = last-mark x l d in (omega (arith, p .0), p .1)
+    case again (inr d) =
+        let p = and-true-of (isNameByte x) (atMost marked n l) d in
+        let r = name-byte-range x (p .0) in
+        let h = again (p .1) in
+        (omega (arith, h .0), more-bytes x l (omega (arith, r .0), r .1) (h .1))
+
 pub record NameShape (n : List ℕ) : Type 0 where
   pub some-byte : 1 ≤ length n
-  pub short : length n ≤ 12
-  pub bytes : (b : ℕ) → List·Memᴰ b n → (48 ≤ b) × (b ≤ 122)
+  pub short : length n ≤ 13
+  pub bytes : (b : ℕ) → List·Memᴰ b n → (33 ≤ b) × (b ≤ 122)
 
 pub name-shape : (n : List ℕ) → isName n ≡ true → NameShape n
 name-shape [] e = absurd (false≢true e)
-name-shape (x ∷ l) e = let p = and-true-of (isLower x) (atMost 11 l) e in join (lower-range x (p .0)) (at-most-of 11 l (p .1))
-  where
-    member : (97 ≤ x) × (x ≤ 122) → ((b : ℕ) → List·Memᴰ b l → (48 ≤ b) × (b ≤ 122)) → (b : ℕ) → (b ≡ x) ⊎ List·Memᴰ b l → (48 ≤ b) × (b ≤ 122)
-    member d h b (inl z) = (omega arith, omega arith)
-    member d h b (inr m) = h b m
-
-    join : (97 ≤ x) × (x ≤ 122) → (length l ≤ 11) × ((b : ℕ) → List·Memᴰ b l → (48 ≤ b) × (b ≤ 122)) → NameShape (x ∷ l)
-    join d h = record { some-byte = omega arith; short = omega arith; bytes = λ b m. member d (h .1) b (List·Memᴰ·cases-cons m) }
+name-shape (x ∷ l) e =
+    let p = and-true-of (isLower x) (atMost marked 11 l) e in
+    let r = lower-range x (p .0) in
+    let h = at-most-of 11 l (p .1) in
+    record { some-byte = omega arith; short = omega (arith, h .0); bytes = more-bytes x l (omega (arith, r .0), r .1) (h .1) }

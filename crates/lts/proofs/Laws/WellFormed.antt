@@ -73,7 +73,7 @@ module _ (b : List ℕ) (w : WellFormed b) where
         let held = w .names k h .0 in
         let size : ℕ = byteAt b (headLength + k * nameSlotLength) in
         let sized : length (nameAt b k) ≡ size = name-length b (w .long) k few (bytes (headLength + k * nameSlotLength)) in
-        let short : size ≤ 12 = omega (arith, name-shape (nameAt b k) (held .name) .short) in
+        let short : size ≤ 13 = omega (arith, name-shape (nameAt b k) (held .name) .short) in
         let behind : List ℕ = drop (headLength + 1 + k * nameSlotLength) b in
         let room : size + (15 - size) ≤ length behind = omega (arith, length-drop (headLength + 1 + k * nameSlotLength) b, w .long) in
         let next : suc (headLength + k * nameSlotLength) ≡ headLength + 1 + k * nameSlotLength = omega arith in

@@ -16,8 +16,8 @@ mul-at c = search needs
 add-at : tie.Need-add-at
 add-at c = search needs
 
-name-end-requires : tie.Need-name-end-requires
-name-end-requires c κs = search needs
+read-name-requires : tie.Need-read-name-requires
+read-name-requires c κs = search needs
 
 returns : tie.Need-returns
 returns c =
@@ -25,7 +25,7 @@ returns c =
     let b = start .args .table .now in
     let k = start .args .k in
     let small = c .before .before .shared-slice-known .given (headLength + k * nameSlotLength) .fits in
-    decided-no (λ h. omega (arith, held-end b (start .pre .0) k (start .pre .1) small h, name-few b (start .pre .0) k (start .pre .1) small (h .name), c .before .name-end .ensures, c .if1 .taken))
+    decided-no (λ h. omega (arith, held-end b (start .pre .0) k (start .pre .1) small h, name-few b (start .pre .0) k (start .pre .1) small (h .name), c .before .read-name .ensures .0, c .if1 .taken))
 
 mul-byte : tie.Need-mul-byte
 mul-byte c = search needs
@@ -46,7 +46,7 @@ returns-2 c =
     let k = start .args .k in
     let small = c .before .before .before .before .shared-slice-known .given (headLength + k * nameSlotLength) .fits in
     decided-no (λ h. c .if2 .taken
-    (omega (arith, held-end b (start .pre .0) k (start .pre .1) small h, c .before .before .before .name-end .ensures, c .before .byte .ensures .count)))
+    (omega (arith, held-end b (start .pre .0) k (start .pre .1) small h, c .before .before .before .read-name .ensures .0, c .before .byte .ensures .count)))
 
 mul-zeros : tie.Need-mul-zeros
 mul-zeros c = search needs
@@ -62,8 +62,8 @@ returns-3 c =
     let start = c .before .before .before .before .before .before in
     let b = start .args .table .now in
     let k = start .args .k in
-    let answer = c .before .before .before .before .name-end .ensures in
-    let end : c .before .before .before .before .name-end .result ≡ (headLength + 1 + k * nameSlotLength) + c .before .before .byte .result = c .before .if2 .left in
+    let answer = c .before .before .before .before .read-name .ensures .0 in
+    let end : c .before .before .before .before .read-name .result .end ≡ (headLength + 1 + k * nameSlotLength) + c .before .before .byte .result = c .before .if2 .left in
     let whole = end ∙ ap (λ n. (headLength + 1 + k * nameSlotLength) + n) (c .before .before .byte .ensures .count) in
     decided-by (c .zeros .ensures)
     (λ z. record {
@@ -78,7 +78,7 @@ name-held-spec =
     (tie.spec
     mul-at
     add-at
-    name-end-requires
+    read-name-requires
     returns
     mul-byte
     add-byte

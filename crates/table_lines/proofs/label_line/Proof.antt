@@ -40,8 +40,8 @@ returns-2 c =
 add-from : tie.Need-add-from
 add-from c = search needs
 
-name-end-requires : tie.Need-name-end-requires
-name-end-requires c κs =
+read-name-requires : tie.Need-read-name-requires
+read-name-requires c κs =
     let s = c .before .before .before .before .before .before .before .args .text .now in
     let at = c .before .before .before .before .before .before .before .args .at in
     let blank = byte-within s (at + 6) 32 (omega arith) (eqb-true _ _ (sym (c .before .stands .ensures) ∙ not-false _ (c .if1 .left))) in omega arith
@@ -51,7 +51,7 @@ returns-3 c =
     let start = c .before .before .before .before .before .before .before .before .before in
     let s = start .args .text .now in
     let at = start .args .at in
-    no-label s at (λ x name rest p e f g. end-of-name s at name rest f g (c .before .name-end .result) (c .before .name-end .ensures) .0 (c .if2 .taken))
+    no-label s at (λ x name rest p e f g. end-of-name s at name rest f g (c .before .read-name .result .end) (c .before .read-name .ensures .0) .0 (c .if2 .taken))
 
 stands-requires-2 : tie.Need-stands-requires-2
 stands-requires-2 c κs = search needs
@@ -61,21 +61,21 @@ returns-4 c =
     let start = c .before .before .before .before .before .before .before .before .before .before .before in
     let s = start .args .text .now in
     let at = start .args .at in
-    let end = c .before .before .before .name-end in
+    let end = c .before .before .before .read-name in
     let blank = c .before .before .before .before in
     let column = blank .before .before .before in
-    label-lies s at (column .number .given .0 .0) (end .result)
+    label-lies s at (column .number .given .0 .0) (end .result .end)
     (column-found s at (column .number .given .0 .0) (sym (column .before .before .read-column .ensures) ∙ column .number .given .1))
     (eqb-true _ _ (sym (blank .before .stands .ensures) ∙ not-false _ (blank .if1 .left)))
-    (end .ensures) (c .before .before .if2 .left) (eqb-true _ _ (sym (c .before .stands2 .ensures) ∙ c .if3 .taken))
+    (end .ensures .0) (c .before .before .if2 .left) (eqb-true _ _ (sym (c .before .stands2 .ensures) ∙ c .if3 .taken))
 
 returns-5 : tie.Need-returns-5
 returns-5 c =
     let start = c .before .before .before .before .before .before .before .before .before .before .before in
     let s = start .args .text .now in
     let at = start .args .at in
-    let end = c .before .before .before .name-end in
-    no-label s at (λ x name rest p e f g. eqb-false _ _ (sym (c .before .stands2 .ensures) ∙ c .if3 .left) (end-of-name s at name rest f g (end .result) (end .ensures) .1))
+    let end = c .before .before .before .read-name in
+    no-label s at (λ x name rest p e f g. eqb-false _ _ (sym (c .before .stands2 .ensures) ∙ c .if3 .left) (end-of-name s at name rest f g (end .result .end) (end .ensures .0) .1))
 
 pub label-line-spec : {M : Type 1} → statement M
 label-line-spec =
@@ -89,7 +89,7 @@ label-line-spec =
     stands-requires
     returns-2
     add-from
-    name-end-requires
+    read-name-requires
     returns-3
     stands-requires-2
     returns-4

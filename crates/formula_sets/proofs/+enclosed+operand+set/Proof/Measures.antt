@@ -16,6 +16,7 @@ use Rattle.formula_cursor.proofs.Cursor.skip_blanks.Reads as skip-blanks-reads
 use Rattle.formula_cursor.proofs.Cursor.token.Reads as token-reads
 use Rattle.formula_sets.proofs.all_labels.Reads as all-labels-reads
 use Rattle.formula_sets.proofs.label.Reads as label-reads
+use Rattle.formula_sets.proofs.wildcard_labels.Reads as wildcard-labels-reads
 use Prim.Native.Nat.{ℕ, _+_, _*_, _-_, _<_}
 use lib.ListN.{length}
 
@@ -51,7 +52,7 @@ abbrev pub enclosed-claims : ℕ → enclosed-lts.Claims
 enclosed-claims t = (set-below t, set.Post, mark-reads.Asked, mark-reads.Learnt)
 
 abbrev pub operand-claims : ℕ → operand-lts.Claims
-operand-claims t = (mark-reads.Asked, mark-reads.Learnt, all-labels-reads.Asked, all-labels-reads.Learnt, token-reads.Asked, token-reads.Learnt, operand-below t, operand.Post, enclosed-below t, enclosed.Post, name-reads.Asked, name-reads.Learnt, label-reads.Asked, label-reads.Learnt)
+operand-claims t = (wildcard-labels-reads.Asked, wildcard-labels-reads.Learnt, token-reads.Asked, token-reads.Learnt, operand-below t, operand.Post, all-labels-reads.Asked, all-labels-reads.Learnt, enclosed-below t, enclosed.Post, name-reads.Asked, name-reads.Learnt, label-reads.Asked, label-reads.Learnt)
 
 abbrev pub set-claims : ℕ → set-lts.Claims
 set-claims t = (operand-below t, operand.Post, skip-blanks-reads.Asked, skip-blanks-reads.Learnt, token-reads.Asked, token-reads.Learnt)

@@ -5,28 +5,22 @@ use mathlib.Core.Path.{subst}
 use Prim.Native.Nat.{ℕ}
 use native.Mathlib.Omega.{arith}
 use borrow.Author.Needs.{needs}
-use Rattle.formula_cursor.specs.CursorReplies.{MarkAnswer, TokenAnswer, NameAnswer}
+use Rattle.formula_cursor.specs.CursorReplies.{TokenAnswer, NameAnswer}
 use Rattle.actl.specs.Readers.{namesIn}
-use Rattle.formula_sets.specs.SetReplies.{OperandAnswer}
-use Rattle.formula_sets.proofs.ReadingSets.{token-behind, operand-any, operand-stops, except-within, operand-except, except-fails, group-says}
+use Rattle.formula_sets.specs.SetReplies.{WildcardAnswer, OperandAnswer}
+use Rattle.formula_sets.proofs.ReadingSets.{token-behind, operand-stops, except-within, operand-except, except-fails, group-says}
 use Rattle.formula_sets.proofs.+enclosed+operand+set.Proof.Measures.{operand-at, operand-claims}
 
-pub operand-mark-requires : (t : ℕ) → operand-lts.Need-mark-requires (operand-claims t) (operand-at t) operand.Post
-operand-mark-requires t c κs = tt
+pub operand-wildcard-labels-requires : (t : ℕ) → operand-lts.Need-wildcard-labels-requires (operand-claims t) (operand-at t) operand.Post
+operand-wildcard-labels-requires t c κs = c .before .before .pre .1
 
 pub operand-enum-known-d : (t : ℕ) → operand-lts.Need-enum-known-d (operand-claims t) (operand-at t) operand.Post
 operand-enum-known-d t c = search needs
 
-pub operand-all-labels-requires : (t : ℕ) → operand-lts.Need-all-labels-requires (operand-claims t) (operand-at t) operand.Post
-operand-all-labels-requires t c κs = c .before .before .before .before .before .before .pre .1 .table
-
 pub operand-returns : (t : ℕ) → operand-lts.Need-returns (operand-claims t) (operand-at t) operand.Post
 operand-returns t c =
-    let a = c .before .before .before .before .before .before .before .args in
-    let N = namesIn (a .table .now) in
-    let s = a .text .now in
-    let at = a .c .at in
-    operand-any N s at (a .lost) (subst (MarkAnswer s at 42) (c .before .before .d .given .1) (c .before .before .before .before .mark .ensures)) (c .all-labels .ensures)
+    let a = c .before .before .before .before .before .before .args in
+    subst (WildcardAnswer (namesIn (a .table .now)) (a .text .now) (a .c .at)) (c .before .d .given .1) (c .before .before .before .wildcard-labels .ensures) (a .lost)
 
 pub operand-enum-told : (t : ℕ) → operand-lts.Need-enum-told (operand-claims t) (operand-at t) operand.Post
 operand-enum-told t c = search needs
@@ -49,8 +43,8 @@ operand-operand-requires t c κs =
 pub operand-enum-known-x : (t : ℕ) → operand-lts.Need-enum-known-x (operand-claims t) (operand-at t) operand.Post
 operand-enum-known-x t c = search needs
 
-pub operand-all-labels-requires-2 : (t : ℕ) → operand-lts.Need-all-labels-requires-2 (operand-claims t) (operand-at t) operand.Post
-operand-all-labels-requires-2 t c κs = c .before .before .before .before .before .before .before .before .before .before .before .before .before .pre .1 .table
+pub operand-all-labels-requires : (t : ℕ) → operand-lts.Need-all-labels-requires (operand-claims t) (operand-at t) operand.Post
+operand-all-labels-requires t c κs = c .before .before .before .before .before .before .before .before .before .before .before .before .before .pre .1 .table
 
 pub operand-sub-t19 : (t : ℕ) → operand-lts.Need-sub-t19 (operand-claims t) (operand-at t) operand.Post
 operand-sub-t19 t c =
@@ -60,7 +54,7 @@ operand-sub-t19 t c =
     let at = a .c .at in
     let k = subst (TokenAnswer s at 126) (c .before .before .before .before .before .before .d2 .given .1) (c .before .before .before .before .before .before .before .before .token .ensures) in
     let o = subst (OperandAnswer N s (c .before .before .before .before .before .before .d2 .given .0 .0 .at) (a .lost)) (c .before .before .x .given .1) (c .before .before .before .before .operand .ensures) in
-    except-within N s at (a .lost) k o (c .all-labels2 .ensures)
+    except-within N s at (a .lost) k o (c .all-labels .ensures)
 
 pub operand-enum-known-x-2 : (t : ℕ) → operand-lts.Need-enum-known-x-2 (operand-claims t) (operand-at t) operand.Post
 operand-enum-known-x-2 t c = search needs
@@ -73,7 +67,7 @@ operand-returns-2 t c =
     let at = a .c .at in
     let k = subst (TokenAnswer s at 126) (c .before .before .before .before .before .before .d2 .given .1) (c .before .before .before .before .before .before .before .before .token .ensures) in
     let o = subst (OperandAnswer N s (c .before .before .before .before .before .before .d2 .given .0 .0 .at) (a .lost)) (c .before .before .x .given .1) (c .before .before .before .before .operand .ensures) in
-    operand-except N s at (a .lost) k o (c .all-labels2 .ensures)
+    operand-except N s at (a .lost) k o (c .all-labels .ensures)
 
 pub operand-returns-3 : (t : ℕ) → operand-lts.Need-returns-3 (operand-claims t) (operand-at t) operand.Post
 operand-returns-3 t c =
@@ -143,7 +137,7 @@ operand-returns-6 t c =
     let at = a .c .at in
     let pre = c .before .before .before .before .before .before .before .before .before .before .before .before .before .before .pre in
     operand-stops N s at (a .lost) (pre .1 .token)
-    (subst (MarkAnswer s at 42) (c .before .before .before .before .before .before .before .before .before .enum-told .given .1) (c .before .before .before .before .before .before .before .before .before .before .before .mark .ensures))
+    (subst (WildcardAnswer N s at) (c .before .before .before .before .before .before .before .before .before .enum-told .given .1) (c .before .before .before .before .before .before .before .before .before .before .before .wildcard-labels .ensures))
     (subst (TokenAnswer s at 126) (c .before .before .before .before .before .before .enum-told2 .given .1) (c .before .before .before .before .before .before .before .before .token .ensures))
     (subst (TokenAnswer s at 40) (c .before .before .before .enum-told3 .given .1) (c .before .before .before .before .before .token2 .ensures))
     (subst (NameAnswer s at) (c .enum-told4 .given .1) (c .before .before .name .ensures))

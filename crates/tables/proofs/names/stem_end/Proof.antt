@@ -1,15 +1,15 @@
--- `name_end` answers `nameEnd`: the invariant is `NameSoFar`, what is left of the run.
+-- `stem_end` answers `stemEnd`: the invariant is `StemSoFar`, what is left of the run.
 use borrow.Author.Tests.{not-true, not-false}
 use mathlib.Core.Path.{sym, _∙_}
 use Prim.Native.Nat.{_+_, _-_}
 use borrow.Author.Needs.{needs}
 use native.Mathlib.Omega.{arith}
-use Rattle.lts.proofs.Laws.NameRuns.{NameSoFar, no-text, no-letter, run-starts, run-at-end, run-stops, run-goes-on, run-full}
-use Rattle.tables.proofs.names.name_end.Statement.{statement}
-use Rattle.tables.proofs.names.name_end.Tie as tie
+use Rattle.lts.proofs.Laws.Stems.{StemSoFar, no-text, no-letter, run-starts, run-at-end, run-stops, run-goes-on, run-full}
+use Rattle.tables.proofs.names.stem_end.Statement.{statement}
+use Rattle.tables.proofs.names.stem_end.Tie as tie
 
 abbrev Inv-loop : tie.InvT-loop
-Inv-loop text from n₀ n = NameSoFar text from n
+Inv-loop text from n₀ n = StemSoFar text from n
 
 abbrev μ-loop : tie.MeasureT-loop
 μ-loop text from n₀ n = 12 - n
@@ -85,8 +85,8 @@ returns-5 c =
     let l = c .before .loop in
     run-full (start .args .text .now) (start .args .from) (l .n) (l .inv) (c .loop-test .left)
 
-pub name-end-spec : {M : Type 1} → statement M
-name-end-spec =
+pub stem-end-spec : {M : Type 1} → statement M
+stem-end-spec =
     tie.close
     (tie.spec
     Inv-loop

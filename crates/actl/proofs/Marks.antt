@@ -1,0 +1,39 @@
+-- Every tree is one of the grammar with marks.
+use mathlib.Core.Path.{_≡_, refl}
+use mathlib.Core.Bool.{true}
+use Rattle.lts.specs.Names.{marked}
+use Rattle.lts.proofs.Lists.{and-true-to}
+use Rattle.actl.specs.Grammar.{Set, operand, union, Operand, name, any, received, sent, except, group, Condition, dot, set, Head, next, until, untilThen, Disjunction, term, or, Term, tru, not, modal, paren, fitsS, fitsO, fitsC, fitsH, fitsF, fitsT}
+
+mutual
+  set-fits : (x : Set) → fitsS marked x ≡ true
+  set-fits (operand o) = operand-fits o
+  set-fits (union x a b o) = and-true-to (fitsS marked x) (fitsO marked o) (set-fits x) (operand-fits o)
+
+  operand-fits : (o : Operand) → fitsO marked o ≡ true
+  operand-fits (name n) = n .fits
+  operand-fits any = refl
+  operand-fits received = refl
+  operand-fits sent = refl
+  operand-fits (except a o) = operand-fits o
+  operand-fits (group a x b) = set-fits x
+
+condition-fits : (c : Condition) → fitsC marked c ≡ true
+condition-fits dot = refl
+condition-fits (set x) = set-fits x
+
+head-fits : (h : Head) → fitsH marked h ≡ true
+head-fits (next q a b c d) = condition-fits c
+head-fits (until a b x d) = set-fits x
+head-fits (untilThen a b x c d y e) = and-true-to (fitsS marked x) (fitsS marked y) (set-fits x) (set-fits y)
+
+mutual
+  pub formula-fits : (f : Disjunction) → fitsF marked f ≡ true
+  formula-fits (term t) = term-fits t
+  formula-fits (or f a b t) = and-true-to (fitsF marked f) (fitsT marked t) (formula-fits f) (term-fits t)
+
+  term-fits : (t : Term) → fitsT marked t ≡ true
+  term-fits tru = refl
+  term-fits (not a t) = term-fits t
+  term-fits (modal h a t) = and-true-to (fitsH marked h) (fitsT marked t) (head-fits h) (term-fits t)
+  term-fits (paren a f b) = formula-fits f

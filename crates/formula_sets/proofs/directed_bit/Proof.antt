@@ -1,0 +1,41 @@
+-- `directed_bit` gives a label its bit if it has the direction.
+use borrow.Author.Needs.{needs}
+use mathlib.Core.Path.{_≡_, sym, ap, _∙_}
+use mathlib.Core.Bool.{Bool, cond}
+use Prim.Native.Nat.{suc, _^_}
+use native.Mathlib.Omega.{arith}
+use Rattle.lts.specs.Names.{labelDirection, sameDirection}
+use Rattle.actl.specs.Readers.{namesIn}
+use Rattle.tables.specs.Access.{directionIn}
+use Rattle.actl.proofs.ReadingLabels.{shifted-two}
+use Rattle.formula_sets.proofs.directed_bit.Statement.{statement}
+use Rattle.formula_sets.proofs.directed_bit.Tie as tie
+
+label-direction-requires : tie.Need-label-direction-requires
+label-direction-requires c κs = search needs
+
+same-direction-requires : tie.Need-same-direction-requires
+same-direction-requires c κs = search needs
+
+shl-result : tie.Need-shl-result
+shl-result c = let start = c .before .before .before .before in omega (arith, start .pre .1, start .pre .0 .in-range .few-labels)
+
+-- The test, of the label's direction.
+tested : (c : tie.After-same-direction) → c .same-direction .result ≡ sameDirection (labelDirection (namesIn (c .before .before .before .args .table .now)) (suc (c .before .before .before .args .k))) (directionIn (c .before .before .before .args .wanted))
+tested c = c .same-direction .ensures ∙ ap (λ d. sameDirection d (directionIn (c .before .before .before .args .wanted))) (c .before .label-direction .ensures)
+
+returns : tie.Need-returns
+returns c =
+    let start = c .before .before .before .before in
+    let k = start .args .k in
+    shifted-two k (omega (arith, start .pre .1, start .pre .0 .in-range .few-labels)) ∙ ap (λ (t : Bool). cond t (2 ^ suc k) 0) (sym (c .if1 .taken) ∙ tested (c .before))
+
+returns-2 : tie.Need-returns-2
+returns-2 c =
+    let k = c .before .before .before .before .args .k in
+    ap (λ (t : Bool). cond t (2 ^ suc k) 0) (sym (c .if1 .left) ∙ tested (c .before))
+
+pub directed-bit-spec : {M : Type 1} → statement M
+directed-bit-spec =
+    tie.close
+    (tie.spec label-direction-requires same-direction-requires shl-result returns returns-2)
