@@ -85,3 +85,77 @@ blank-inside = refl
 grammar-before-names : overM "EX[a] T)" ≡ refusal 6 7
 unfolding readFormula findFrom
 grammar-before-names = refl
+
+-- 02: over labels `clamp?`, `clamp!`, `clamp` and `req`, which are bits 1 to 4.
+abbrev overClamp : String → Reply Formula
+overClamp s = readFormula (ascii "clamp?" ∷ ascii "clamp!" ∷ ascii "clamp" ∷ ascii "req" ∷ []) (ascii s)
+
+three-names : overClamp "EU[clamp?|clamp;clamp!] T" ≡ accepted (euThen 10 4 tru)
+unfolding readFormula findFrom maskOf classOf highestWithoutClass
+three-names = refl
+
+received-and-sent : overClamp "EU[?;!] T" ≡ accepted (euThen 2 4 tru)
+unfolding readFormula findFrom maskOf classOf highestWithoutClass
+received-and-sent = refl
+
+not-received : overClamp "AX[~?] T" ≡ accepted (ax (labels 28) tru)
+unfolding readFormula findFrom maskOf classOf highestWithoutClass
+not-received = refl
+
+beside-names : overClamp "EU[(? | req);~(!)] T" ≡ accepted (euThen 18 26 tru)
+unfolding readFormula findFrom maskOf classOf highestWithoutClass
+beside-names = refl
+
+no-label-received : overM "EU[?;~!] T" ≡ accepted (euThen 0 6 tru)
+unfolding readFormula findFrom maskOf classOf highestWithoutClass
+no-label-received = refl
+
+-- A mark stands right behind its name, which is then over.
+mark-behind-a-blank : overClamp "EX[req ?] T" ≡ refusal 6 7
+unfolding readFormula findFrom
+mark-behind-a-blank = refl
+
+letter-behind-a-mark : overClamp "EX[req?a" ≡ refusal 6 7
+unfolding readFormula findFrom
+letter-behind-a-mark = refl
+
+two-marks : overClamp "EX[clamp??" ≡ refusal 6 9
+unfolding readFormula findFrom
+two-marks = refl
+
+other-mark-behind-a-mark : overClamp "EX[clamp?!" ≡ refusal 6 9
+unfolding readFormula findFrom
+other-mark-behind-a-mark = refl
+
+thirteen-letters-and-a-mark : overClamp "EX[abcdefghijklm?" ≡ refusal 6 15
+unfolding readFormula findFrom
+thirteen-letters-and-a-mark = refl
+
+twelve-letters-and-a-mark : overClamp "EX[abcdefghijkl?" ≡ refusal 6 16
+unfolding readFormula findFrom
+twelve-letters-and-a-mark = refl
+
+letter-behind-an-operand : overClamp "EX[?a" ≡ refusal 6 4
+unfolding readFormula findFrom
+letter-behind-an-operand = refl
+
+two-operands : overClamp "EX[??" ≡ refusal 6 4
+unfolding readFormula findFrom
+two-operands = refl
+
+letter-behind-a-blank : overClamp "EX[? a" ≡ refusal 6 5
+unfolding readFormula findFrom
+letter-behind-a-blank = refl
+
+beside-the-silent-step : overClamp "EX[.|?] T" ≡ refusal 6 4
+unfolding readFormula findFrom
+beside-the-silent-step = refl
+
+silent-step-behind-an-operand : overClamp "EX[?|.] T" ≡ refusal 6 5
+unfolding readFormula findFrom
+silent-step-behind-an-operand = refl
+
+-- The whole name is looked up.
+known-by-another-mark : overClamp "EX[req!] T" ≡ refusal 7 3
+unfolding readFormula findFrom
+known-by-another-mark = refl

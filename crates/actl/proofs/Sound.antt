@@ -5,8 +5,7 @@ use mathlib.Core.List.{List, [], _∷_, _++_, append-assoc}
 use Prim.Native.Nat.{ℕ, zero, suc}
 use lib.Dec.{eqb}
 use borrow.Author.Tests.{eqb-true}
-use Rattle.lts.specs.Names.{isName}
-use Rattle.actl.specs.Unmarked.{Plain}
+use Rattle.lts.specs.Names.{isName, Plain}
 use Rattle.actl.specs.Grammar.{Name, Set, operand, union, Operand, name, any, received, sent, except, group, Condition, dot, set, Quantifier, existential, universal, Head, next, until, untilThen, Disjunction, term, or, Term, tru, not, modal, paren, gap, showS, showO, showC, showQ, showH, showF, showT}
 use Rattle.actl.specs.Reader.{InDisjunction, fTop, fParen, InTerm, tFirst, tOr, tNot, tModal, InSet, sParen, sNext, sUntil, sThen, InOperand, oFirst, oOr, oNot, State, termAt, afterE, afterA, afterNext, afterUntil, bracketAt, operandAt, afterDot, naming, afterSet, afterDisjunction, ReaderStep, go, stop, on, plugT, plugO, blankF, blankT, blankS, blankO, termStep, named, operandStep, closeStep, setStep, leaveO, parenStep, readByte, finish, finishDisjunction, proceed, run, start, read, Result, whole, refused}
 

@@ -1,51 +1,26 @@
 -- A text without marks is read as by the grammar without marks: it has the same trees, the same beginnings, and so the same answers.
 use mathlib.Core.Path.{_≡_, refl, sym, ap, _∙_, subst}
-use mathlib.Core.Logic.{_⊎_, inl, inr, _↔_}
-use mathlib.Core.Bool.{Bool, true, false, true≢false, false≢true, not as negate, _&&_}
+use mathlib.Core.Logic.{_↔_}
+use mathlib.Core.Bool.{true, false≢true}
 use mathlib.Core.List.{List, [], _∷_, _++_}
 use Prim.Native.Nat.{ℕ, zero, suc}
 use lib.ListN.{length, take}
-use Rattle.lts.specs.Lists.{every}
 use Rattle.lts.specs.Reply.{Reply}
-use Rattle.lts.specs.Names.{Marks, unmarked, marked, isMark}
-use Rattle.lts.proofs.Lists.{and-true-of, and-true-to, not-false}
-use Rattle.lts.proofs.Laws.NameRuns.{IsStem, MarkedBy, name-parts}
+use Rattle.lts.specs.Names.{Marks, unmarked, marked, Plain}
+use Rattle.lts.proofs.Lists.{and-true-to}
+use Rattle.lts.proofs.Laws.Unmarked.{plain-behind, plain-append, plain-take, plain-stem}
 use Rattle.actl.specs.Formulas.{Formula}
 use Rattle.actl.specs.Grammar.{Name, Set, operand, union, Operand, name, any, received, sent, except, group, Condition, dot, set, Quantifier, existential, universal, Head, next, until, untilThen, Disjunction, term, or, Term, tru, not, modal, paren, gap, showS, showO, showC, showQ, showH, showF, showT, fitsS, fitsO, fitsC, fitsH, fitsF, fitsT, Text, Grammatical, Viable, Longest}
 use Rattle.actl.specs.Reader.{State, ReaderStep, go, stop, readByte, proceed, run, start, whole, refused}
 use Rattle.actl.specs.ByGrammar.{ReadBy, long, ungrammatical, grammatical}
-use Rattle.actl.specs.Unmarked.{Plain}
 use Rattle.actl.proofs.Sound.{shown, Reads, goes, stops, step-reads, completes}
 use Rattle.actl.proofs.Marks.{formula-fits}
 use Rattle.actl.proofs.Grammar.{not-both, read-text}
 
--- Parts of a text without marks have none.
-plain-behind : (p s : List ℕ) → Plain (p ++ s) → Plain p × Plain s
-plain-behind [] s h = (refl, h)
-plain-behind (b ∷ p) s h =
-    let d = and-true-of (negate (isMark b)) (every (λ b. negate (isMark b)) (p ++ s)) h in
-    let i = plain-behind p s (d .1) in
-    (and-true-to (negate (isMark b)) (every (λ b. negate (isMark b)) p) (d .0) (i .0), i .1)
-
-plain-append : (p s : List ℕ) → Plain p → Plain s → Plain (p ++ s)
-plain-append [] s h k = k
-plain-append (b ∷ p) s h k =
-    let d = and-true-of (negate (isMark b)) (every (λ b. negate (isMark b)) p) h in
-    and-true-to (negate (isMark b)) (every (λ b. negate (isMark b)) (p ++ s)) (d .0) (plain-append p s (d .1) k)
-
+-- Blanks are no marks.
 plain-gap : (a : ℕ) (s : List ℕ) → Plain (gap a s) → Plain s
 plain-gap zero s h = h
 plain-gap (suc a) s h = plain-gap a s h
-
-plain-name : (n : Name) → Plain (n .bytes) → IsStem (n .bytes)
-plain-name n h = case (name-parts (n .bytes) (n .fits))
-  where
-    case : IsStem (n .bytes) ⊎ MarkedBy IsStem (n .bytes) → IsStem (n .bytes)
-    case (inl d) = d
-    case (inr d) =
-        let last = plain-behind (d .stem) (d .mark ∷ []) (subst Plain (d .parts) h) .1 in
-        let none = and-true-of (negate (isMark (d .mark))) true last .0 in
-        absurd (true≢false (sym (d .is-mark) ∙ not-false (isMark (d .mark)) none))
 
 -- Its trees have none.
 mutual
@@ -57,7 +32,7 @@ mutual
       (and-true-to (fitsS unmarked x) (fitsO unmarked o) (i .0) (j .0), j .1)
 
   plain-operand : (o : Operand) (s : List ℕ) → Plain (showO o s) → (fitsO unmarked o ≡ true) × Plain s
-  plain-operand (name n) s h = let i = plain-behind (n .bytes) s h in (plain-name n (i .0), i .1)
+  plain-operand (name n) s h = let i = plain-behind (n .bytes) s h in (plain-stem (n .bytes) (n .fits) (i .0), i .1)
   plain-operand any s h = (refl, h)
   plain-operand received s h = absurd (false≢true h)
   plain-operand sent s h = absurd (false≢true h)
@@ -131,13 +106,6 @@ viable-without p h (rest, (f, d)) =
 
 pub viable-with : (p : List ℕ) → Viable unmarked p → Viable marked p
 viable-with p (rest, (f, d)) = (rest, (f, with-marks (p ++ rest) f d))
-
-plain-take : (n : ℕ) (s : List ℕ) → Plain s → Plain (take n s)
-plain-take zero s h = refl
-plain-take (suc n) [] h = refl
-plain-take (suc n) (b ∷ s) h =
-    let d = and-true-of (negate (isMark b)) (every (λ b. negate (isMark b)) s) h in
-    and-true-to (negate (isMark b)) (every (λ b. negate (isMark b)) (take n s)) (d .0) (plain-take n s (d .1))
 
 module _ (text : List ℕ) (plain : Plain text) where
   longest-without : (n : ℕ) → Longest marked text n → Longest unmarked text n

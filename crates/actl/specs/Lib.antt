@@ -16,6 +16,5 @@ pub mod Readers
 pub mod Reading
 pub mod Shaped
 pub mod Sizes
-pub mod Unmarked
 pub mod Walk
 pub mod Writing

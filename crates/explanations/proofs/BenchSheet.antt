@@ -15,7 +15,7 @@ use Rattle.lts.specs.Names.{findFrom}
 use Rattle.lts.specs.Reply.{Reply, accepted, refusal}
 use Rattle.lts.specs.Range.{InRange}
 use Rattle.lts.specs.Steps.{Table, silent, stepsFrom}
-use Rattle.lts.specs.Reading.{readTable, readLabels, readTransitions}
+use Rattle.lts.specs.Reading.{readTable, readTableWith, readLabels, readLabelsWith, readTransitions}
 use Rattle.lts.proofs.Lists.{and-true-of, or-true-of, every-of}
 use Rattle.lts.proofs.Laws.Texts.{text-of-read}
 use Rattle.actl.specs.Actions.{inSet, maskOf, meets, passes}
@@ -120,7 +120,7 @@ pub right-of-test : (l : SheetLine) → isRight l ≡ true → IsRight l
 right-of-test l e = right l (readTable (l .table)) refl e
 
 starred-tested : every isRight starred ≡ true
-unfolding readTable readLabels readTransitions column digitsWithin readFormula findFrom maskOf classOf highestWithoutClass holds within stepsFrom meets passes inSet silent listing positionsAmong searchAmong expandAmong visits visit movesUptoAmong movesFromAmong movesOnAmong movesToAmong numberOf canFinish targets leads leadsOf final finalOf
+unfolding readTableWith readLabelsWith readTransitions column digitsWithin readFormula findFrom maskOf classOf highestWithoutClass holds within stepsFrom meets passes inSet silent listing positionsAmong searchAmong expandAmong visits visit movesUptoAmong movesFromAmong movesOnAmong movesToAmong numberOf canFinish targets leads leadsOf final finalOf
 starred-tested = refl
 
 -- Every starred line is right, from its texts.

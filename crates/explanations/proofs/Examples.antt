@@ -9,7 +9,7 @@ use Rattle.lts.specs.Sizes.{tableLength}
 use Rattle.lts.specs.Names.{findFrom}
 use Rattle.lts.specs.Steps.{silent, stepsFrom}
 use Rattle.lts.specs.Text.{ended}
-use Rattle.lts.specs.Reading.{readTable, readLabels, readTransitions}
+use Rattle.lts.specs.Reading.{readTable, readTableWith, readLabels, readLabelsWith, readTransitions}
 use Rattle.lts.proofs.Examples.{lines, M-lines}
 use Rattle.actl.specs.Sizes.{formulaLength}
 use Rattle.actl.specs.Actions.{inSet, maskOf, meets, passes}
@@ -31,12 +31,12 @@ listing-of-M : explainText M-lines (ended (ascii "EU[*;ack] T"))
     ∷ "     1     2     0"
     ∷ "     1     2     2"
     ∷ [])
-unfolding explainText printed listing positionsAmong searchAmong expandAmong visits visit movesUptoAmong movesFromAmong movesOnAmong movesToAmong numberOf canFinish targets leads leadsOf final finalOf holds within stepsFrom meets passes inSet classOf silent readTable readLabels readTransitions column digitsWithin readFormula findFrom maskOf highestWithoutClass
+unfolding explainText printed listing positionsAmong searchAmong expandAmong visits visit movesUptoAmong movesFromAmong movesOnAmong movesToAmong numberOf canFinish targets leads leadsOf final finalOf holds within stepsFrom meets passes inSet classOf silent readTableWith readLabelsWith readTransitions column digitsWithin readFormula findFrom maskOf highestWithoutClass
 listing-of-M = refl
 
 -- A refusal prints one line.
 refusal-line : explainText [] [] ≡ lines ("     1     1" ∷ [])
-unfolding explainText printed readTable column digitsWithin
+unfolding explainText printed readTableWith column digitsWithin
 refusal-line = refl
 
 -- 01: "Each length in docs/ is one number, the same for every input and at most 16,777,216 bytes; a row or edge place takes at most 64 bytes."

@@ -10,7 +10,7 @@ use Rattle.lts.specs.Sizes.{enoughTableText}
 use Rattle.explanations.specs.Printed.{lentExplanation, withLength, printed}
 use Rattle.files.specs.declared.Scanned.{Scanned}
 
--- The beginning of a table file: all of it, or at least 20,282 bytes, which get the same answer as all.
+-- The beginning of a table file: all of it, or at least 20,322 bytes, which get the same answer as all.
 abbrev pub Begins : List ℕ → List ℕ → Type 0
 Begins part file = (n : ℕ) × (enoughTableText ≤ n) × (part ≡ take n file)
 

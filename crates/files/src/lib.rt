@@ -1,4 +1,4 @@
-// What the program `explain` writes for its two files. They may be of any length: of the table 20,282 bytes are enough, of the formula
+// What the program `explain` writes for its two files. They may be of any length: of the table 20,322 bytes are enough, of the formula
 // its first 513 bytes, its length and its last byte.
 use actl::sizes::FORMULA_LENGTH;
 use explanations::sizes::EDGES_LENGTH;

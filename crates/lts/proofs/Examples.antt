@@ -9,9 +9,10 @@ use Rattle.lts.specs.Sizes.{tableLength}
 use Rattle.columns.specs.Ascii.{ascii}
 use Rattle.columns.specs.Columns.{column, digitsWithin}
 use Rattle.lts.specs.Reply.{accepted, refusal}
+use Rattle.lts.specs.Names.{neither, received, sent, labelDirection}
 use Rattle.lts.specs.Steps.{Step, Table, silent, stepsFrom, idleAt}
 use Rattle.lts.specs.Text.{tableText, ended}
-use Rattle.lts.specs.Reading.{readTable, readLabels, readTransitions}
+use Rattle.lts.specs.Reading.{readTable, readTableWith, readLabels, readLabelsWith, readTransitions}
 use Rattle.lts.specs.Prepared.{tableBytes, tableIn, preparedTable}
 
 abbrev pub step : ℕ → ℕ → ℕ → Step
@@ -38,7 +39,7 @@ unfolding tableText column digitsWithin
 text-of-M = refl
 
 M-is-read : readTable M-lines ≡ accepted M
-unfolding readTable readLabels readTransitions column digitsWithin
+unfolding readTableWith readLabelsWith readTransitions column digitsWithin
 M-is-read = refl
 
 -- State 2 of M has no exit: its idle step.
@@ -47,7 +48,7 @@ unfolding stepsFrom
 idle-of-M = refl
 
 prepared-M : preparedTable (tableBytes M) ≡ some M
-unfolding preparedTable tableBytes tableIn readTable readLabels readTransitions tableText column digitsWithin
+unfolding preparedTable tableBytes tableIn readTableWith readLabelsWith readTransitions tableText column digitsWithin
 prepared-M = refl
 
 prepared-length : length (tableBytes M) ≡ tableLength
@@ -56,57 +57,98 @@ prepared-length = refl
 
 -- A line missing; not as laid out (a leading zero, a name of thirteen bytes, no LF at the end); bytes after the last.
 missing-line : readTable (lines ("     1     1     0     0" ∷ [])) ≡ refusal 1 2
-unfolding readTable readLabels readTransitions column digitsWithin
+unfolding readTableWith readLabelsWith readTransitions column digitsWithin
 missing-line = refl
 
 leading-zero : readTable (lines ("     3     2     3    00" ∷ [])) ≡ refusal 1 1
-unfolding readTable readLabels readTransitions column digitsWithin
+unfolding readTableWith readLabelsWith readTransitions column digitsWithin
 leading-zero = refl
 
 long-name : readTable (lines ("     1     1     0     0" ∷ "     1 abcdefghijklm" ∷ [])) ≡ refusal 1 2
-unfolding readTable readLabels readTransitions column digitsWithin
+unfolding readTableWith readLabelsWith readTransitions column digitsWithin
 long-name = refl
 
 no-end : readTable (lines ("     3     2     3     0" ∷ "     1 req" ∷ "     2 ack" ∷ "     0     1     1" ∷ "     1     0     2" ∷ []) ++ ascii "     1     2     0") ≡ refusal 1 6
-unfolding readTable readLabels readTransitions column digitsWithin
+unfolding readTableWith readLabelsWith readTransitions column digitsWithin
 no-end = refl
 
 bytes-after : readTable (M-lines ++ ascii " ") ≡ refusal 1 7
-unfolding readTable readLabels readTransitions column digitsWithin
+unfolding readTableWith readLabelsWith readTransitions column digitsWithin
 bytes-after = refl
 
 -- A number outside its range, or its turn.
 no-state : readTable (lines ("     0     0     0     0" ∷ [])) ≡ refusal 2 1
-unfolding readTable readLabels readTransitions column digitsWithin
+unfolding readTableWith readLabelsWith readTransitions column digitsWithin
 no-state = refl
 
 out-of-turn : readTable (lines ("     3     2     3     0" ∷ "     2 req" ∷ [])) ≡ refusal 2 2
-unfolding readTable readLabels readTransitions column digitsWithin
+unfolding readTableWith readLabelsWith readTransitions column digitsWithin
 out-of-turn = refl
 
 no-such-state : readTable (lines ("     3     2     3     0" ∷ "     1 req" ∷ "     2 ack" ∷ "     0     1     3" ∷ [])) ≡ refusal 2 4
-unfolding readTable readLabels readTransitions column digitsWithin
+unfolding readTableWith readLabelsWith readTransitions column digitsWithin
 no-such-state = refl
 
 -- A name used before; a transition not above the one before.
 name-used : readTable (lines ("     3     2     3     0" ∷ "     1 req" ∷ "     2 req" ∷ [])) ≡ refusal 3 3
-unfolding readTable readLabels readTransitions column digitsWithin
+unfolding readTableWith readLabelsWith readTransitions column digitsWithin
 name-used = refl
 
 not-above : readTable (lines ("     3     2     3     0" ∷ "     1 req" ∷ "     2 ack" ∷ "     0     1     1" ∷ "     0     1     1" ∷ [])) ≡ refusal 4 5
-unfolding readTable readLabels readTransitions column digitsWithin
+unfolding readTableWith readLabelsWith readTransitions column digitsWithin
 not-above = refl
 
 -- On a line: 1 before 2, 2 before 3 and before 4. A line with a blank behind it and out of turn; a name used, out of turn; a transition as before, to a state
 -- that is none.
 layout-before-turn : readTable (lines ("     3     2     3     0" ∷ "     2 req " ∷ [])) ≡ refusal 1 2
-unfolding readTable readLabels readTransitions column digitsWithin
+unfolding readTableWith readLabelsWith readTransitions column digitsWithin
 layout-before-turn = refl
 
 turn-before-name : readTable (lines ("     3     2     3     0" ∷ "     1 req" ∷ "     3 req" ∷ [])) ≡ refusal 2 3
-unfolding readTable readLabels readTransitions column digitsWithin
+unfolding readTableWith readLabelsWith readTransitions column digitsWithin
 turn-before-name = refl
 
 range-before-order : readTable (lines ("     3     1     2     0" ∷ "     1 req" ∷ "     1     1     1" ∷ "     0     1     3" ∷ [])) ≡ refusal 2 4
-unfolding readTable readLabels readTransitions column digitsWithin
+unfolding readTableWith readLabelsWith readTransitions column digitsWithin
 range-before-order = refl
+
+-- 02: the three names of one stem are three labels, received, sent and neither; a twelve-letter name with a mark.
+abbrev directed : Table
+directed = record {
+  states = 1;
+  names = ascii "clamp?" ∷ ascii "clamp!" ∷ ascii "clamp" ∷ ascii "abcdefghijkl!" ∷ [];
+  transitions = [];
+  start = 0;
+}
+
+three-of-a-stem : readTable (lines ("     1     4     0     0" ∷ "     1 clamp?" ∷ "     2 clamp!" ∷ "     3 clamp" ∷ "     4 abcdefghijkl!" ∷ [])) ≡ accepted directed
+unfolding readTableWith readLabelsWith readTransitions column digitsWithin
+three-of-a-stem = refl
+
+directions : (labelDirection (directed .names) 1 ≡ received) × (labelDirection (directed .names) 2 ≡ sent) × (labelDirection (directed .names) 3 ≡ neither) × (labelDirection (directed .names) 4 ≡ sent)
+directions = (refl, refl, refl, refl)
+
+prepared-directed : preparedTable (tableBytes directed) ≡ some directed
+unfolding preparedTable tableBytes tableIn readTableWith readLabelsWith readTransitions tableText column digitsWithin
+prepared-directed = refl
+
+-- Not as laid out: two marks, a mark alone, a mark behind a blank, thirteen letters and a mark. A name with its mark used before.
+two-marks : readTable (lines ("     1     1     0     0" ∷ "     1 clamp?!" ∷ [])) ≡ refusal 1 2
+unfolding readTableWith readLabelsWith readTransitions column digitsWithin
+two-marks = refl
+
+mark-alone : readTable (lines ("     1     1     0     0" ∷ "     1 ?" ∷ [])) ≡ refusal 1 2
+unfolding readTableWith readLabelsWith readTransitions column digitsWithin
+mark-alone = refl
+
+mark-behind-a-blank : readTable (lines ("     1     1     0     0" ∷ "     1 clamp ?" ∷ [])) ≡ refusal 1 2
+unfolding readTableWith readLabelsWith readTransitions column digitsWithin
+mark-behind-a-blank = refl
+
+thirteen-letters-and-a-mark : readTable (lines ("     1     1     0     0" ∷ "     1 abcdefghijklm?" ∷ [])) ≡ refusal 1 2
+unfolding readTableWith readLabelsWith readTransitions column digitsWithin
+thirteen-letters-and-a-mark = refl
+
+marked-name-used : readTable (lines ("     1     2     0     0" ∷ "     1 clamp?" ∷ "     2 clamp?" ∷ [])) ≡ refusal 3 3
+unfolding readTableWith readLabelsWith readTransitions column digitsWithin
+marked-name-used = refl

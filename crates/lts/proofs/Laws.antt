@@ -25,4 +25,5 @@ pub mod Stems
 pub mod TableBytes
 pub mod Tests
 pub mod Texts
+pub mod Unmarked
 pub mod WellFormed

@@ -1,12 +1,13 @@
 -- Label names: which bytes are one, what its mark says, where one ends in a text, and looking one up.
 use mathlib.Core.Path.{_≡_}
-use mathlib.Core.Bool.{Bool, true, false, cond, _&&_, _||_}
+use mathlib.Core.Bool.{Bool, true, false, cond, not, _&&_, _||_}
 use mathlib.Core.List.{List, [], _∷_}
 use mathlib.Core.Option.{Option, none, some}
 use Prim.Native.Nat.{ℕ, zero, suc, _+_}
 use lib.Dec.{leb, eqb}
 use lib.ListN.{take, drop, getD}
 use Rattle.columns.specs.Bytes.{sameBytes}
+use Rattle.lts.specs.Lists.{every}
 
 -- 01: "a lower-case letter, then lower-case letters, digits or underscores"
 abbrev pub isLower : ℕ → Bool
@@ -74,6 +75,16 @@ sameDirection d e = eqb (directionCode d) (directionCode e)
 abbrev pub labelDirection : List (List ℕ) → ℕ → Direction
 labelDirection names zero = neither
 labelDirection names (suc k) = directionOf (getD names k [])
+
+-- The mark of a direction: behind a name without one it makes the name of that direction.
+abbrev pub markOf : Direction → List ℕ
+markOf neither = []
+markOf received = 63 ∷ []
+markOf sent = 33 ∷ []
+
+-- A text without marks.
+abbrev pub Plain : List ℕ → Type 0
+Plain s = every (λ b. not (isMark b)) s ≡ true
 
 -- How many bytes the longest name without its mark has that a text starts with; 0 if it starts with none.
 abbrev pub stemRun : ℕ → List ℕ → ℕ

@@ -1,4 +1,4 @@
--- Reading a table's text: line by line, on each line 1, 2, then 3 or 4.
+-- Reading a table's text: line by line, on each line 1, 2, then 3 or 4. m says whether names may have marks.
 use mathlib.Core.Bool.{Bool, true, false, cond, not, _&&_, _||_}
 use mathlib.Core.List.{List, [], _∷_, _++_}
 use Prim.Native.Nat.{ℕ, zero, suc, _+_}
@@ -10,7 +10,7 @@ use Rattle.columns.specs.Columns.{valueAt}
 use Rattle.lts.specs.Reply.{Reply, accepted, refusal, unless}
 use Rattle.lts.specs.Lists.{anyOf}
 use Rattle.lts.specs.Steps.{Step, Table}
-use Rattle.lts.specs.Names.{isName}
+use Rattle.lts.specs.Names.{Marks, marked, isNameWith}
 use Rattle.lts.specs.Text.{headerLine, labelLine, transitionLine}
 
 -- A text's first line, without its LF, and what follows; or none, if no LF follows.
@@ -49,8 +49,11 @@ abbrev pub headerInRange : Header → Bool
 headerInRange h = leb 1 (h .states) && leb (h .states) mostStates && leb (h .labels) mostLabels && leb (h .transitions) mostTransitions && ltb (h .start) (h .states)
 
 -- A label's line: its number and its name.
+abbrev pub labelLaidOutWith : Marks → List ℕ → Bool
+labelLaidOutWith m l = sameBytes l (labelLine (valueAt 0 l) (drop 7 l)) && isNameWith m (drop 7 l)
+
 abbrev pub labelLaidOut : List ℕ → Bool
-labelLaidOut l = sameBytes l (labelLine (valueAt 0 l) (drop 7 l)) && isName (drop 7 l)
+labelLaidOut l = labelLaidOutWith marked l
 
 -- 01: "a label name used on an earlier line"
 abbrev pub used : List (List ℕ) → List ℕ → Bool
@@ -91,19 +94,26 @@ readTransitions h names (suc left) steps text =
     unless (above steps (stepOf l)) 4 n (
     readTransitions h names left (steps ++ (stepOf l ∷ [])) rest))))
 
-unfoldable pub readLabels : Header → ℕ → List (List ℕ) → List ℕ → Reply Table
-readLabels h zero names text = readTransitions h names (h .transitions) [] text
-readLabels h (suc left) names text =
+unfoldable pub readLabelsWith : Marks → Header → ℕ → List (List ℕ) → List ℕ → Reply Table
+readLabelsWith m h zero names text = readTransitions h names (h .transitions) [] text
+readLabelsWith m h (suc left) names text =
     let n : ℕ = 2 + length names in
     onLine n (firstLine text) (λ l rest.
-    unless (labelLaidOut l) 1 n (
+    unless (labelLaidOutWith m l) 1 n (
     unless (eqb (valueAt 0 l) (suc (length names))) 2 n (
     unless (not (used names (drop 7 l))) 3 n (
-    readLabels h left (names ++ (drop 7 l ∷ [])) rest))))
+    readLabelsWith m h left (names ++ (drop 7 l ∷ [])) rest))))
 
-unfoldable pub readTable : List ℕ → Reply Table
-readTable text =
+unfoldable pub readTableWith : Marks → List ℕ → Reply Table
+readTableWith m text =
     onLine 1 (firstLine text) (λ l rest.
     unless (headerLaidOut (headerOf l) l) 1 1 (
     unless (headerInRange (headerOf l)) 2 1 (
-    readLabels (headerOf l) (headerOf l .labels) [] rest)))
+    readLabelsWith m (headerOf l) (headerOf l .labels) [] rest)))
+
+-- Tables have marks.
+abbrev pub readLabels : Header → ℕ → List (List ℕ) → List ℕ → Reply Table
+readLabels h left names text = readLabelsWith marked h left names text
+
+abbrev pub readTable : List ℕ → Reply Table
+readTable text = readTableWith marked text

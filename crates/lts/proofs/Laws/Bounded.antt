@@ -17,7 +17,7 @@ use Rattle.lts.specs.Reply.{Reply, accepted, refusal, unless}
 use Rattle.lts.specs.Steps.{Step, Table}
 use Rattle.lts.specs.Names.{isName}
 use Rattle.lts.specs.Text.{headerLine, labelLine, transitionLine}
-use Rattle.lts.specs.Reading.{Line, missing, line, longer, firstLine, onLine, Header, headerOf, headerLaidOut, headerInRange, labelLaidOut, used, stepOf, stepLaidOut, stepInRange, above, atEnd, readTransitions, readLabels, readTable}
+use Rattle.lts.specs.Reading.{Line, missing, line, longer, firstLine, onLine, Header, headerOf, headerLaidOut, headerInRange, labelLaidOut, used, stepOf, stepLaidOut, stepInRange, above, atEnd, readTransitions, readLabels, readLabelsWith, readTable, readTableWith}
 use Rattle.lts.proofs.Lists.{and-true-of}
 use Rattle.lts.proofs.Laws.Tests.{name-shape, counts-of}
 use Rattle.lts.proofs.Laws.LinesRead.{column-peeled}
@@ -152,7 +152,7 @@ transitions-bounded h names (suc left) steps m text g =
 
 labels-bounded : (h : Header) → h .transitions ≤ mostTransitions → (left : ℕ) (names : List (List ℕ)) (m : ℕ) (text : List ℕ) → 21 * left + 19457 ≤ m
     → readLabels h left names (take m text) ≡ readLabels h left names text
-unfolding readLabels
+unfolding readLabelsWith
 labels-bounded h few zero names m text g = transitions-bounded h names (h .transitions) [] m text (omega arith)
 labels-bounded h few (suc left) names m text g =
     line-bounded (2 + length names) 20 m labelLaidOut
@@ -163,7 +163,7 @@ labels-bounded h few (suc left) names m text g =
     text
 
 pub reading-bounded : (m : ℕ) (text : List ℕ) → enoughTableText ≤ m → readTable (take m text) ≡ readTable text
-unfolding readTable
+unfolding readTableWith
 reading-bounded m text g =
     line-bounded 1 24 m (λ l. headerLaidOut (headerOf l) l) (λ l rest. unless (headerInRange (headerOf l)) 2 1 (readLabels (headerOf l) (headerOf l .labels) [] rest))
     header-narrow (omega arith) (λ l rest e. ranged l rest e (headerInRange (headerOf l)) refl) text

@@ -10,7 +10,7 @@ use lib.Dec.{eqb}
 use lib.ListN.{length, getD, take, drop, length-append, length-drop, drop-of-length-le}
 use lib.Seq.{drop-at, drop-cons, drop-drop, take-at, take-add}
 use Rattle.columns.proofs.Laws.Compared.{Each, each-append, each-weaken}
-use Rattle.lts.specs.Names.{isLower, isNameByte, unmarked, marked, isMark, isLastMark, atMost, isNameWith, isName, Direction, neither, received, sent, directionOfMark, directionBehind, directionOf, sameDirection, stemLength, stemEnd, markLength, withMark, nameLength, nameEnd, nameDirection}
+use Rattle.lts.specs.Names.{isLower, isNameByte, unmarked, marked, isMark, isLastMark, atMost, isNameWith, isName, Direction, neither, received, sent, directionOfMark, directionBehind, directionOf, sameDirection, markOf, stemLength, stemEnd, markLength, withMark, nameLength, nameEnd, nameDirection}
 use Rattle.lts.proofs.Lists.{and-true-of, and-true-to, or-true-of, or-true-left, or-true-right}
 use Rattle.lts.proofs.Laws.Stems.{isStem, stem-high, stem-short, stem-is-name, stem-is-longest, stem-is-run}
 
@@ -233,12 +233,19 @@ same-direction received sent h = absurd (false≢true h)
 same-direction sent neither h = absurd (false≢true h)
 same-direction sent received h = absurd (false≢true h)
 
--- 02: "The mark is part of the name": names that differ in the mark alone are different.
-pub marks-differ : (p : List ℕ) (b c : ℕ) → (directionOfMark b ≡ directionOfMark c → ⊥) → p ++ (b ∷ []) ≡ p ++ (c ∷ []) → ⊥
-marks-differ p b c h e = h (sym (direction-marked p b) ∙ (ap directionOf e ∙ direction-marked p c))
+-- 02: "`clamp!`, `clamp?` and `clamp` are three names": names that differ in the mark alone have different directions.
+pub direction-of-name : (p : List ℕ) (d : Direction) → IsStem p → directionOf (p ++ markOf d) ≡ d
+direction-of-name p neither h = ap directionOf (append-nil p) ∙ direction-unmarked p h
+direction-of-name p received h = direction-marked p 63
+direction-of-name p sent h = direction-marked p 33
 
-pub mark-differs : (p : List ℕ) (b : ℕ) → p ≡ p ++ (b ∷ []) → ⊥
-mark-differs p b e = let n = ap length e ∙ length-append p (b ∷ []) in omega (arith, n)
+pub three-names : (p : List ℕ) (d e : Direction) → IsStem p → p ++ markOf d ≡ p ++ markOf e → d ≡ e
+three-names p d e h z = sym (direction-of-name p d h) ∙ (ap directionOf z ∙ direction-of-name p e h)
+
+pub are-names : (p : List ℕ) (d : Direction) → IsStem p → isName (p ++ markOf d) ≡ true
+are-names p neither h = ap isName (append-nil p) ∙ stem-named p h
+are-names p received h = stem-marked p 63 refl h
+are-names p sent h = stem-marked p 33 refl h
 
 -- The name at a place, by the byte behind its stem.
 module _ (s : List ℕ) (from end : ℕ) (e : end ≡ stemEnd s from) where

@@ -1,7 +1,7 @@
 -- Names in slots: comparing one byte by byte, and looking one up slot by slot.
 use mathlib.Core.Path.{_≡_, refl, sym, ap, _∙_}
 use mathlib.Core.Bool.{Bool, true, false, cond, _||_}
-use mathlib.Core.List.{List, [], _∷_, map}
+use mathlib.Core.List.{List, [], _∷_, _++_, map}
 use mathlib.Core.Option.{none, some}
 use Prim.Native.Nat.{ℕ, suc, _+_, _-_, _*_, _≤_, _<_}
 use native.Mathlib.Numerals.{add-one}
@@ -10,12 +10,13 @@ use lib.ListN.{length, getD, drop, length-take, length-drop}
 use lib.Seq.{length-take-le, getD-take, getD-drop}
 use Rattle.lts.specs.Sizes.{nameSlotLength}
 use Rattle.columns.specs.Bytes.{sameBytes}
-use Rattle.columns.proofs.Laws.Compared.{same-of-unequal}
+use Rattle.columns.proofs.Laws.Compared.{same-of-unequal, same-equal}
 use Rattle.lts.specs.Lists.{upFrom}
-use Rattle.lts.specs.Names.{longestName, findFrom, lookup}
+use Rattle.lts.specs.Names.{longestName, Direction, markOf, findFrom, lookup}
 use Rattle.lts.specs.Reading.{used}
 use Rattle.lts.specs.Slots.{storedName, storedNames}
 use Rattle.lts.specs.Answers.{isSome}
+use Rattle.lts.proofs.Laws.NameRuns.{IsStem, three-names}
 
 -- The name in slot k, and one of another length or of the same.
 module _ (b : List ℕ) (k : ℕ) (name : List ℕ) (inside : k * nameSlotLength + nameSlotLength ≤ length b) (short : length name ≤ longestName) where
@@ -67,3 +68,26 @@ used-found k (x ∷ l) name = case (sameBytes x name) (used-found (suc k) l name
 
 pub used-looked-up : (names : List (List ℕ)) (name : List ℕ) → used names name ≡ isSome (lookup names name)
 used-looked-up names name = used-found 1 names name
+
+-- A label has one name; so names that differ in the mark alone are different labels.
+found-name : (k : ℕ) (names : List (List ℕ)) (name : List ℕ) (a : ℕ) → findFrom k names name ≡ some a → (k ≤ a) × (getD names (a - k) [] ≡ name)
+unfolding findFrom
+found-name k [] name a e = absurd (let z : _≡_ {A = ℕ} 0 1 = cc in omega arith)
+found-name k (x ∷ l) name a e = case (sameBytes x name) refl e (found-name (suc k) l name a)
+  where
+    case : (t : Bool) → sameBytes x name ≡ t → cond t (some k) (findFrom (suc k) l name) ≡ some a → (findFrom (suc k) l name ≡ some a → (suc k ≤ a) × (getD l (a - suc k) [] ≡ name))
+        → (k ≤ a) × (getD (x ∷ l) (a - k) [] ≡ name)
+    case true s d again =
+        let z : k ≡ a = cc in
+        let none : a - k ≡ 0 = omega arith in
+        (omega arith, ap (λ i. getD (x ∷ l) i []) none ∙ same-equal x name s)
+    case false s d again =
+        let h = again d in
+        let more : a - k ≡ suc (a - suc k) = omega (arith, h .0) in
+        (omega (arith, h .0), ap (λ i. getD (x ∷ l) i []) more ∙ h .1)
+
+pub one-name : (names : List (List ℕ)) (m n : List ℕ) (a : ℕ) → lookup names m ≡ some a → lookup names n ≡ some a → m ≡ n
+one-name names m n a d e = sym (found-name 1 names m a d .1) ∙ found-name 1 names n a e .1
+
+pub three-labels : (names : List (List ℕ)) (p : List ℕ) (d e : Direction) (a : ℕ) → IsStem p → lookup names (p ++ markOf d) ≡ some a → lookup names (p ++ markOf e) ≡ some a → d ≡ e
+three-labels names p d e a h x y = three-names p d e h (one-name names (p ++ markOf d) (p ++ markOf e) a x y)

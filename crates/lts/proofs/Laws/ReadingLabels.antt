@@ -14,7 +14,7 @@ use Rattle.lts.specs.Reply.{accepted, unless}
 use Rattle.lts.specs.Steps.{Table}
 use Rattle.lts.specs.Names.{isName}
 use Rattle.lts.specs.Text.{ended, labelLine, labelLines}
-use Rattle.lts.specs.Reading.{Line, line, firstLine, onLine, Header, labelLaidOut, used, readTransitions, readLabels}
+use Rattle.lts.specs.Reading.{Line, line, firstLine, onLine, Header, labelLaidOut, used, readTransitions, readLabels, readLabelsWith}
 use Rattle.lts.proofs.Lists.{and-true-of}
 use Rattle.lts.proofs.Laws.Tests.{name-shape}
 use Rattle.lts.proofs.Laws.Lines.{first-line-of, first-line-to, label-number, label-name, label-laid-out, label-unbroken}
@@ -30,7 +30,7 @@ module _ (h : Header) (left : ℕ) (names : List (List ℕ)) where
 
   pub label-read : (text l rest : List ℕ) → firstLine text ≡ line l rest → labelLaidOut l ≡ true → eqb (valueAt 0 l) (suc (length names)) ≡ true → not (used names (drop 7 l)) ≡ true
       → readLabels h (suc left) names text ≡ readLabels h left (names ++ (drop 7 l ∷ [])) rest
-  unfolding readLabels
+  unfolding readLabelsWith
   label-read text l rest e p q r =
       ap (λ (f : Line). onLine number f (λ k m. unless (labelLaidOut k) 1 number (unless (eqb (valueAt 0 k) (suc (length names))) 2 number (unless (not (used names (drop 7 k))) 3 number (readLabels h left (names ++ (drop 7 k ∷ [])) m))))) e
       ∙ (unless-to (labelLaidOut l) 1 number _ p ∙ (unless-to (eqb (valueAt 0 l) (suc (length names))) 2 number _ q ∙ unless-to (not (used names (drop 7 l))) 3 number _ r))
@@ -45,7 +45,7 @@ module _ (h : Header) (left : ℕ) (names : List (List ℕ)) where
     pub goes-on : readLabels h left (names ++ (drop 7 this ∷ [])) rest ≡ accepted t
 
   pub label-was-read : (text : List ℕ) (t : Table) → readLabels h (suc left) names text ≡ accepted t → LabelRead text t
-  unfolding readLabels
+  unfolding readLabelsWith
   label-was-read text t e =
       let (l, rest, first, d) = on-line-of number (firstLine text) _ t e in
       let p = unless-of (labelLaidOut l) 1 number _ t d in
@@ -56,7 +56,7 @@ module _ (h : Header) (left : ℕ) (names : List (List ℕ)) where
 -- All the labels.
 pub labels-read : (h : Header) (names more : List (List ℕ)) (rest : List ℕ) → length names + length more ≤ 40 → Named names more
     → readLabels h (length more) names (labelLines (suc (length names)) more ++ rest) ≡ readTransitions h (names ++ more) (h .transitions) [] rest
-unfolding readLabels
+unfolding readLabelsWith
 labels-read h names [] rest few g = ap (λ (l : List (List ℕ)). readTransitions h l (h .transitions) [] rest) (sym (append-nil names))
 labels-read h names (n ∷ more) rest few g =
     let k : ℕ = suc (length names) in
@@ -83,7 +83,7 @@ pub record LabelsRead (h : Header) (left : ℕ) (names : List (List ℕ)) (text 
 
 pub labels-were-read : (h : Header) (left : ℕ) (names : List (List ℕ)) (text : List ℕ) (t : Table)
     → readLabels h left names text ≡ accepted t → LabelsRead h left names text t
-unfolding readLabels
+unfolding readLabelsWith
 labels-were-read h zero names text t e = record {
   more = [];
   rest = text;

@@ -10,7 +10,7 @@ use lib.ListN.{length, drop}
 use Rattle.columns.specs.Columns.{valueAt}
 use Rattle.lts.specs.Reply.{Reply, accepted, refusal, unless, answers}
 use Rattle.lts.specs.Steps.{Step, Table}
-use Rattle.lts.specs.Reading.{Line, missing, line, firstLine, onLine, Header, headerOf, headerLaidOut, headerInRange, labelLaidOut, used, stepOf, stepLaidOut, stepInRange, above, readTransitions, readLabels, readTable}
+use Rattle.lts.specs.Reading.{Line, missing, line, firstLine, onLine, Header, headerOf, headerLaidOut, headerInRange, labelLaidOut, used, stepOf, stepLaidOut, stepInRange, above, readTransitions, readLabels, readLabelsWith, readTable, readTableWith}
 
 abbrev pub Numbered : {A : Type 0} → (ℕ → Type 0) → Reply A → Type 0
 Numbered P (accepted a) = Unit {0}
@@ -67,7 +67,7 @@ transitions-numbers h names (suc left) steps text = line-numbers _ (firstLine te
     (numbered-unless TableNumber (above steps (stepOf l)) 4 _ _ (omega arith, omega arith) (transitions-numbers h names left (steps ++ (stepOf l ∷ [])) rest))))
 
 labels-numbers : (h : Header) (left : ℕ) (names : List (List ℕ)) (text : List ℕ) → Numbered TableNumber (readLabels h left names text)
-unfolding readLabels
+unfolding readLabelsWith
 labels-numbers h zero names text = transitions-numbers h names (h .transitions) [] text
 labels-numbers h (suc left) names text = line-numbers _ (firstLine text) _ (λ l rest.
     numbered-unless TableNumber (labelLaidOut l) 1 _ _ (omega arith, omega arith)
@@ -75,7 +75,7 @@ labels-numbers h (suc left) names text = line-numbers _ (firstLine text) _ (λ l
     (numbered-unless TableNumber (not (used names (drop 7 l))) 3 _ _ (omega arith, omega arith) (labels-numbers h left (names ++ (drop 7 l ∷ [])) rest))))
 
 pub table-numbers : (text : List ℕ) → Numbered (Between 1 4) (readTable text)
-unfolding readTable
+unfolding readTableWith
 table-numbers text = line-numbers 1 (firstLine text) _ (λ l rest.
     numbered-unless TableNumber (headerLaidOut (headerOf l) l) 1 1 _ (omega arith, omega arith)
     (numbered-unless TableNumber (headerInRange (headerOf l)) 2 1 _ (omega arith, omega arith) (labels-numbers (headerOf l) (headerOf l .labels) [] rest)))

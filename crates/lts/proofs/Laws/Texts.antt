@@ -10,7 +10,7 @@ use Rattle.lts.specs.Reply.{accepted, unless}
 use Rattle.lts.specs.Steps.{Step, Table, labels}
 use Rattle.lts.specs.Range.{Below, Differ, InRange}
 use Rattle.lts.specs.Text.{ended, headerLine, labelLines, transitionLines, tableText}
-use Rattle.lts.specs.Reading.{Line, line, firstLine, onLine, Header, headerOf, headerLaidOut, headerInRange, readLabels, readTable, stepInRange}
+use Rattle.lts.specs.Reading.{Line, line, firstLine, onLine, Header, headerOf, headerLaidOut, headerInRange, readLabels, readTable, readTableWith, stepInRange}
 use Rattle.lts.proofs.Laws.Tests.{CountsInRange, counts-of, counts-to, step-range-of, step-range-to, above-of, above-to, used-of, used-to}
 use Rattle.lts.proofs.Laws.Grown.{grown-of, grown-to}
 use Rattle.lts.proofs.Laws.Lines.{first-line-of, first-line-to, header-of, header-laid-out, header-unbroken}
@@ -58,7 +58,7 @@ range-of h names steps c p q n a =
     }
 
 pub read-of-text : (t : Table) → InRange t → readTable (tableText t) ≡ accepted t
-unfolding readTable tableText
+unfolding readTableWith tableText
 read-of-text t r =
     let h : Header = headerIn t in
     let first : List ℕ = headerLine (t .states) (labels t) (length (t .transitions)) (t .start) in
@@ -75,7 +75,7 @@ read-of-text t r =
     ∙ transitions-read h (counts-in t r) (t .names) [] (t .transitions) (added-to t r)))))
 
 pub text-of-read : (text : List ℕ) (t : Table) → readTable text ≡ accepted t → (text ≡ tableText t) × InRange t
-unfolding readTable tableText
+unfolding readTableWith tableText
 text-of-read text t e =
     let (l, rest, first, d) = on-line-of 1 (firstLine text) _ t e in
     let p = unless-of (headerLaidOut (headerOf l) l) 1 1 _ t d in

@@ -10,7 +10,7 @@ use lib.ListN.{length, drop}
 use Rattle.columns.specs.Columns.{valueAt}
 use Rattle.lts.specs.Reply.{Reply, refusal, unless}
 use Rattle.lts.specs.Steps.{Step, Table}
-use Rattle.lts.specs.Reading.{Header, Line, missing, line, firstLine, onLine, labelLaidOut, used, stepOf, stepLaidOut, stepInRange, above, readTransitions, readLabels}
+use Rattle.lts.specs.Reading.{Header, Line, missing, line, firstLine, onLine, labelLaidOut, used, stepOf, stepLaidOut, stepInRange, above, readTransitions, readLabels, readLabelsWith}
 use Rattle.lts.specs.Lines.{LineAt, NoLineAt}
 use Rattle.table_text.specs.Progress.{Refuses, numberRefused}
 use Rattle.lts.proofs.Lists.{and-true-of}
@@ -36,7 +36,7 @@ failed t number figure next e = ap (λ b. unless b number figure next) e
 -- Labels.
 module _ (h : Header) (s : List ℕ) (at left : ℕ) (names : List (List ℕ)) where
   pub label-refused : (n : ℕ) → n ≡ length names + 2 → NoLineAt labelLaidOut s at → Refuses (readLabels h (suc left) names (drop at s)) (NotLaidOut n)
-  unfolding readLabels
+  unfolding readLabelsWith
   label-refused n f g = record {
     number = 1;
     figure = 2 + length names;
@@ -47,7 +47,7 @@ module _ (h : Header) (s : List ℕ) (at left : ℕ) (names : List (List ℕ)) w
   module _ (to : ℕ) (l : List ℕ) (g : LineAt labelLaidOut s at to l) where
     label-opened : readLabels h (suc left) names (drop at s)
         ≡ unless (eqb (valueAt 0 l) (suc (length names))) 2 (2 + length names) (unless (not (used names (drop 7 l))) 3 (2 + length names) (readLabels h left (names ++ (drop 7 l ∷ [])) (drop to s)))
-    unfolding readLabels
+    unfolding readLabelsWith
     label-opened = a-line labelLaidOut (2 + length names) (firstLine (drop at s)) _ l (drop to s) (g .is-line) (g .laid-out)
 
     pub label-out-of-order : (n : ℕ) → n ≡ length names + 2 → (valueAt 0 l ≡ length names + 1 → ⊥) → Refuses (readLabels h (suc left) names (drop at s)) (OutOfRange n)

@@ -10,7 +10,7 @@ use Rattle.lts.specs.Lists.{every}
 use Rattle.lts.specs.Reply.{Reply, accepted, refusal}
 use Rattle.lts.specs.Steps.{Step, Table}
 use Rattle.lts.specs.Names.{isName}
-use Rattle.lts.specs.Reading.{Header, atEnd, readTransitions, readLabels}
+use Rattle.lts.specs.Reading.{Header, atEnd, readTransitions, readLabels, readLabelsWith}
 use Rattle.lts.specs.Slots.{nameBytes, stepBytes}
 use Rattle.table_lines.specs.LineReplies.{header}
 use Rattle.table_text.specs.Progress.{Refuses, NameRead, NamesRead, TransitionLineRead, StepsRead, TransitionProgress}
@@ -65,7 +65,7 @@ module _ (h : Header) (s : List ℕ) (from : ℕ) where
     }
 
     pub names-end : h .labels ≤ count → NamesRead h s from at b
-    unfolding readLabels
+    unfolding readLabelsWith
     names-end k =
         let few = r .few in
         let none : h .labels - count ≡ 0 = omega arith in

@@ -10,7 +10,7 @@ use lib.ListN.{length, drop}
 use Rattle.lts.specs.Sizes.{mostStates, mostLabels, mostTransitions, tableLength}
 use Rattle.lts.specs.Reply.{Reply, accepted, refusal, unless, overwritten, leftIn, answers}
 use Rattle.lts.specs.Steps.{Step, Table}
-use Rattle.lts.specs.Reading.{Header, firstLine, headerOf, headerLaidOut, headerInRange, readLabels, readTable}
+use Rattle.lts.specs.Reading.{Header, firstLine, headerOf, headerLaidOut, headerInRange, readLabels, readTable, readTableWith}
 use Rattle.lts.specs.Prepared.{tableBytes}
 use Rattle.table_text.specs.Replies.{tableReply}
 use Rattle.lts.specs.TableReading.{tableReading, tableReplied, tableLeft}
@@ -28,12 +28,12 @@ laidHeader l = headerLaidOut (headerOf l) l
 
 module _ (s : List ℕ) where
   pub header-refused : NoLineAt (λ l. headerLaidOut (headerOf l) l) s 0 → Refuses (readTable s) (NotLaidOut 1)
-  unfolding readTable
+  unfolding readTableWith
   header-refused g = record { number = 1; figure = 1; reply = no-line laidHeader 1 (firstLine s) _ g; says = refl }
 
   module _ (l : List ℕ) (g : LineAt (λ l. headerLaidOut (headerOf l) l) s 0 25 l) (h : Header) (v : headerOf l ≡ h) where
     header-opened : readTable s ≡ unless (headerInRange h) 2 1 (readLabels h (h .labels) [] (drop 25 s))
-    unfolding readTable
+    unfolding readTableWith
     header-opened =
         a-line laidHeader 1 (firstLine s) _ l (drop 25 s) (g .is-line) (g .laid-out)
         ∙ ap (λ (x : Header). unless (headerInRange x) 2 1 (readLabels x (x .labels) [] (drop 25 s))) v
