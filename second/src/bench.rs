@@ -6,14 +6,15 @@ use std::time::{Duration, Instant};
 
 use crate::baseline::BASELINE;
 use crate::entries::{EDGE_PLACE, Entries, ROW_PLACE};
-use crate::formula::{Formula, MAX_BYTES};
+use crate::formula::{Formula, MAX_BYTES, MAX_NODES};
+use crate::inputs::kinds::Kinds;
 use crate::inputs::questions::{Question, longest_listing};
 use crate::inputs::rng::Rng;
 use crate::inputs::tables;
 use crate::listing::Listing;
 use crate::prepared::{self, FORMULA_LENGTH, TABLE_LENGTH};
 use crate::reply::Reply;
-use crate::table::{MAX_LABELS, MAX_NAME, Table};
+use crate::table::{MAX_LABELS, Table};
 use crate::word::MAX_WORD;
 
 /// The two explainers are timed in turn, so often; the shortest time of each counts.
@@ -56,12 +57,38 @@ fn small() -> Input {
 }
 
 fn typical() -> Input {
-    let mut table = tables::with_counts(&mut Rng::new(2), 30, 8, 90);
     let names = ["load", "unload", "clamp", "release", "frame", "drop", "retry", "ack"];
-    table.names = names.map(|name| name.as_bytes().to_vec()).into();
     let formula =
         b"EU[~(drop | retry); frame] (EX[.] EU[*; ack] T | EU[clamp | load] ~AX[~release] AX[*] T)";
-    read("typical", table, formula)
+    read("typical", typical_table(names), formula)
+}
+
+fn typical_table(names: [&str; 8]) -> Table {
+    let mut table = tables::with_counts(&mut Rng::new(2), &mut Kinds::default(), 30, 8, 90);
+    table.names = names.map(|name| name.as_bytes().to_vec()).into();
+    table
+}
+
+/// What has marks, for the readings.
+fn directed() -> [Input; 2] {
+    [marked(), operands()]
+}
+
+/// The typical question with marks, and an operand of each direction.
+fn marked() -> Input {
+    let names = ["load!", "unload!", "clamp!", "release!", "frame?", "drop", "retry!", "ack?"];
+    let formula = b"EU[~(drop | retry!); frame?] (EX[.] EU[*; ?] T | EU[clamp! | !] \
+        ~AX[~release!] AX[*] T)";
+    read("marked", typical_table(names), formula)
+}
+
+/// 40 nodes and 512 bytes of operands of a direction, over the longest names with marks.
+fn operands() -> Input {
+    let table = tables::longest_table(&mut Rng::new(3));
+    let mut text = b"EX[?|!|?|!|?]".repeat(MAX_NODES - 1);
+    text.resize(MAX_BYTES - 1, b' ');
+    text.push(b'T');
+    read("operands", table, &text)
 }
 
 fn read(size: &'static str, table: Table, text: &[u8]) -> Input {
@@ -72,8 +99,7 @@ fn read(size: &'static str, table: Table, text: &[u8]) -> Input {
 /// The longest listing; its formula's text, with long names, is another of 40 nodes and 512 bytes.
 fn largest() -> Input {
     let mut question = longest_listing(&mut Rng::new(3));
-    let name = |label: usize| format!("{:x<1$}{label:02}", "l", MAX_NAME - 2).into_bytes();
-    question.table.names = (1..=MAX_LABELS).map(name).collect();
+    question.table.names = (1..=MAX_LABELS).map(tables::longest_stem).collect();
     let mut text = Vec::new();
     for label in 1..=20 {
         text.extend_from_slice(b"EX[");
@@ -185,9 +211,10 @@ pub fn run(library: &Entries, part: &str, out: &mut impl Write) -> io::Result<()
     };
     let head = ["entry", "input", "library", "baseline", "ratio"];
     writeln!(out, "{:12} {:8} {:>12} {:>12} {:>7}", head[0], head[1], head[2], head[3], head[4])?;
-    let inputs = inputs();
+    let (inputs, directed) = (inputs(), directed());
     for (entry, call) in CALLS.into_iter().filter(|(entry, _)| entry.contains(part)) {
-        for input in &inputs {
+        let directed = directed.iter().filter(|_| entry.starts_with("read_"));
+        for input in inputs.iter().chain(directed) {
             let [library, baseline] = time(call, [library, &BASELINE], input, &mut lent);
             let baseline = baseline.expect("the baseline has all entries");
             let (time, ratio) = match library {

@@ -2,7 +2,7 @@
 
 use crate::grammar::{self, Mark};
 use crate::reply::Refusal;
-use crate::table::{Table, is_silent};
+use crate::table::{Direction, Table, is_silent};
 
 pub const MAX_BYTES: usize = 512;
 pub const MAX_NODES: usize = 40;
@@ -20,6 +20,11 @@ impl Set {
 
     pub fn of(label: u8) -> Set {
         Set(1 << label)
+    }
+
+    /// All labels of the table whose names have this direction.
+    pub fn going(direction: Direction, table: &Table) -> Set {
+        table.going(direction).map(Set::of).fold(Set::EMPTY, Set::union)
     }
 
     pub fn has(self, label: u8) -> bool {
@@ -277,6 +282,8 @@ impl Conditions<'_> {
                 Set::of(label.ok_or(Refusal::UnknownName(self.name_begins))?)
             }
             Mark::AllLabels => Set::all(labels),
+            Mark::Received => Set::going(Direction::In, self.table),
+            Mark::Sent => Set::going(Direction::Out, self.table),
             Mark::Complement => self.pop_set().complement(labels),
             Mark::Union => {
                 let right = self.pop_set();

@@ -7,6 +7,7 @@ use crate::entries::{EDGE_PLACE, Entries, ROW_PLACE};
 use crate::inputs::kinds::{self, Kind, Kinds, Way, way};
 use crate::inputs::lending::{self, LENGTHS, lend};
 use crate::inputs::rng::Rng;
+use crate::inputs::tables::{NAMED, NAMES_OF};
 use crate::inputs::{formulas, questions, tables, words};
 use crate::interface::interface;
 use crate::listing::Listing;
@@ -91,17 +92,18 @@ fn expected(entry: &str) -> (&'static [u32], Vec<Expected>) {
             [lending::expected(&lending::TABLE), lending::expected(&lending::FORMULA)];
         questions::expected().into_iter().chain(table).chain(formula)
     };
+    let names = || kinds::expected(NAMED, &NAMES_OF);
     match entry {
         "read_table" => {
             let texts = kinds::expected(TEXT, &tables::TEXTS);
             let lengths = kinds::expected(WRITTEN, &LENGTHS);
-            (&[0, 1, 2, 3, 4, 14], texts.into_iter().chain(lengths).collect())
+            (&[0, 1, 2, 3, 4, 14], texts.into_iter().chain(lengths).chain(names()).collect())
         }
         "read_formula" => {
             let texts = kinds::expected(TEXT, &formulas::TEXTS);
             let lengths = kinds::expected(WRITTEN, &LENGTHS);
             let lent = lending::expected(&lending::TABLE);
-            let all = texts.into_iter().chain(lengths).chain(lent).collect();
+            let all = texts.into_iter().chain(lengths).chain(lent).chain(names()).collect();
             (&[0, 5, 6, 7, 8, 9, 10, 14], all)
         }
         "verdict" => (&[0, 10, 14], questions().collect()),
@@ -156,7 +158,7 @@ pub fn read_table(rng: &mut Rng) -> Input<compare::ReadTable> {
     let mut kinds = Kinds::default();
     let length = kinds.make(rng, WRITTEN, &LENGTHS, &TABLE_LENGTH);
     let size = tables::size(rng, 40);
-    let table = tables::table(rng, size);
+    let table = tables::table(rng, &mut kinds, size);
     let text = kinds.make(rng, TEXT, &tables::TEXTS, &table);
     Input { case: compare::ReadTable { text, table: lent(rng, length) }, kinds: kinds.0 }
 }
@@ -164,7 +166,7 @@ pub fn read_table(rng: &mut Rng) -> Input<compare::ReadTable> {
 pub fn read_formula(rng: &mut Rng) -> Input<compare::ReadFormula> {
     let mut kinds = Kinds::default();
     let size = tables::size(rng, 60);
-    let table = tables::table(rng, size);
+    let table = tables::table(rng, &mut kinds, size);
     let bytes = lend(rng, &mut kinds, &lending::TABLE, &table);
     let length = kinds.make(rng, WRITTEN, &LENGTHS, &FORMULA_LENGTH);
     let text = kinds.make(rng, TEXT, &formulas::TEXTS, &table);

@@ -4,7 +4,7 @@
 //! derivations that can take it. Every rule can be finished, so one is left exactly if some
 //! grammatical text, of any length, begins as the bytes taken so far.
 
-use crate::table::{MAX_NAME, is_name_byte};
+use crate::table::{MAX_STEM, is_name_byte};
 
 /// What a derivation says of the text, in postfix order: arms and operands before their mark.
 #[derive(Clone, Copy, Debug, PartialEq, Eq)]
@@ -20,6 +20,8 @@ pub enum Mark {
     NameBegins,
     NameEnds,
     AllLabels,
+    Received,
+    Sent,
     Complement,
     Union,
 }
@@ -33,6 +35,7 @@ enum Rule {
     Set,
     MoreOperands,
     Operand,
+    Direction,
 }
 
 #[derive(Clone, Copy)]
@@ -40,7 +43,7 @@ enum Symbol {
     Byte(u8),
     Letter,
     NameByte,
-    /// At most so many further bytes of a name.
+    /// At most so many further bytes of a name's stem.
     NameRest(usize),
     Blanks,
     Part(Rule),
@@ -84,19 +87,26 @@ fn alternatives(rule: Rule) -> &'static [Symbols] {
             &[Blanks, Byte(b'|'), Blanks, Part(Operand), Says(Mark::Union), Part(MoreOperands)],
         ],
         Operand => &[
-            &[Says(Mark::NameBegins), Letter, NameRest(MAX_NAME - 1), Says(Mark::NameEnds)],
+            &[Says(Mark::NameBegins), Letter, NameRest(MAX_STEM - 1), Part(Direction), Says(Mark::NameEnds)],
             &[Byte(b'*'), Says(Mark::AllLabels)],
+            &[Byte(b'?'), Says(Mark::Received)],
+            &[Byte(b'!'), Says(Mark::Sent)],
             &[Byte(b'~'), Blanks, Part(Operand), Says(Mark::Complement)],
             &[Byte(b'('), Blanks, Part(Set), Blanks, Byte(b')')],
+        ],
+        Direction => &[
+            &[],
+            &[Byte(b'?')],
+            &[Byte(b'!')],
         ],
     }
 }
 
-/// What a name may go on with, by the bytes that it may still have.
-static NAME_GOES_ON: [[Symbol; 2]; MAX_NAME] = {
-    let mut goes_on = [[NameByte, NameRest(0)]; MAX_NAME];
+/// What a stem may go on with, by the bytes that it may still have.
+static NAME_GOES_ON: [[Symbol; 2]; MAX_STEM] = {
+    let mut goes_on = [[NameByte, NameRest(0)]; MAX_STEM];
     let mut bytes = 1;
-    while bytes < MAX_NAME {
+    while bytes < MAX_STEM {
         goes_on[bytes] = [NameByte, NameRest(bytes - 1)];
         bytes += 1;
     }
@@ -279,6 +289,34 @@ mod tests {
             ("~|T", 1),
             ("T~T", 1),
             ("T\u{e9}", 1),
+            ("EX[req ?] T", 7),
+            ("EX[req?a", 7),
+            ("EX[req?_", 7),
+            ("EX[req?(", 7),
+            ("EX[req?~", 7),
+            ("EX[req?*", 7),
+            ("EX[req?.", 7),
+            ("EX[clamp??", 9),
+            ("EX[clamp?!", 9),
+            ("EX[clamp!?", 9),
+            ("EX[abcdefghijklm?", 15),
+            ("EX[abcdefghijkl?", 16),
+            ("EX[abcdefghijkl?a", 16),
+            ("EX[?a", 4),
+            ("EX[??", 4),
+            ("EX[?!", 4),
+            ("EX[? a", 5),
+            ("EX[~?~", 5),
+            ("EX[?.] T", 4),
+            ("EX[.?] T", 4),
+            ("EX[.|?] T", 4),
+            ("EX[?|.] T", 5),
+            ("EU[.;?] T", 3),
+            ("EU[?;.] T", 5),
+            ("?", 0),
+            ("T?", 1),
+            ("EX?", 2),
+            ("EX[a]?", 5),
         ] {
             assert_eq!(beginning(text), figure, "{text:?}");
         }
@@ -289,6 +327,29 @@ mod tests {
         assert!(derive(b"EX[abcdefghijkl] T").is_ok());
         assert_eq!(beginning("EX[abcdefghijklm] T"), 15);
         assert_eq!(beginning("EX[a12345678901_] T"), 15);
+    }
+
+    #[test]
+    fn a_mark_stands_right_behind_its_name_and_ends_it() {
+        for text in [
+            "EX[a?] T",
+            "EX[abcdefghijkl!] T",
+            "EX[a? | b! | c] T",
+            "EX[~(a?|?)] T",
+            "EU[a?;b!] T",
+            "EU[a? ; b! ] T",
+        ] {
+            assert!(derive(text.as_bytes()).is_ok(), "{text}");
+        }
+    }
+
+    #[test]
+    fn an_operand_of_a_direction_stands_wherever_a_name_may() {
+        for text in
+            ["EX[?] T", "AX[!] T", "EU[?;!] T", "EX[~?] T", "EX[~ ~ ( ! | a | ? )] T", "EU[?|?] T"]
+        {
+            assert!(derive(text.as_bytes()).is_ok(), "{text}");
+        }
     }
 
     #[test]

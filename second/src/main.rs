@@ -7,14 +7,15 @@ use std::process::ExitCode;
 use std::time::Instant;
 
 use second::digests::answers::Explainer;
+use second::digests::{BASE, CORPORA, Corpus};
 use second::entries::SECOND;
 use second::tally::{self, Tally};
-use second::{bench, corpus, digests, fuzz, link, print, program};
+use second::{bench, digests, fuzz, link, print, program};
 
 const USAGE: &str = "second explain FOLDER
 second program FILE --seed NUMBER --count NUMBER
 second fuzz --seed NUMBER --count NUMBER
-second digests FILE [--compare STORED | --each ENTRY KIND]
+second digests FILE [--corpus NAME] [--compare STORED | --each ENTRY KIND]
 second bench [ENTRY]";
 
 fn main() -> ExitCode {
@@ -37,16 +38,13 @@ fn main() -> ExitCode {
                 _ => usage(),
             }
         }
-        ["digests", file] => digests(file, |explainer| {
-            print!("{}", digests::file(explainer)?);
-            Ok(ExitCode::SUCCESS)
-        }),
-        ["digests", file, "--compare", stored] => {
-            digests(file, |explainer| compare_digests(explainer, stored))
+        ["digests", file, "--corpus", name, ref asked @ ..] => {
+            match CORPORA.iter().find(|corpus| corpus.name == name) {
+                Some(corpus) => digests(file, corpus, asked),
+                None => usage(),
+            }
         }
-        ["digests", file, "--each", entry, kind] => {
-            digests(file, |explainer| each_digest(explainer, entry, kind))
-        }
+        ["digests", file, ref asked @ ..] => digests(file, &BASE, asked),
         ["bench"] => bench(""),
         ["bench", part] if bench::has(part) => bench(part),
         _ => usage(),
@@ -136,8 +134,24 @@ fn all_occurred(
     }
 }
 
+fn digests(file: &str, corpus: &Corpus, asked: &[&str]) -> ExitCode {
+    match asked {
+        [] => with_explainer(file, |explainer| {
+            print!("{}", digests::file(explainer, corpus)?);
+            Ok(ExitCode::SUCCESS)
+        }),
+        ["--compare", stored] => {
+            with_explainer(file, |explainer| compare_digests(explainer, corpus, stored))
+        }
+        ["--each", entry, kind] => {
+            with_explainer(file, |explainer| each_digest(explainer, corpus, entry, kind))
+        }
+        _ => usage(),
+    }
+}
+
 /// With all of the library and this program; whatever is missing is told and never passed over.
-fn digests(file: &str, work: impl Fn(&Explainer) -> Result<ExitCode, String>) -> ExitCode {
+fn with_explainer(file: &str, work: impl Fn(&Explainer) -> Result<ExitCode, String>) -> ExitCode {
     let place = std::env::temp_dir().join(format!("second-digests-{}", std::process::id()));
     let outcome = match Path::new(file).canonicalize() {
         Err(error) => Err(format!("{file}: {error}")),
@@ -149,10 +163,14 @@ fn digests(file: &str, work: impl Fn(&Explainer) -> Result<ExitCode, String>) ->
     })
 }
 
-fn compare_digests(explainer: &Explainer, stored: &str) -> Result<ExitCode, String> {
+fn compare_digests(
+    explainer: &Explainer,
+    corpus: &Corpus,
+    stored: &str,
+) -> Result<ExitCode, String> {
     let begin = Instant::now();
     let text = fs::read_to_string(stored).map_err(|error| format!("{stored}: {error}"))?;
-    let new = digests::file(explainer)?;
+    let new = digests::file(explainer, corpus)?;
     Ok(match digests::difference(&text, &new) {
         Some(told) => {
             println!("{told}\ndigests: not those of {stored}");
@@ -166,9 +184,13 @@ fn compare_digests(explainer: &Explainer, stored: &str) -> Result<ExitCode, Stri
     })
 }
 
-fn each_digest(explainer: &Explainer, entry: &str, name: &str) -> Result<ExitCode, String> {
-    let kind = corpus::kinds().find(|kind| (kind.entry, kind.name) == (entry, name));
-    let kind = kind.ok_or_else(|| format!("{entry} has no kind {name}"))?;
+fn each_digest(
+    explainer: &Explainer,
+    corpus: &Corpus,
+    entry: &str,
+    name: &str,
+) -> Result<ExitCode, String> {
+    let kind = corpus.kind(entry, name).ok_or_else(|| format!("{entry} has no kind {name}"))?;
     digests::each(explainer, &kind, |line| println!("{line}"))?;
     Ok(ExitCode::SUCCESS)
 }

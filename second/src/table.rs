@@ -6,7 +6,9 @@ use crate::reply::Refusal;
 pub const MAX_STATES: usize = 256;
 pub const MAX_LABELS: usize = 40;
 pub const MAX_TRANSITIONS: usize = 1_024;
-pub const MAX_NAME: usize = 12;
+/// Of the letters, digits and underscores of a name, without its mark.
+pub const MAX_STEM: usize = 12;
+pub const MAX_NAME: usize = MAX_STEM + 1;
 
 pub const SILENT: u8 = 0;
 /// 01: "In the base this prints as label 0."
@@ -14,6 +16,28 @@ pub const IDLE: u8 = SILENT;
 
 pub fn is_silent(label: u8) -> bool {
     label == SILENT
+}
+
+/// Which way a label goes, by the mark that its name ends in.
+#[derive(Clone, Copy, Debug, PartialEq, Eq)]
+pub enum Direction {
+    None,
+    /// Received, `?`.
+    In,
+    /// Sent, `!`.
+    Out,
+}
+
+pub const MARKS: [u8; 2] = *b"?!";
+
+impl Direction {
+    pub fn of(name: &[u8]) -> Direction {
+        match name.last() {
+            Some(b'?') => Direction::In,
+            Some(b'!') => Direction::Out,
+            _ => Direction::None,
+        }
+    }
 }
 
 /// Ordered as the lines of a table: by (from, label, to).
@@ -28,7 +52,7 @@ pub struct Step {
 pub struct Table {
     pub states: usize,
     pub start: u8,
-    /// The name of label 1 first.
+    /// The name of label 1 first, each with its mark.
     pub names: Vec<Vec<u8>>,
     pub transitions: Vec<Step>,
 }
@@ -111,6 +135,13 @@ impl Table {
         Some(index as u8 + 1)
     }
 
+    /// The labels whose names have this direction, in turn.
+    pub fn going(&self, direction: Direction) -> impl Iterator<Item = u8> {
+        let numbered = self.names.iter().zip(1..);
+        let going = numbered.filter(move |(name, _)| Direction::of(name) == direction);
+        going.map(|(_, label)| label)
+    }
+
     /// The steps that leave each state, idle steps included.
     pub fn steps(&self) -> Steps {
         let mut from = vec![Vec::new(); self.states];
@@ -141,12 +172,18 @@ impl Steps {
     }
 }
 
+/// A stem and, beyond it, one mark or none.
 pub fn is_name(bytes: &[u8]) -> bool {
-    bytes.len() <= MAX_NAME
-        && bytes.first().is_some_and(u8::is_ascii_lowercase)
-        && bytes.iter().all(|&byte| is_name_byte(byte))
+    let stem = match bytes {
+        [stem @ .., b'?' | b'!'] => stem,
+        _ => bytes,
+    };
+    stem.len() <= MAX_STEM
+        && stem.first().is_some_and(u8::is_ascii_lowercase)
+        && stem.iter().all(|&byte| is_name_byte(byte))
 }
 
+/// Of a name's stem.
 pub fn is_name_byte(byte: u8) -> bool {
     byte.is_ascii_lowercase() || byte.is_ascii_digit() || byte == b'_'
 }

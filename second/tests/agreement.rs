@@ -4,6 +4,7 @@ mod common;
 
 use common::all_words;
 use second::formula::{Class, Formula};
+use second::inputs::kinds::Kinds;
 use second::inputs::questions::{Question, question};
 use second::inputs::rng::Rng;
 use second::inputs::{formulas, tables};
@@ -16,10 +17,10 @@ use second::{prepared, verdict, word};
 fn small_question(index: u64) -> Question {
     let rng = &mut Rng::of_input(11, "small question", index);
     let (states, labels, transitions) = (rng.between(1, 4), rng.below(4), rng.below(9));
-    let table = tables::with_counts(rng, states, labels, transitions);
+    let table = tables::with_counts(rng, &mut Kinds::default(), states, labels, transitions);
     let nodes = rng.between(1, 7);
     let class = formulas::class(rng, nodes);
-    let formula = formulas::formula(rng, Some(class), nodes, labels);
+    let formula = formulas::formula(rng, Some(class), nodes, &table);
     Question { table, formula }
 }
 
@@ -143,7 +144,7 @@ fn a_table_is_read_from_its_text_and_its_bytes() {
     for index in 0..2_000 {
         let rng = &mut Rng::of_input(11, "table", index);
         let size = tables::size(rng, 20);
-        let table = tables::table(rng, size);
+        let table = tables::table(rng, &mut Kinds::default(), size);
         assert_eq!(Table::read(&table.text()), Ok(table.clone()));
         assert_eq!(prepared::table_of(&prepared::table_bytes(&table)), Some(table));
     }

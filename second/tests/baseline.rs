@@ -52,10 +52,24 @@ fn the_longest_listings_agree() {
 /// Every text of four telling bytes, after beginnings that lead into each part of the grammar.
 #[test]
 fn short_texts_agree_after_every_kind_of_beginning() {
-    let table = second::table::Table::read(b"     1     1     0     0\n     1 a\n");
+    let text = b"     1     3     0     0\n     1 a\n     2 a?\n     3 aa!\n";
+    let table = second::table::Table::read(text);
     let table = prepared::table_bytes(&table.expect("a table"));
-    let bytes = b"T~|()[];.*aEX U1";
-    for beginning in ["", "(T", "EX[", "EX[a", "EU[a|", "EU[*;(", "AX[.]", "T|EX[a]", "~(~"] {
+    let bytes = b"T~|()[];.*a?!EX U1";
+    let beginnings = [
+        "",
+        "(T",
+        "EX[",
+        "EX[a",
+        "EX[a?",
+        "EX[abcdefghijk",
+        "EU[a|",
+        "EU[*;(",
+        "AX[.]",
+        "T|EX[a]",
+        "~(~",
+    ];
+    for beginning in beginnings {
         for index in 0..bytes.len().pow(4) {
             let digit = |place: u32| bytes[index / bytes.len().pow(place) % bytes.len()];
             let text = [beginning.as_bytes(), &[0, 1, 2, 3].map(digit)].concat();

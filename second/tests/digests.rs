@@ -4,32 +4,30 @@
 use std::collections::BTreeSet;
 use std::path::PathBuf;
 
-use second::corpus::{Kind, kinds};
 use second::digests::answers::Explainer;
-use second::digests::{self, difference};
+use second::digests::{self, BASE, Corpus, MARKS, difference};
 use second::entries::{self, Entries, SECOND};
 use second::reply::Reply;
 
-const STORED: &str = include_str!("../corpus/base.txt");
-
-fn lines() -> Vec<&'static str> {
-    STORED.lines().filter(|line| !line.starts_with('#')).collect()
+/// Each corpus and its stored lines.
+fn stored() -> [(Corpus, Vec<&'static str>); 2] {
+    let lines = |file: &'static str| file.lines().filter(|line| !line.starts_with('#')).collect();
+    let base = lines(include_str!("../corpus/base.txt"));
+    let marks = lines(include_str!("../corpus/marks.txt"));
+    [(BASE, base), (MARKS, marks)]
 }
 
 fn explainer(entries: Entries) -> Explainer {
     Explainer { entries, program: PathBuf::new(), place: PathBuf::new() }
 }
 
-fn kind(entry: &str, name: &str) -> Kind {
-    kinds().find(|kind| (kind.entry, kind.name) == (entry, name)).expect("a kind")
-}
-
-/// The inputs of a kind to which two explainers' digests differ.
+/// The inputs of a kind of the corpus `base` to which two explainers' digests differ.
 fn differing(entries: Entries, entry: &str, name: &str) -> usize {
     let each = |entries| {
         let mut lines = Vec::new();
         let told = |line: String| lines.push(line[line.len() - 64..].to_owned());
-        digests::each(&explainer(entries), &kind(entry, name), told).expect("all entries");
+        let kind = BASE.kind(entry, name).expect("a kind");
+        digests::each(&explainer(entries), &kind, told).expect("all entries");
         lines
     };
     each(SECOND).iter().zip(each(entries)).filter(|(one, other)| *one != other).count()
@@ -37,45 +35,69 @@ fn differing(entries: Entries, entry: &str, name: &str) -> usize {
 
 #[test]
 fn the_inputs_are_those_of_the_stored_digests() {
-    assert_eq!(digests::inputs_line(), lines()[0]);
+    for (corpus, lines) in stored() {
+        assert_eq!(digests::inputs_line(&corpus), lines[0], "{}", corpus.name);
+    }
 }
 
 #[test]
 fn the_second_explainer_has_the_stored_digests() {
     let second = explainer(SECOND);
-    for kind in kinds().filter(|kind| kind.entry != "program") {
-        let line = digests::kind_line(&second, &kind, |_| ()).expect("all entries");
-        assert!(lines().contains(&line.as_str()), "{line}");
+    for (corpus, lines) in stored() {
+        for kind in corpus.kinds().into_iter().filter(|kind| kind.entry != "program") {
+            let line = digests::kind_line(&second, &kind, |_| ()).expect("all entries");
+            assert!(lines.contains(&line.as_str()), "{}: {line}", corpus.name);
+        }
     }
 }
 
 #[test]
 fn every_kind_has_a_stored_line_and_no_line_is_without_a_kind() {
     let words = |line: &str| line.split_whitespace().take(3).map(str::to_owned).collect();
-    let stored: Vec<Vec<String>> = lines()[1..].iter().map(|line| words(line)).collect();
-    let known =
-        kinds().map(|kind| vec![kind.entry.into(), kind.name.into(), kind.count.to_string()]);
-    assert_eq!(stored, known.collect::<Vec<Vec<String>>>());
+    for (corpus, lines) in stored() {
+        let stored: Vec<Vec<String>> = lines[1..].iter().map(|line| words(line)).collect();
+        let known = corpus.kinds().into_iter();
+        let known =
+            known.map(|kind| vec![kind.entry.into(), kind.name.into(), kind.count.to_string()]);
+        assert_eq!(stored, known.collect::<Vec<Vec<String>>>());
+    }
 }
 
 #[test]
 fn every_refusal_of_every_entry_is_among_the_answers() {
+    let [(_, base), (_, marks)] = stored();
+    all_are_among(
+        &base,
+        &[
+            ("read_table", &[0, 1, 2, 3, 4, 14]),
+            ("read_formula", &[0, 5, 6, 7, 8, 9, 10, 14]),
+            ("verdict", &[0, 10, 14]),
+            ("build", &[0, 10, 11, 12, 14]),
+            ("accepts", &[0, 10, 13, 14]),
+            ("program", &[0, 1, 2, 3, 4, 5, 6, 7, 8, 9, 11, 12]),
+        ],
+    );
+    all_are_among(
+        &marks,
+        &[
+            ("read_table", &[0, 1, 2, 3]),
+            ("read_formula", &[0, 6, 7, 10]),
+            ("verdict", &[0, 10]),
+            ("build", &[0, 10]),
+            ("accepts", &[0, 10]),
+            ("program", &[0, 1, 6, 7]),
+        ],
+    );
+}
+
+fn all_are_among(lines: &[&str], expected: &[(&str, &[u32])]) {
     let numbers = |entry: &str| -> BTreeSet<u32> {
-        let lines =
-            lines().into_iter().filter(|line| line.split_whitespace().next() == Some(entry));
+        let lines = lines.iter().filter(|line| line.split_whitespace().next() == Some(entry));
         let answers = lines.flat_map(|line| line.split_whitespace().skip(4));
         answers
             .map(|answer| answer.split(':').next().expect("a word").parse().expect("a number"))
             .collect()
     };
-    let expected: [(&str, &[u32]); 6] = [
-        ("read_table", &[0, 1, 2, 3, 4, 14]),
-        ("read_formula", &[0, 5, 6, 7, 8, 9, 10, 14]),
-        ("verdict", &[0, 10, 14]),
-        ("build", &[0, 10, 11, 12, 14]),
-        ("accepts", &[0, 10, 13, 14]),
-        ("program", &[0, 1, 2, 3, 4, 5, 6, 7, 8, 9, 11, 12]),
-    ];
     for (entry, expected) in expected {
         let missing = expected.iter().find(|number| !numbers(entry).contains(number));
         assert_eq!(missing, None, "{entry}");
@@ -163,14 +185,15 @@ fn a_layout_of_prepared_bytes_is_no_part_of_what_texts_show() {
 #[test]
 fn an_entry_or_a_program_that_is_missing_is_not_passed_over() {
     let none = explainer(Entries::default());
-    for kind in kinds() {
+    for kind in stored().iter().flat_map(|(corpus, _)| corpus.kinds()) {
         assert!(none.answer(&kind.input(0)).is_err(), "{} {}", kind.entry, kind.name);
     }
 }
 
 #[test]
 fn a_changed_missing_or_surplus_line_is_told() {
-    let (first, second) = (lines()[1], lines()[2]);
+    let [(_, base), _] = stored();
+    let (first, second) = (base[1], base[2]);
     let changed = first.replace("0:", "1:");
     let both = format!("# any comment\n{first}\n{second}\n");
     assert_eq!(difference(&both, &format!("{first}\n{second}\n")), None);

@@ -3,8 +3,9 @@
 use std::collections::BTreeMap;
 
 use second::formula::MAX_BYTES;
-use second::inputs::folders::{File, Files, WAYS, folder, largest_table};
+use second::inputs::folders::{File, Files, WAYS, folder};
 use second::inputs::rng::Rng;
+use second::inputs::tables::{longest_table, table_of_most};
 use second::print;
 
 /// Many folders of a kind.
@@ -121,15 +122,18 @@ fn formulas_of_a_megabyte_have_a_line_end_or_none() {
 }
 
 #[test]
-fn the_largest_table_has_20281_bytes() {
-    assert_eq!(largest_table(&mut Rng::new(1)).text().len(), 20_281);
-    assert!(tables("largest table").iter().all(|table| table.len() == 20_281));
+fn the_largest_table_has_20321_bytes_and_without_marks_20281() {
+    assert_eq!(25 + 40 * 21 + 1_024 * 19, 20_321);
+    assert_eq!(longest_table(&mut Rng::new(1)).text().len(), 20_321);
+    assert!(tables("largest table").iter().all(|table| table.len() == 20_321));
+    assert_eq!(table_of_most(&mut Rng::new(1)).text().len(), 20_281);
+    assert!(tables("largest table without marks").iter().all(|table| table.len() == 20_281));
 }
 
 #[test]
-fn long_tables_have_each_length_from_20281_to_20300_and_a_megabyte() {
-    let kind = "table of 20,281 to 20,300 bytes";
-    for length in 20_281..=20_300 {
+fn long_tables_have_each_length_from_20321_to_20340_and_a_megabyte() {
+    let kind = "table of 20,321 to 20,340 bytes";
+    for length in 20_321..=20_340 {
         assert!(tables(kind).iter().any(|table| table.len() == length), "{length}");
     }
     // The line after the largest table's last.
@@ -164,6 +168,15 @@ fn every_number_that_the_program_can_print_appears() {
         ("transition not above", "     4 "),
         ("formula of any text", "     6 "),
         ("name that the table lacks", "     7 "),
+        ("name unknown only by its mark", "     7 "),
+        ("operands of a direction", "     1     1"),
+        ("table: another mark", "     3 "),
+        ("table: a mark doubled", "     1 "),
+        ("table: thirteen letters before a mark", "     1 "),
+        ("formula: a mark doubled", "     6 "),
+        ("formula: a blank before a mark", "     6 "),
+        ("formula: thirteen letters before a mark", "     6 "),
+        ("formula: another mark", "     7 "),
         ("formula of about 40 nodes", "     8    41\n"),
         ("formula of about 40 nodes", "     8    42\n"),
         ("over 40 nodes", "     8    4"),

@@ -71,7 +71,7 @@ fn joined(texts: &[String], parts: &[String], length: usize) -> Vec<String> {
 impl Generated {
     fn operands_of(&self, length: usize) -> Vec<String> {
         let mut operands: Vec<String> = Vec::new();
-        for token in ["a", "a_", "*"] {
+        for token in ["a", "a_", "a?", "a!", "*", "?", "!"] {
             operands.extend(spaced(&[token], length));
         }
         for operand in &self.operands {
@@ -141,7 +141,7 @@ fn all_texts(longest: usize) -> Vec<String> {
     let mut texts = vec![String::new()];
     let mut extended = 0;
     while texts[extended].len() < longest {
-        for byte in "T~|()[];.*aEAXU _0\n".chars() {
+        for byte in "T~|()[];.*?!aEAXU _0\n".chars() {
             let longer = format!("{}{byte}", texts[extended]);
             texts.push(longer);
         }

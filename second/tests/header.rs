@@ -9,8 +9,8 @@ use std::fs;
 use common::header::{defines, functions, header, root};
 use second::entries::{EDGE_PLACE, ROW_PLACE};
 use second::formula::{MAX_BYTES, MAX_NODES};
-use second::inputs::folders::largest_table;
 use second::inputs::rng::Rng;
+use second::inputs::tables::longest_table;
 use second::interface::{Declared, INTERFACE};
 use second::prepared::{FORMULA_LENGTH, TABLE_LENGTH};
 use second::reply::{Refusal, Reply};
@@ -29,7 +29,7 @@ fn constants() -> Vec<(&'static str, usize)> {
         ("MOST_LABELS", MAX_LABELS),
         ("MOST_TRANSITIONS", MAX_TRANSITIONS),
         ("LONGEST_NAME", MAX_NAME),
-        ("LONGEST_TABLE_TEXT", largest_table(&mut Rng::new(1)).text().len()),
+        ("LONGEST_TABLE_TEXT", longest_table(&mut Rng::new(1)).text().len()),
         ("LONGEST_FORMULA_TEXT", MAX_BYTES),
         ("MOST_NODES", MAX_NODES),
         ("MOST_ROWS", (MAX_NODES + 1) * MAX_STATES),

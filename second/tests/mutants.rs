@@ -1,14 +1,19 @@
 //! Explainers that are wrong where few inputs look: in long words, in one byte of prepared bytes, at
-//! all limits together, in the figure of a rare refusal. The gate's inputs find each of them.
+//! all limits together, in the marks of names, in the figure of a rare refusal. The gate's inputs find
+//! each of them.
 
 use std::fs;
 use std::path::Path;
 use std::process::{ExitStatus, Output};
 
-use second::baseline::{BASELINE, accepts, build, read_formula, verdict};
+use second::baseline::{BASELINE, accepts, build, read_formula, read_table, verdict};
 use second::entries::{EDGE_PLACE, Entries, NONE, ROW_PLACE, SECOND};
-use second::prepared::{FORMULA_LENGTH, NODE_SLOT, TABLE_LENGTH, TRANSITION_SLOT, TRANSITIONS};
+use second::formula::MAX_BYTES;
+use second::prepared::{
+    self, FORMULA_LENGTH, NAME_SLOT, NAMES, NODE_SLOT, TABLE_LENGTH, TRANSITION_SLOT, TRANSITIONS,
+};
 use second::reply::Reply;
+use second::table::{MAX_STEM, is_name_byte};
 use second::{fuzz, print, program};
 
 /// As in .ci/second.
@@ -302,6 +307,388 @@ fn lengths_off_by_one_are_found() {
         accepts: Some(|of, node, word| accepts(of, &formula(node), word)),
         ..NONE
     }));
+}
+
+fn is_mark(byte: u8) -> bool {
+    matches!(byte, b'?' | b'!')
+}
+
+/// A name, or what is left of it without its mark.
+fn stem(name: &[u8]) -> &[u8] {
+    name.strip_suffix(b"?").or(name.strip_suffix(b"!")).unwrap_or(name)
+}
+
+/// The names of a prepared table.
+fn names(table: &[u8]) -> Vec<Vec<u8>> {
+    let read = table.get(..TABLE_LENGTH).and_then(prepared::table_of);
+    read.map(|table| table.names).unwrap_or_default()
+}
+
+fn is_operand(text: &[u8], at: usize) -> bool {
+    is_mark(text[at]) && (at == 0 || !is_name_byte(text[at - 1]))
+}
+
+/// A text that is accepted is read with each operand `?` and `!` spelled otherwise, unless it became
+/// too long.
+fn read_respelled(
+    table: &[u8],
+    text: &[u8],
+    formula: &mut [u8],
+    spelled: impl Fn(u8) -> Vec<u8>,
+) -> Reply {
+    let reply = read_formula(table, text, formula);
+    let spelled = |at: usize| match is_operand(text, at) {
+        true => spelled(text[at]),
+        false => vec![text[at]],
+    };
+    let other: Vec<u8> = (0..text.len()).flat_map(spelled).collect();
+    match reply.number == 0 && other.len() <= MAX_BYTES {
+        true => read_formula(table, &other, formula),
+        false => reply,
+    }
+}
+
+/// The labels of these that go the mark's way, as a set of one operand.
+fn listed(names: &[Vec<u8>], mark: u8, is_listed: fn(&[u8]) -> bool) -> Vec<u8> {
+    let going = |name: &&Vec<u8>| name.last() == Some(&mark) && is_listed(name);
+    let going: Vec<&[u8]> = names.iter().filter(going).map(Vec::as_slice).collect();
+    match going.is_empty() {
+        true => b"~*".to_vec(),
+        false => [b"(".as_slice(), &going.join(b"|".as_slice()), b")"].concat(),
+    }
+}
+
+fn length_of_name(text: &[u8]) -> usize {
+    let letters = text.iter().take_while(|&&byte| is_name_byte(byte)).count();
+    letters + usize::from(text.get(letters).is_some_and(|&byte| is_mark(byte)))
+}
+
+/// With each name that the table lacks become one of the same stem.
+fn with_marks_of_table(table: &[u8], mut text: Vec<u8>, formula: &mut [u8]) -> Reply {
+    loop {
+        let reply = read_formula(table, &text, formula);
+        let Reply { number: 7, figure } = reply else {
+            return reply;
+        };
+        let at = figure as usize;
+        let end = at + length_of_name(&text[at..]);
+        let alike = |name: &Vec<u8>| stem(name) == stem(&text[at..end]);
+        let Some(known) = names(table).into_iter().find(alike) else {
+            return reply;
+        };
+        text.splice(at..end, known);
+    }
+}
+
+/// With each mark that follows blanks moved to the name before them.
+fn with_marks_moved(table: &[u8], mut text: Vec<u8>, formula: &mut [u8]) -> Reply {
+    loop {
+        let reply = read_formula(table, &text, formula);
+        let at = reply.figure as usize;
+        let Some(mark) = text.get(at).copied().filter(|&byte| reply.number == 6 && is_mark(byte))
+        else {
+            return reply;
+        };
+        let blanks = text[..at].iter().rev().take_while(|&&byte| byte == b' ').count();
+        if blanks == 0 || at == blanks || !is_name_byte(text[at - blanks - 1]) {
+            return reply;
+        }
+        text.copy_within(at - blanks..at, at - blanks + 1);
+        text[at - blanks] = mark;
+    }
+}
+
+/// A line of a table's text, from 1, without its end.
+fn line(text: &[u8], number: u64) -> &[u8] {
+    text.split(|&byte| byte == b'\n').nth(number as usize - 1).unwrap_or_default()
+}
+
+#[test]
+fn faults_in_the_marks_of_tables_are_found() {
+    all_are_found(&[
+        (
+            "a name is used before by its stem",
+            Entries {
+                read_table: Some(|text, table| {
+                    let before = table.to_vec();
+                    let reply = read_table(text, table);
+                    let names = if reply.number == 0 { names(table) } else { Vec::new() };
+                    let used = |at: &usize| {
+                        names[..*at].iter().any(|name| stem(name) == stem(&names[*at]))
+                    };
+                    let Some(at) = (0..names.len()).find(used) else {
+                        return reply;
+                    };
+                    table.copy_from_slice(&before);
+                    Reply { number: 3, figure: at as u64 + 2 }
+                }),
+                ..NONE
+            },
+        ),
+        (
+            "thirteen letters are a name",
+            Entries {
+                read_table: Some(|text, table| match read_table(text, table) {
+                    Reply { number: 1, figure } => {
+                        let line = line(text, figure);
+                        let name = line.get(7..).unwrap_or_default();
+                        match name.len() == MAX_STEM + 1 && length_of_name(name) == name.len() {
+                            true => Reply::accepted(0),
+                            false => Reply { number: 1, figure },
+                        }
+                    }
+                    reply => reply,
+                }),
+                ..NONE
+            },
+        ),
+        (
+            "a mark may follow thirteen letters",
+            Entries {
+                read_table: Some(|text, table| match read_table(text, table) {
+                    Reply { number: 1, figure } => {
+                        let line = line(text, figure);
+                        let name = line.get(7..).unwrap_or_default();
+                        match name.len() == MAX_STEM + 2 && length_of_name(name) == name.len() {
+                            true => Reply::accepted(0),
+                            false => Reply { number: 1, figure },
+                        }
+                    }
+                    reply => reply,
+                }),
+                ..NONE
+            },
+        ),
+        (
+            "a mark may follow a blank",
+            Entries {
+                read_table: Some(|text, table| match read_table(text, table) {
+                    Reply { number: 1, figure } => {
+                        let line = line(text, figure);
+                        match line.ends_with(b" ?") || line.ends_with(b" !") {
+                            true => Reply::accepted(0),
+                            false => Reply { number: 1, figure },
+                        }
+                    }
+                    reply => reply,
+                }),
+                ..NONE
+            },
+        ),
+        (
+            "the mark of a name of thirteen bytes is not written",
+            Entries {
+                read_table: Some(|text, table| {
+                    let reply = read_table(text, table);
+                    if reply.number == 0 {
+                        let slots = table[NAMES..TRANSITIONS].chunks_mut(NAME_SLOT);
+                        slots.filter(|slot| slot[0] == 13).for_each(|slot| slot[13] = 0);
+                    }
+                    reply
+                }),
+                ..NONE
+            },
+        ),
+    ]);
+}
+
+/// The table's bytes with each name slot repaired.
+fn with_slots(table: &[u8], repair: fn(&mut [u8])) -> Vec<u8> {
+    let mut table = table.to_vec();
+    if table.len() >= TABLE_LENGTH {
+        table[NAMES..TRANSITIONS].chunks_mut(NAME_SLOT).for_each(repair);
+    }
+    table
+}
+
+#[test]
+fn faults_in_the_marks_of_prepared_tables_are_found() {
+    all_are_found(&[
+        (
+            "a prepared name of thirteen letters is taken",
+            Entries {
+                verdict: Some(|table, formula| {
+                    let table = with_slots(table, |slot| {
+                        if slot[0] == 13 && is_name_byte(slot[13]) {
+                            slot[13] = b'?';
+                        }
+                    });
+                    verdict(&table, formula)
+                }),
+                ..NONE
+            },
+        ),
+        (
+            "a prepared name of two marks is taken",
+            Entries {
+                verdict: Some(|table, formula| {
+                    let table = with_slots(table, |slot| {
+                        let length = slot[0] as usize;
+                        if (3..14).contains(&length)
+                            && slot[length - 1..=length].iter().all(|&byte| is_mark(byte))
+                        {
+                            slot[length - 1] = b'a';
+                        }
+                    });
+                    verdict(&table, formula)
+                }),
+                ..NONE
+            },
+        ),
+        (
+            "a mark behind a prepared name's length is passed over",
+            Entries {
+                verdict: Some(|table, formula| {
+                    let table = with_slots(table, |slot| {
+                        let length = slot[0] as usize;
+                        if (1..13).contains(&length) && is_mark(slot[length + 1]) {
+                            slot[length + 1] = 0;
+                        }
+                    });
+                    verdict(&table, formula)
+                }),
+                ..NONE
+            },
+        ),
+    ]);
+}
+
+#[test]
+fn faults_in_the_marks_of_formulas_are_found() {
+    all_are_found(&[
+        (
+            "names are compared without their marks",
+            Entries {
+                read_formula: Some(|table, text, formula| {
+                    with_marks_of_table(table, text.to_vec(), formula)
+                }),
+                ..NONE
+            },
+        ),
+        (
+            "`?` is taken for sent and `!` for received",
+            Entries {
+                read_formula: Some(|table, text, formula| {
+                    let other = |mark| vec![if mark == b'?' { b'!' } else { b'?' }];
+                    read_respelled(table, text, formula, other)
+                }),
+                ..NONE
+            },
+        ),
+        (
+            "a marked name has no direction",
+            Entries {
+                read_formula: Some(|table, text, formula| {
+                    read_respelled(table, text, formula, |_| b"~*".to_vec())
+                }),
+                ..NONE
+            },
+        ),
+        (
+            "a name of thirteen bytes has no direction",
+            Entries {
+                read_formula: Some(|table, text, formula| {
+                    let names = names(table);
+                    let shorter = |mark| listed(&names, mark, |name| name.len() <= MAX_STEM);
+                    read_respelled(table, text, formula, shorter)
+                }),
+                ..NONE
+            },
+        ),
+        (
+            "label 40 has no direction",
+            Entries {
+                read_formula: Some(|table, text, formula| {
+                    let names = names(table);
+                    let first = &names[..names.len().min(39)];
+                    let of_first = |mark| listed(first, mark, |_| true);
+                    read_respelled(table, text, formula, of_first)
+                }),
+                ..NONE
+            },
+        ),
+        (
+            "`?` admits label 0",
+            Entries {
+                read_formula: Some(|table, text, formula| {
+                    let reply = read_formula(table, text, formula);
+                    if reply.number == 0 && (0..text.len()).any(|at| is_operand(text, at)) {
+                        let nodes = formula[0].into();
+                        let slots = formula[1..].chunks_mut(NODE_SLOT).take(nodes);
+                        let sets = slots.filter(|slot| matches!(slot[0], 5 | 7 | 8 | 9));
+                        sets.for_each(|slot| slot[1] |= 1);
+                    }
+                    reply
+                }),
+                ..NONE
+            },
+        ),
+        (
+            "`?` admits unmarked labels",
+            Entries {
+                read_formula: Some(|table, text, formula| {
+                    let others = |mark| vec![b'~', if mark == b'?' { b'!' } else { b'?' }];
+                    read_respelled(table, text, formula, others)
+                }),
+                ..NONE
+            },
+        ),
+        (
+            "`~?` is all sent labels",
+            Entries {
+                read_formula: Some(|table, text, formula| {
+                    let mut text = text.to_vec();
+                    for at in 1..text.len() {
+                        if text[at - 1] == b'~' && text[at] == b'?' {
+                            text[at - 1..=at].copy_from_slice(b" !");
+                        }
+                    }
+                    read_formula(table, &text, formula)
+                }),
+                ..NONE
+            },
+        ),
+        (
+            "thirteen letters are a name",
+            Entries {
+                read_formula: Some(|table, text, formula| {
+                    let reply = read_formula(table, text, formula);
+                    let at = reply.figure as usize;
+                    let is_longer = reply.number == 6
+                        && at > MAX_STEM
+                        && text.get(at).is_some_and(|&byte| is_name_byte(byte))
+                        && text[at - MAX_STEM..at].iter().all(|&byte| is_name_byte(byte));
+                    Reply { figure: reply.figure + u64::from(is_longer), ..reply }
+                }),
+                ..NONE
+            },
+        ),
+        (
+            "a mark may follow a blank",
+            Entries {
+                read_formula: Some(|table, text, formula| {
+                    with_marks_moved(table, text.to_vec(), formula)
+                }),
+                ..NONE
+            },
+        ),
+        (
+            "a name may have two marks",
+            Entries {
+                read_formula: Some(|table, text, formula| {
+                    let reply = read_formula(table, text, formula);
+                    let at = reply.figure as usize;
+                    let is_second = reply.number == 6
+                        && text.get(at).is_some_and(|&byte| is_mark(byte))
+                        && at > 1
+                        && is_mark(text[at - 1])
+                        && is_name_byte(text[at - 2]);
+                    Reply { figure: reply.figure + u64::from(is_second), ..reply }
+                }),
+                ..NONE
+            },
+        ),
+    ]);
 }
 
 /// The program whose refusals print another figure, if one is given.

@@ -115,12 +115,16 @@ fn formulas_kept_only_in_part_are_found() {
 
 #[test]
 fn tables_kept_only_in_part_are_found() {
-    told_of_files("table-cut-at-20281", |mut table, formula| {
-        table.truncate(20_281);
+    told_of_files("table-cut-at-20321", |mut table, formula| {
+        table.truncate(20_321);
         print::explain_files(&table, &formula)
     });
-    told_of_files("table-cut-at-20280", |mut table, formula| {
-        table.truncate(20_280);
+    told_of_files("table-cut-at-20320", |mut table, formula| {
+        table.truncate(20_320);
+        print::explain_files(&table, &formula)
+    });
+    told_of_files("table-cut-at-20282", |mut table, formula| {
+        table.truncate(20_282);
         print::explain_files(&table, &formula)
     });
     told_of_files("line-end-added", |mut table, formula| {

@@ -64,6 +64,32 @@ fn the_changer_comes_to_wait_in_the_three_ways_that_the_documents_tell() {
 }
 
 #[test]
+fn the_sample_with_directions_is_the_changer_with_marks() {
+    let marked = read("samples/directions/table.txt");
+    assert_eq!(marked.replace(['?', '!'], ""), read("samples/changer/table.txt"));
+    let names = ["req?", "send!", "clamp", "ack?", "drop", "retry!", "done!"];
+    for (name, number) in names.into_iter().zip(1..) {
+        assert!(marked.contains(&format!("{number:>6} {name}\n")), "{name}");
+    }
+}
+
+/// Each way into the wait, from its last command on.
+#[test]
+fn after_some_command_the_changer_receives_nothing_and_comes_to_wait() {
+    let table = read("samples/directions/table.txt");
+    let formula = read("samples/directions/formula.txt");
+    assert_eq!(formula, "EU[*;!] EU[~?] EX[.] T\n");
+    let ways = question(&table, formula.trim_end());
+    assert_eq!((ways.verdict(), ways.class()), (1, 1));
+    for word in [vec![1, 2, 5, 0], vec![1, 2, 3, 5, 0], vec![1, 2, 5, 6, 5, 0]] {
+        assert!(ways.accepts(&word), "{word:?}");
+        assert!(!ways.accepts(&word[1..]), "{word:?}");
+        assert!(!ways.accepts(&word[..word.len() - 1]), "{word:?}");
+    }
+    assert!(listing("samples/directions").starts_with("     1     1    11    16\n"));
+}
+
+#[test]
 fn the_samples_have_table_m() {
     assert_eq!(read("samples/m/table.txt"), M);
     assert_eq!(read("samples/m/formula.txt"), "EU[*;ack] T\n");

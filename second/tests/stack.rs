@@ -10,10 +10,10 @@ use second::compare::{Accepts, Build, Case, Explain, Lent, ReadFormula, ReadTabl
 use second::entries::{EDGE_PLACE, ROW_PLACE};
 use second::formula::{Formula, MAX_BYTES};
 use second::fuzz;
-use second::inputs::folders::largest_table;
 use second::inputs::questions::Question;
 use second::inputs::questions::longest_listing;
 use second::inputs::rng::Rng;
+use second::inputs::tables::longest_table;
 use second::interface::INTERFACE;
 use second::link::library;
 use second::link::stack::{PAGE, Stack};
@@ -50,6 +50,8 @@ fn deep_texts() -> Vec<Vec<u8>> {
             "AX[req|(ack|~(*))] T",
             "EX[",
             "EX[nothere] T",
+            "EX[~(req!|?)] T",
+            "EU[?|!;~?] T",
             ")",
         ] {
             texts.push(unit.repeat((MAX_BYTES - end.len()) / unit.len()) + end);
@@ -60,7 +62,7 @@ fn deep_texts() -> Vec<Vec<u8>> {
     }
     for head in ["EX[", "AX[", "EU[", "EU[*;"] {
         for outside in [0, 64, 128, 256, 384, 448, 500] {
-            for unit in ["(", "~", "~(", "*|("] {
+            for unit in ["(", "~", "~(", "*|(", "?|(", "?|"] {
                 let begin = "(".repeat(outside) + head;
                 let inside = unit.repeat((MAX_BYTES - begin.len()) / unit.len());
                 texts.push(begin + &inside);
@@ -75,7 +77,7 @@ fn large_questions() -> Vec<Question> {
     let mut questions = vec![longest_listing(&mut Rng::new(3))];
     let sides = ["EX[*] T"; 13].join(" | ");
     for text in ["~".repeat(39) + "T", "EX[.]".repeat(39) + "T", sides] {
-        let table = largest_table(&mut Rng::new(4));
+        let table = longest_table(&mut Rng::new(4));
         let formula = Formula::read(&table, text.as_bytes()).expect("a formula");
         questions.push(Question { table, formula });
     }
@@ -105,7 +107,7 @@ fn calls(entry: &str) -> Vec<Call> {
     let mut calls: Vec<Call> = Vec::new();
     match entry {
         "read_table" => {
-            let text = largest_table(&mut Rng::new(5)).text();
+            let text = longest_table(&mut Rng::new(5)).text();
             calls.push(call(ReadTable { text, table: lent(TABLE_LENGTH) }));
             calls.extend(random(1).map(|mut rng| call(fuzz::read_table(&mut rng).case)));
         }

@@ -5,7 +5,9 @@ use crate::prepared::{
     FORMULA_LENGTH, NAME_SLOT, NAMES, NODE_SLOT, NODES, TABLE_LENGTH, TRANSITION_SLOT, TRANSITIONS,
 };
 use crate::reply::Refusal;
-use crate::table::{MAX_LABELS, MAX_NAME, MAX_STATES, MAX_TRANSITIONS, SILENT, is_name_byte};
+use crate::table::{
+    MAX_LABELS, MAX_NAME, MAX_STATES, MAX_STEM, MAX_TRANSITIONS, SILENT, is_name_byte,
+};
 
 pub struct Table<'a> {
     pub states: usize,
@@ -93,9 +95,13 @@ fn are_names(slots: &[[u8; NAME_SLOT]]) -> bool {
     slots.iter().enumerate().all(|(label, slot)| {
         let name = u128::from_le_bytes(*slot);
         let (length, bytes) = (slot[0] as usize, &slot[1..]);
-        let is_name = (1..=MAX_NAME).contains(&length)
+        if !(1..=MAX_NAME).contains(&length) {
+            return false;
+        }
+        let stem = length - usize::from(matches!(bytes[length - 1], b'?' | b'!'));
+        let is_name = stem <= MAX_STEM
             && bytes[0].is_ascii_lowercase()
-            && bytes[..length].iter().all(|&byte| is_name_byte(byte))
+            && bytes[..stem].iter().all(|&byte| is_name_byte(byte))
             && is_zero(&bytes[length..])
             && !known[..label].contains(&name);
         known[label] = name;

@@ -7,7 +7,7 @@ use super::prepared::{
 use crate::formula::{MAX_BYTES, MAX_NODES};
 use crate::prepared::{FORMULA_LENGTH, NAME_SLOT, NODE_SLOT, NODES};
 use crate::reply::{Refusal, Reply};
-use crate::table::{MAX_NAME, is_name_byte};
+use crate::table::{MAX_STEM, is_name_byte};
 
 pub fn read_formula(table: &[u8], text: &[u8], formula: &mut [u8]) -> Reply {
     let Some(table) = table.first_chunk() else {
@@ -32,8 +32,14 @@ fn read(table: &Table, text: &[u8]) -> Result<[u8; FORMULA_LENGTH], Refusal> {
     if text.len() > MAX_BYTES {
         return Err(Refusal::FormulaLength(text.len()));
     }
-    let mut parser =
-        Parser { table, text, at: 0, unknown: None, nodes: Vec::with_capacity(MAX_NODES) };
+    let mut parser = Parser {
+        table,
+        text,
+        at: 0,
+        unknown: None,
+        going: None,
+        nodes: Vec::with_capacity(MAX_NODES),
+    };
     let whole = parser.formula();
     if whole.is_none() || parser.at < text.len() {
         return Err(Refusal::Grammar(parser.at));
@@ -67,6 +73,8 @@ struct Parser<'a> {
     text: &'a [u8],
     at: usize,
     unknown: Option<usize>,
+    /// The received labels and the sent ones, from the first operand that asks for them.
+    going: Option<[u64; 2]>,
     nodes: Vec<Node>,
 }
 
@@ -214,13 +222,34 @@ impl Parser<'_> {
                 Some(set)
             }
             b'a'..=b'z' => Some(self.name()),
+            b'?' => {
+                self.at += 1;
+                Some(self.going()[0])
+            }
+            b'!' => {
+                self.at += 1;
+                Some(self.going()[1])
+            }
             _ => None,
         }
     }
 
+    fn going(&mut self) -> [u64; 2] {
+        *self.going.get_or_insert_with(|| {
+            let mut going = [0; 2];
+            for (slot, label) in self.table.names.iter().zip(1..) {
+                let last = slot[slot[0] as usize % NAME_SLOT];
+                going[0] |= u64::from(last == b'?') << label;
+                going[1] |= u64::from(last == b'!') << label;
+            }
+            going
+        })
+    }
+
     fn name(&mut self) -> u64 {
         let bytes = &self.text[self.at..];
-        let length = bytes.iter().take(MAX_NAME).take_while(|&&byte| is_name_byte(byte)).count();
+        let stem = bytes.iter().take(MAX_STEM).take_while(|&&byte| is_name_byte(byte)).count();
+        let length = stem + usize::from(matches!(bytes.get(stem), Some(b'?' | b'!')));
         let mut slot = [0; NAME_SLOT];
         slot[0] = length as u8;
         slot[1..=length].copy_from_slice(&bytes[..length]);

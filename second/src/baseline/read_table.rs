@@ -2,7 +2,7 @@
 
 use crate::prepared::{NAME_SLOT, NAMES, TABLE_LENGTH, TRANSITION_SLOT, TRANSITIONS};
 use crate::reply::{Refusal, Reply};
-use crate::table::{MAX_LABELS, MAX_NAME, MAX_STATES, MAX_TRANSITIONS, is_name_byte};
+use crate::table::{MAX_LABELS, MAX_STATES, MAX_STEM, MAX_TRANSITIONS, is_name_byte};
 
 pub fn read_table(text: &[u8], table: &mut [u8]) -> Reply {
     let Some(lent) = table.first_chunk_mut::<TABLE_LENGTH>() else {
@@ -69,7 +69,8 @@ impl Reader<'_> {
         self.line += 1;
         let (head, rest) = self.unread.split_first_chunk::<7>()?;
         let number = field(head.first_chunk()?)?;
-        let length = rest.iter().take(MAX_NAME).take_while(|&&byte| is_name_byte(byte)).count();
+        let stem = rest.iter().take(MAX_STEM).take_while(|&&byte| is_name_byte(byte)).count();
+        let length = stem + usize::from(matches!(rest.get(stem), Some(b'?' | b'!')));
         let starts = rest.first().is_some_and(u8::is_ascii_lowercase);
         if head[6] != b' ' || !starts || rest.get(length) != Some(&b'\n') {
             return None;

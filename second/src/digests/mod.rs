@@ -1,4 +1,4 @@
-//! Digests of every reply and every lent byte over the corpus, one line for each kind of input, and
+//! Digests of every reply and every lent byte over a corpus, one line for each kind of input, and
 //! their comparison with the stored ones.
 
 pub mod answers;
@@ -7,17 +7,50 @@ pub mod sha256;
 
 use std::collections::BTreeMap;
 
-use crate::corpus::{Input, Kind, kinds};
+use crate::corpus::{self, Input, Kind};
 use answers::Explainer;
 use inputs::Inputs;
 use sha256::{Sha256, hex};
 
-pub const HEADING: &str = "\
-# The corpus base (second/src/corpus) and what is answered to it, one line for each kind of input.
+/// Inputs of many kinds, whose digests stand in a file of the same name in `corpus/`.
+pub struct Corpus {
+    pub name: &'static str,
+    generator: &'static str,
+    kinds: fn() -> Vec<Kind>,
+}
+
+pub const BASE: Corpus =
+    Corpus { name: "base", generator: "second/src/corpus", kinds: || corpus::kinds().collect() };
+
+pub const MARKS: Corpus = Corpus {
+    name: "marks",
+    generator: "second/src/corpus/marks.rs",
+    kinds: || corpus::marks::kinds().collect(),
+};
+
+pub const CORPORA: [Corpus; 2] = [BASE, MARKS];
+
+impl Corpus {
+    pub fn kinds(&self) -> Vec<Kind> {
+        (self.kinds)()
+    }
+
+    pub fn kind(&self, entry: &str, name: &str) -> Option<Kind> {
+        self.kinds().into_iter().find(|kind| (kind.entry, kind.name) == (entry, name))
+    }
+
+    fn heading(&self) -> String {
+        let Corpus { name, generator, .. } = self;
+        format!(
+            "\
+# The corpus {name} ({generator}) and what is answered to it, one line for each kind of input.
 # Entry, kind, inputs, SHA-256 of their digests in turn, how often each number was answered.
 # An input's digest is over the reply, the count of edges and every lent byte after the call, or
 # over the program's outputs and exit code. The first line is over the inputs themselves.
-";
+"
+        )
+    }
+}
 
 fn line(entry: &str, kind: &str, count: u64, digest: [u8; 32], numbers: &str) -> String {
     let line = format!("{entry:<12}  {kind:<30}  {count:>6}  {}  {numbers}", hex(&digest));
@@ -58,20 +91,20 @@ pub fn each(
 }
 
 /// The whole file.
-pub fn file(explainer: &Explainer) -> Result<String, String> {
+pub fn file(explainer: &Explainer, corpus: &Corpus) -> Result<String, String> {
     let mut inputs = Inputs::default();
     let mut lines = Vec::new();
-    for kind in kinds() {
+    for kind in corpus.kinds() {
         inputs.begin(&kind);
         lines.push(kind_line(explainer, &kind, |input| inputs.add(input))?);
     }
-    Ok(format!("{HEADING}{}\n{}\n", inputs.line(), lines.join("\n")))
+    Ok(format!("{}{}\n{}\n", corpus.heading(), inputs.line(), lines.join("\n")))
 }
 
 /// The line of all inputs, whatever is answered to them: it changes only if the generator does.
-pub fn inputs_line() -> String {
+pub fn inputs_line(corpus: &Corpus) -> String {
     let mut inputs = Inputs::default();
-    for kind in kinds() {
+    for kind in corpus.kinds() {
         inputs.begin(&kind);
         kind.inputs().for_each(|input| inputs.add(&input));
     }

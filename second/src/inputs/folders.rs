@@ -2,12 +2,12 @@
 //! file can be.
 
 use super::edits::{self, Edit};
-use super::kinds::pick;
+use super::kinds::{Kinds, pick};
 use super::questions::{Question, question};
 use super::rng::Rng;
-use super::{formulas, tables};
+use super::{formulas, marks, tables};
 use crate::formula::{MAX_BYTES, MAX_NODES};
-use crate::table::{MAX_LABELS, MAX_NAME, MAX_STATES, MAX_TRANSITIONS, Step, Table};
+use crate::table::{MAX_STATES, MAX_TRANSITIONS, Step, Table};
 
 pub enum File {
     Holds(Vec<u8>),
@@ -43,7 +43,7 @@ const fn way(name: &'static str, numbers: &'static [u32], files: fn(&mut Rng) ->
     Way { name, numbers, files }
 }
 
-pub const WAYS: [Way; 46] = [
+pub const WAYS: [Way; 60] = [
     way("whole texts", &[0], |rng| whole(rng).files()),
     way("table of any text", &[0, 1], |rng| with_table(rng, any_table_text)),
     way("formula of any text", &[0, 6], |rng| over(rng, small_table).files()),
@@ -51,6 +51,43 @@ pub const WAYS: [Way; 46] = [
     way("name used twice", &[3], |rng| with_table(rng, tables::name_used_twice)),
     way("transition not above", &[4], |rng| with_table(rng, tables::not_above)),
     way("name that the table lacks", &[7], |rng| with_formula(rng, formulas::lacking_name)),
+    way("name unknown only by its mark", &[7], |rng| with_formula(rng, marks::unknown_by_mark)),
+    way("operands of a direction", &[0], |rng| {
+        with_formula(rng, |rng, table| {
+            let tokens = marks::directed_tokens(rng, table);
+            formulas::spaced(rng, &tokens)
+        })
+    }),
+    way("table: a mark doubled", &[1], |rng| {
+        with_table(rng, |rng, table| marks::in_table(rng, table, marks::double))
+    }),
+    way("table: a blank before a mark", &[1], |rng| {
+        with_table(rng, |rng, table| marks::in_table(rng, table, marks::separate))
+    }),
+    way("table: a mark alone", &[1], |rng| {
+        with_table(rng, |rng, table| marks::in_table(rng, table, marks::leave_alone))
+    }),
+    way("table: thirteen letters before a mark", &[1], |rng| {
+        with_table(rng, |rng, table| marks::in_table(rng, table, marks::lengthen))
+    }),
+    way("table: another mark", &[3], |rng| {
+        let table = tables::with_three_of_a_stem(rng);
+        Texts { table: marks::in_table(rng, &table, marks::exchange), ..whole(rng) }.files()
+    }),
+    way("table: a mark added", &[1], |rng| with_table(rng, marks::added_in_table)),
+    way("formula: a mark doubled", &[6], |rng| {
+        with_formula(rng, |rng, table| marks::in_formula(rng, table, marks::double))
+    }),
+    way("formula: a blank before a mark", &[6], |rng| {
+        with_formula(rng, |rng, table| marks::in_formula(rng, table, marks::separate))
+    }),
+    way("formula: thirteen letters before a mark", &[6], |rng| {
+        with_formula(rng, |rng, table| marks::in_formula(rng, table, marks::lengthen))
+    }),
+    way("formula: another mark", &[7], |rng| {
+        with_formula(rng, |rng, table| marks::in_formula(rng, table, marks::exchange))
+    }),
+    way("formula: a mark added", &[6, 7], |rng| with_formula(rng, marks::added_in_formula)),
     way("over 40 nodes", &[8], |rng| with_formula(rng, formulas::over_forty_nodes)),
     way("node without class", &[9], |rng| with_formula(rng, formulas::without_class)),
     way("formula of about 40 nodes", &[0, 8], |rng| {
@@ -95,9 +132,10 @@ pub const WAYS: [Way; 46] = [
         let length = (1 << 20) + rng.between(0, 2) - 1;
         long_formula(rng, length)
     }),
-    way("largest table", &[0], |rng| over(rng, largest_table).files()),
-    way("table of 20,281 to 20,300 bytes", &[1], |rng| {
-        let length = rng.between(20_281, 20_300);
+    way("largest table", &[0], |rng| over(rng, tables::longest_table).files()),
+    way("largest table without marks", &[0], |rng| over(rng, tables::table_of_most).files()),
+    way("table of 20,321 to 20,340 bytes", &[1], |rng| {
+        let length = rng.between(20_321, 20_340);
         long_table(rng, length)
     }),
     way("table of a megabyte", &[1], |rng| long_table(rng, 1 << 20)),
@@ -153,7 +191,7 @@ fn whole(rng: &mut Rng) -> Texts {
 }
 
 fn small_table(rng: &mut Rng) -> Table {
-    tables::table(rng, tables::Size::Small)
+    tables::table(rng, &mut Kinds::default(), tables::Size::Small)
 }
 
 /// A table and any text over it.
@@ -167,7 +205,7 @@ fn over(rng: &mut Rng, table: fn(&mut Rng) -> Table) -> Texts {
 /// A table's text made so of a small table or of the largest, beside a formula.
 fn with_table(rng: &mut Rng, text: fn(&mut Rng, &Table) -> Vec<u8>) -> Files {
     let table = match rng.one_in(4) {
-        true => largest_table(rng),
+        true => tables::longest_table(rng),
         false => small_table(rng),
     };
     Texts { table: text(rng, &table), ..whole(rng) }.files()
@@ -188,7 +226,7 @@ fn with_formula(rng: &mut Rng, text: fn(&mut Rng, &Table) -> Vec<u8>) -> Files {
 /// So many untils one in the other: about as many rows for each state, and about half the square
 /// of that edges for each transition.
 fn untils_over(rng: &mut Rng, untils: usize, states: usize, transitions: usize) -> Files {
-    let table = tables::with_counts(rng, states, 4, transitions);
+    let table = tables::with_counts(rng, &mut Kinds::default(), states, 4, transitions);
     let formula = ["EU[*] ".repeat(untils), "T\n".into()].concat().into_bytes();
     Texts { table: table.text(), formula }.files()
 }
@@ -222,19 +260,11 @@ fn long_formula(rng: &mut Rng, length: usize) -> Files {
     Texts { table, formula: text }.files()
 }
 
-/// As many states, labels, transitions and bytes of names as there may be: 20,281 bytes of text.
-pub fn largest_table(rng: &mut Rng) -> Table {
-    let mut table = tables::with_counts(rng, MAX_STATES, MAX_LABELS, MAX_TRANSITIONS);
-    let name = |label: usize| format!("{:x<1$}{label:02}", "l", MAX_NAME - 2).into_bytes();
-    table.names = (1..=MAX_LABELS).map(name).collect();
-    table
-}
-
 /// A table, sometimes cut, and bytes behind it up to so many.
 fn long_table(rng: &mut Rng, length: usize) -> Files {
     let mut texts = match rng.one_in(2) {
         true => whole(rng),
-        false => over(rng, largest_table),
+        false => over(rng, tables::longest_table),
     };
     let again = texts.table.clone();
     if rng.one_in(4) {

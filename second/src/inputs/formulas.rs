@@ -4,10 +4,10 @@
 use super::kinds::{Way, pick, way};
 use super::rng::Rng;
 use super::tables::name;
-use super::{damage, damage_an_end, random_bytes};
+use super::{damage, damage_an_end, marks, random_bytes};
 use crate::formula::{Class, Condition, Formula, MAX_BYTES, MAX_NODES, Node, Set};
 use crate::prepared::{FORMULA_LENGTH, NODE_SLOT, NODES};
-use crate::table::{MAX_NAME, Table};
+use crate::table::{Direction, MAX_STEM, Table};
 
 /// Mostly a few; sometimes the most there may be.
 pub fn node_count(rng: &mut Rng) -> usize {
@@ -26,24 +26,25 @@ pub fn class(rng: &mut Rng, nodes: usize) -> Class {
 }
 
 /// A formula of exactly so many nodes, of the class or, without one, of whatever form.
-pub fn formula(rng: &mut Rng, class: Option<Class>, nodes: usize, labels: usize) -> Formula {
-    let mut growth = Growth { rng, labels, nodes: Vec::with_capacity(nodes) };
+pub fn formula(rng: &mut Rng, class: Option<Class>, nodes: usize, table: &Table) -> Formula {
+    let mut growth = Growth { rng, sets: Sets::over(table), nodes: Vec::with_capacity(nodes) };
     growth.grow(class, nodes);
     Formula { nodes: growth.nodes }
 }
 
 /// Of so many nodes, three or more: an until as its root (class 1), or below a `~` (class 2).
-pub fn until(rng: &mut Rng, nodes: usize, labels: usize) -> Formula {
-    let mut growth = Growth { rng, labels, nodes: Vec::with_capacity(nodes) };
+pub fn until(rng: &mut Rng, nodes: usize, table: &Table) -> Formula {
+    let sets = Sets::over(table);
+    let mut growth = Growth { rng, sets, nodes: Vec::with_capacity(nodes) };
     let negations = growth.rng.pick(&[0, 0, 0, 1]);
     growth.nodes.extend((0..negations).map(|number| Node::Not(number + 1)));
     let root = growth.nodes.len();
     growth.nodes.push(Node::True);
     let set = match growth.rng.one_in(2) {
-        true => Set::all(labels),
-        false => set(growth.rng, labels),
+        true => sets.all(),
+        false => sets.any(growth.rng),
     };
-    let then = set_of_some(growth.rng, labels);
+    let then = sets.of_some(growth.rng);
     let arm = growth.grow(Some(Class::Witnesses), nodes - root - 1);
     growth.nodes[root] = match growth.rng.one_in(2) {
         true => Node::Until(set, arm),
@@ -54,7 +55,7 @@ pub fn until(rng: &mut Rng, nodes: usize, labels: usize) -> Formula {
 
 struct Growth<'a> {
     rng: &'a mut Rng,
-    labels: usize,
+    sets: Sets,
     nodes: Vec<Node>,
 }
 
@@ -78,7 +79,7 @@ impl Growth<'_> {
         let forms = if count > 2 { 12 } else { 6 };
         match self.rng.below(forms) {
             0 | 1 => Node::Next(self.condition(), self.grow(witnesses, count - 1)),
-            2 | 3 => Node::Until(set(self.rng, self.labels), self.grow(witnesses, count - 1)),
+            2 | 3 => Node::Until(self.sets.any(self.rng), self.grow(witnesses, count - 1)),
             4 | 5 => self.until_then(witnesses, count),
             6..9 => Node::Not(self.grow(Some(Class::Counterexamples), count - 1)),
             _ => self.or(witnesses, count),
@@ -102,14 +103,14 @@ impl Growth<'_> {
             0 => Node::Not(self.grow(None, count - 1)),
             1 => Node::Next(self.condition(), self.grow(None, count - 1)),
             2 => Node::AllNext(self.condition(), self.grow(None, count - 1)),
-            3 => Node::Until(set(self.rng, self.labels), self.grow(None, count - 1)),
+            3 => Node::Until(self.sets.any(self.rng), self.grow(None, count - 1)),
             4 => self.until_then(None, count),
             _ => self.or(None, count),
         }
     }
 
     fn until_then(&mut self, class: Option<Class>, count: usize) -> Node {
-        let (first, then) = (set(self.rng, self.labels), set(self.rng, self.labels));
+        let [first, then] = [(); 2].map(|()| self.sets.any(self.rng));
         Node::UntilThen(first, then, self.grow(class, count - 1))
     }
 
@@ -121,35 +122,65 @@ impl Growth<'_> {
     fn condition(&mut self) -> Condition {
         match self.rng.one_in(5) {
             true => Condition::Silent,
-            false => Condition::Among(set(self.rng, self.labels)),
+            false => Condition::Among(self.sets.any(self.rng)),
         }
     }
 }
 
-fn set(rng: &mut Rng, labels: usize) -> Set {
-    match rng.below(8) {
-        _ if labels == 0 => Set::EMPTY,
-        0 | 1 => Set::all(labels),
-        2 | 3 => some_label(rng, labels),
-        4 => some_label(rng, labels).complement(labels),
-        5 => Set(rng.draw() & Set::all(labels).0),
-        6 => some_label(rng, labels).union(some_label(rng, labels)),
-        _ => Set::EMPTY,
+/// The sets of a table's labels.
+#[derive(Clone, Copy)]
+struct Sets {
+    labels: usize,
+    /// The received labels and the sent ones.
+    going: [Set; 2],
+}
+
+impl Sets {
+    fn over(table: &Table) -> Sets {
+        let going = [Direction::In, Direction::Out].map(|going| Set::going(going, table));
+        Sets { labels: table.labels(), going }
+    }
+
+    fn all(self) -> Set {
+        Set::all(self.labels)
+    }
+
+    fn any(self, rng: &mut Rng) -> Set {
+        match rng.below(12) {
+            _ if self.labels == 0 => Set::EMPTY,
+            0..3 => self.all(),
+            3..6 => self.some_label(rng),
+            6 => self.some_label(rng).complement(self.labels),
+            7 => Set(rng.draw() & self.all().0),
+            8 => self.some_label(rng).union(self.some_label(rng)),
+            9 => self.directed(rng),
+            10 => match rng.one_in(2) {
+                true => self.directed(rng).complement(self.labels),
+                false => self.directed(rng).union(self.some_label(rng)),
+            },
+            _ => Set::EMPTY,
+        }
+    }
+
+    fn of_some(self, rng: &mut Rng) -> Set {
+        if self.labels == 0 { Set::EMPTY } else { self.some_label(rng).union(self.any(rng)) }
+    }
+
+    /// Often the first or the last.
+    fn some_label(self, rng: &mut Rng) -> Set {
+        let any = rng.between(1, self.labels);
+        Set::of(rng.pick(&[1, self.labels, any, any]) as u8)
+    }
+
+    /// All of one direction or of either.
+    fn directed(self, rng: &mut Rng) -> Set {
+        let [received, sent] = self.going;
+        rng.pick(&[received, received, sent, sent, received.union(sent)])
     }
 }
 
-fn set_of_some(rng: &mut Rng, labels: usize) -> Set {
-    if labels == 0 { Set::EMPTY } else { some_label(rng, labels).union(set(rng, labels)) }
-}
-
-/// Often the first or the last.
-fn some_label(rng: &mut Rng, labels: usize) -> Set {
-    let any = rng.between(1, labels);
-    Set::of(rng.pick(&[1, labels, any, any]) as u8)
-}
-
 /// Texts to read, of a formula over the table or near it.
-pub const TEXTS: [Way<Table, Vec<u8>>; 12] = [
+pub const TEXTS: [Way<Table, Vec<u8>>; 20] = [
     way("as written", 44, &[0, 5], |rng, table| {
         let tokens = some_tokens(rng, table);
         spaced(rng, &tokens)
@@ -176,6 +207,21 @@ pub const TEXTS: [Way<Table, Vec<u8>>; 12] = [
         text
     }),
     way("name that the table lacks", 6, &[7], lacking_name),
+    way("name unknown only by its mark", 3, &[7], marks::unknown_by_mark),
+    way("operands of a direction", 12, &[0], |rng, table| {
+        let tokens = marks::directed_tokens(rng, table);
+        spaced(rng, &tokens)
+    }),
+    way("a mark doubled", 2, &[6], |rng, table| marks::in_formula(rng, table, marks::double)),
+    way("a blank before a mark", 2, &[6], |rng, table| {
+        marks::in_formula(rng, table, marks::separate)
+    }),
+    way("thirteen letters before a mark", 2, &[6], |rng, table| {
+        marks::in_formula(rng, table, marks::lengthen)
+    }),
+    way("another mark", 2, &[7], |rng, table| marks::in_formula(rng, table, marks::exchange)),
+    way("a mark dropped", 2, &[7], |rng, table| marks::in_formula(rng, table, marks::remove)),
+    way("a mark added", 3, &[6, 7], marks::added_in_formula),
     way("over 40 nodes", 5, &[8], over_forty_nodes),
     way("node without class", 6, &[9], without_class),
     way("deep", 4, &[0, 6, 8], |rng, _| deep_text(rng)),
@@ -202,7 +248,15 @@ fn some_tokens(rng: &mut Rng, table: &Table) -> Vec<Vec<u8>> {
         true => None,
         false => Some(class(rng, nodes)),
     };
-    let formula = formula(rng, class, nodes, table.labels());
+    let formula = formula(rng, class, nodes, table);
+    tokens(rng, &formula, table)
+}
+
+/// Of a formula with a class and a few nodes.
+pub fn small_tokens(rng: &mut Rng, table: &Table) -> Vec<Vec<u8>> {
+    let nodes = rng.between(2, 9);
+    let class = class(rng, nodes);
+    let formula = formula(rng, Some(class), nodes, table);
     tokens(rng, &formula, table)
 }
 
@@ -217,7 +271,7 @@ fn faulty_tokens(rng: &mut Rng, table: &Table) -> Vec<Vec<u8>> {
 pub fn lacking_name(rng: &mut Rng, table: &Table) -> Vec<u8> {
     let nodes = rng.between(2, 12);
     let class = class(rng, nodes);
-    let formula = formula(rng, Some(class), nodes, table.labels());
+    let formula = formula(rng, Some(class), nodes, table);
     let mut tokens = tokens(rng, &formula, table);
     let names: Vec<usize> = (0..tokens.len()).filter(|&at| is_name(&tokens[at])).collect();
     let absent = absent_name(rng);
@@ -235,7 +289,7 @@ pub fn over_forty_nodes(rng: &mut Rng, table: &Table) -> Vec<u8> {
     for _ in 0..rng.below(4) {
         let nodes = rng.between(MAX_NODES + 1, MAX_NODES + 30);
         let class = rng.pick(&[None, Some(Class::Witnesses)]);
-        let formula = formula(rng, class, nodes, table.labels());
+        let formula = formula(rng, class, nodes, table);
         let text = tokens(rng, &formula, table).concat();
         if text.len() <= MAX_BYTES {
             return text;
@@ -252,7 +306,7 @@ pub fn without_class(rng: &mut Rng, table: &Table) -> Vec<u8> {
     loop {
         let most = rng.pick(&[4, 12, MAX_NODES]);
         let nodes = rng.between(3, most);
-        let formula = formula(rng, None, nodes, table.labels());
+        let formula = formula(rng, None, nodes, table);
         let text = tokens(rng, &formula, table).concat();
         if text.len() <= MAX_BYTES && formula.classes().contains(&None) {
             return text;
@@ -263,7 +317,8 @@ pub fn without_class(rng: &mut Rng, table: &Table) -> Vec<u8> {
 /// The tokens of some text of this formula.
 pub fn tokens(rng: &mut Rng, formula: &Formula, table: &Table) -> Vec<Vec<u8>> {
     let brackets = rng.pick(&[2, 8, 1_000]);
-    let mut writer = Writer { rng, formula, table, brackets, tokens: Vec::new() };
+    let sets = Sets::over(table);
+    let mut writer = Writer { rng, formula, table, sets, brackets, tokens: Vec::new() };
     writer.formula(0);
     writer.tokens
 }
@@ -272,6 +327,7 @@ struct Writer<'a> {
     rng: &'a mut Rng,
     formula: &'a Formula,
     table: &'a Table,
+    sets: Sets,
     /// One in so many terms stands in brackets that it does not need.
     brackets: usize,
     tokens: Vec<Vec<u8>>,
@@ -337,11 +393,32 @@ impl Writer<'_> {
             self.operand(set, turns - 1);
             self.put(b"|");
             self.operand(set, turns - 1);
+        } else if let Some((mark, rest)) = self.directed_part(set).filter(|_| turns > 0) {
+            match self.rng.one_in(2) {
+                true => {
+                    self.put(mark);
+                    self.put(b"|");
+                    self.operand(rest, turns - 1);
+                }
+                false => {
+                    self.operand(rest, turns - 1);
+                    self.put(b"|");
+                    self.put(mark);
+                }
+            }
         } else if set != Set::EMPTY && self.is_few(set) {
             self.names(set);
         } else {
             self.operand(set, turns);
         }
+    }
+
+    /// Sometimes, if all labels of some direction are among others: its operand, and the others.
+    fn directed_part(&mut self, set: Set) -> Option<(&'static [u8], Set)> {
+        let [received, sent] = self.sets.going;
+        let (mark, going): (&[u8], Set) = self.rng.pick(&[(b"?", received), (b"!", sent)]);
+        let is_part = going != Set::EMPTY && going != set && going.union(set) == set;
+        (is_part && self.rng.one_in(2)).then_some((mark, Set(set.0 & !going.0)))
     }
 
     fn operand(&mut self, set: Set, turns: usize) {
@@ -354,6 +431,10 @@ impl Writer<'_> {
         } else if turns > 0 && self.rng.one_in(6) {
             self.put(b"~");
             self.operand(complement, turns - 1);
+        } else if set == self.sets.going[0] && self.rng.one_in(2) {
+            self.put(b"?");
+        } else if set == self.sets.going[1] && self.rng.one_in(2) {
+            self.put(b"!");
         } else if complement == Set::EMPTY {
             self.put(b"*");
         } else if set.0.count_ones() == 1 {
@@ -388,8 +469,10 @@ impl Writer<'_> {
 
 /// Tokens lost, repeated, exchanged, or replaced, by a name that no table has among others.
 fn faulty_token(rng: &mut Rng, tokens: &mut Vec<Vec<u8>>) {
-    const MARKS: [&[u8]; 14] =
-        [b"T", b"~", b"|", b"EX", b"AX", b"EU", b"[", b"]", b"(", b")", b";", b".", b"*", b"E"];
+    const MARKS: [&[u8]; 16] = [
+        b"T", b"~", b"|", b"EX", b"AX", b"EU", b"[", b"]", b"(", b")", b";", b".", b"*", b"?",
+        b"!", b"E",
+    ];
     let at = rng.below(tokens.len() + 1);
     let names: Vec<usize> = (0..tokens.len()).filter(|&at| is_name(&tokens[at])).collect();
     match rng.below(8) {
@@ -398,20 +481,21 @@ fn faulty_token(rng: &mut Rng, tokens: &mut Vec<Vec<u8>>) {
         4 => tokens.insert(at, rng.pick(&MARKS).to_vec()),
         5 if at < tokens.len() => tokens[at] = rng.pick(&MARKS).to_vec(),
         6 if at + 1 < tokens.len() => tokens.swap(at, at + 1),
-        7 => tokens.insert(at, name(rng, MAX_NAME + 1)),
+        7 => tokens.insert(at, name(rng, MAX_STEM + 1)),
         _ => tokens.truncate(at),
     }
 }
 
-fn is_name(token: &[u8]) -> bool {
+pub fn is_name(token: &[u8]) -> bool {
     token[0].is_ascii_lowercase()
 }
 
-/// No name of a table begins so. Thirteen bytes are a fault of the grammar instead.
-fn absent_name(rng: &mut Rng) -> Vec<u8> {
+/// No name of a table begins so. Thirteen letters are a fault of the grammar instead.
+pub fn absent_name(rng: &mut Rng) -> Vec<u8> {
     let mut absent = b"q".to_vec();
-    let longest = rng.pick(&[1, 3, MAX_NAME - 1, MAX_NAME]);
+    let longest = rng.pick(&[1, 3, MAX_STEM - 1, MAX_STEM]);
     absent.extend(name(rng, longest));
+    absent.extend(rng.pick(&[None, None, Some(b'?'), Some(b'!')]));
     absent
 }
 
@@ -443,8 +527,8 @@ pub fn spaced(rng: &mut Rng, tokens: &[Vec<u8>]) -> Vec<u8> {
 fn deep_text(rng: &mut Rng) -> Vec<u8> {
     let depth = rng.pick(&[20, 39, 100, 250, 255, 256, 511]);
     let (before, inner, after) = match rng.below(4) {
-        0 => ("EX[", "*", "]T"),
-        1 => ("EU[*;", "*", "]T"),
+        0 => ("EX[", rng.pick(&["*", "?", "!"]), "]T"),
+        1 => ("EU[*;", rng.pick(&["*", "?", "!"]), "]T"),
         _ => ("", "T", ""),
     };
     let opening = rng.pick(&["(", "~", "(~", "~("]);

@@ -1,8 +1,8 @@
 //! Random questions: a table and a formula over its labels, of every size.
 
-use super::kinds::{Kinds, must};
+use super::kinds::{self, Kinds, must};
 use super::rng::Rng;
-use super::tables::Size;
+use super::tables::{NAMED, NAMES_OF, Size};
 use super::{formulas, tables};
 use crate::formula::{Formula, MAX_NODES, Node, Set};
 use crate::table::{MAX_LABELS, MAX_STATES, MAX_TRANSITIONS, Table};
@@ -16,14 +16,14 @@ pub struct Question {
 /// One in `rarity` has a table at the limits.
 pub fn question(rng: &mut Rng, rarity: usize) -> Question {
     let size = tables::size(rng, rarity);
-    of_size(rng, size)
+    of_size(rng, &mut Kinds::default(), size)
 }
 
-fn of_size(rng: &mut Rng, size: Size) -> Question {
-    let table = tables::table(rng, size);
+fn of_size(rng: &mut Rng, kinds: &mut Kinds, size: Size) -> Question {
+    let table = tables::table(rng, kinds, size);
     let nodes = formulas::node_count(rng);
     let class = formulas::class(rng, nodes);
-    let formula = formulas::formula(rng, Some(class), nodes, table.labels());
+    let formula = formulas::formula(rng, Some(class), nodes, &table);
     Question { table, formula }
 }
 
@@ -35,17 +35,18 @@ const LASTING: &str = "an until for long words";
 pub fn of_any_size(rng: &mut Rng, kinds: &mut Kinds, rarity: usize, largest_in: usize) -> Question {
     if rng.one_in(largest_in) {
         kinds.note(PART, LARGEST);
-        return largest(rng);
+        return largest(rng, kinds);
     }
     let size = tables::size(rng, rarity);
     kinds.note(PART, size.name());
-    of_size(rng, size)
+    of_size(rng, kinds, size)
 }
 
 /// All that `of_any_size` must have made.
 pub fn expected() -> Vec<Expected> {
-    let names = Size::NAMES.into_iter().chain([LARGEST]);
-    names.map(|name| must(PART, name, &[0])).collect()
+    let sizes = Size::NAMES.into_iter().chain([LARGEST]);
+    let sizes = sizes.map(|name| must(PART, name, &[0]));
+    sizes.chain(kinds::expected(NAMED, &NAMES_OF)).collect()
 }
 
 /// What `with_long_words` must have made.
@@ -54,15 +55,15 @@ pub fn expected_with_long_words() -> Expected {
 }
 
 /// The most states, transitions and nodes together, over few labels or the most.
-pub fn largest(rng: &mut Rng) -> Question {
+pub fn largest(rng: &mut Rng, kinds: &mut Kinds) -> Question {
     let labels = rng.pick(&[0, 1, 2, 3, MAX_LABELS, MAX_LABELS]);
-    let table = tables::with_counts(rng, MAX_STATES, labels, MAX_TRANSITIONS);
+    let table = tables::with_counts(rng, kinds, MAX_STATES, labels, MAX_TRANSITIONS);
     let formula = match rng.below(4) {
-        0 => formulas::until(rng, MAX_NODES, labels),
+        0 => formulas::until(rng, MAX_NODES, &table),
         1 => untils(Set::all(labels)),
         _ => {
             let class = formulas::class(rng, MAX_NODES);
-            formulas::formula(rng, Some(class), MAX_NODES, labels)
+            formulas::formula(rng, Some(class), MAX_NODES, &table)
         }
     };
     Question { table, formula }
@@ -70,7 +71,8 @@ pub fn largest(rng: &mut Rng) -> Question {
 
 /// About 10,000 rows and hundreds of thousands of edges: a chain of untils over all states.
 pub fn longest_listing(rng: &mut Rng) -> Question {
-    let table = tables::with_counts(rng, MAX_STATES, MAX_LABELS, MAX_TRANSITIONS);
+    let kinds = &mut Kinds::default();
+    let table = tables::with_counts(rng, kinds, MAX_STATES, MAX_LABELS, MAX_TRANSITIONS);
     Question { table, formula: untils(Set::all(MAX_LABELS)) }
 }
 
@@ -85,12 +87,12 @@ fn untils(set: Set) -> Formula {
 pub fn with_long_words(rng: &mut Rng, kinds: &mut Kinds, largest_in: usize) -> Question {
     if rng.one_in(largest_in) {
         kinds.note(PART, LARGEST);
-        return largest(rng);
+        return largest(rng, kinds);
     }
     kinds.note(PART, LASTING);
     let (states, labels) = (rng.between(1, 8), rng.below(5));
     let transitions = rng.between(states, 4 * states);
-    let table = tables::with_counts(rng, states, labels, transitions);
+    let table = tables::with_counts(rng, kinds, states, labels, transitions);
     let nodes = rng.between(3, 9);
-    Question { formula: formulas::until(rng, nodes, labels), table }
+    Question { formula: formulas::until(rng, nodes, &table), table }
 }

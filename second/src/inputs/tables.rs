@@ -1,13 +1,15 @@
 //! Random state tables, their texts with all the faults that 1 to 4 refuse, and prepared tables.
+//! What is wrong with a name's mark is in `marks`.
 
 use std::collections::BTreeSet;
 
-use super::kinds::{Way, way};
+use super::kinds::{Kinds, Way, way};
+use super::marks;
 use super::rng::Rng;
 use super::{damage, damage_an_end, random_bytes};
 use crate::columns;
 use crate::prepared::{NAME_SLOT, NAMES, TABLE_LENGTH, TRANSITION_SLOT, TRANSITIONS};
-use crate::table::{MAX_LABELS, MAX_NAME, MAX_STATES, MAX_TRANSITIONS, Step, Table};
+use crate::table::{MARKS, MAX_LABELS, MAX_STATES, MAX_STEM, MAX_TRANSITIONS, Step, Table};
 
 #[derive(Clone, Copy, PartialEq, Eq)]
 pub enum Size {
@@ -36,23 +38,23 @@ pub fn size(rng: &mut Rng, rarity: usize) -> Size {
     }
 }
 
-pub fn table(rng: &mut Rng, size: Size) -> Table {
+pub fn table(rng: &mut Rng, kinds: &mut Kinds, size: Size) -> Table {
     let (states, labels, transitions) = match size {
         Size::Small => (rng.between(1, 6), rng.below(5), rng.below(13)),
         Size::Medium => (rng.between(1, 40), rng.below(13), rng.below(121)),
-        Size::Cornered => return cornered(rng),
-        Size::Limit if rng.one_in(3) => return drawn_out(rng),
+        Size::Cornered => return cornered(rng, kinds),
+        Size::Limit if rng.one_in(3) => return drawn_out(rng, kinds),
         Size::Limit => (
             rng.pick(&[1, 255, MAX_STATES, MAX_STATES, MAX_STATES]),
             rng.pick(&[0, 1, MAX_LABELS - 1, MAX_LABELS, MAX_LABELS]),
             rng.pick(&[0, 300, MAX_TRANSITIONS - 1, MAX_TRANSITIONS, MAX_TRANSITIONS]),
         ),
     };
-    with_counts(rng, states, labels, transitions)
+    with_counts(rng, kinds, states, labels, transitions)
 }
 
 /// Transitions among the lowest and highest states, by the lowest and highest labels only.
-fn cornered(rng: &mut Rng) -> Table {
+fn cornered(rng: &mut Rng, kinds: &mut Kinds) -> Table {
     const STATES: [u8; 4] = [0, 1, 254, 255];
     const LABELS: [u8; 4] = [0, 1, 39, 40];
     let steps = rng.between(1, 20);
@@ -62,13 +64,13 @@ fn cornered(rng: &mut Rng) -> Table {
     Table {
         states: MAX_STATES,
         start: rng.pick(&STATES),
-        names: names(rng, MAX_LABELS),
+        names: names(rng, kinds, MAX_LABELS),
         transitions: steps.into_iter().collect(),
     }
 }
 
 /// The most states in one line or ring, with a few steps aside.
-fn drawn_out(rng: &mut Rng) -> Table {
+fn drawn_out(rng: &mut Rng, kinds: &mut Kinds) -> Table {
     let labels = rng.pick(&[0, 1, 2, MAX_LABELS]);
     let label = |rng: &mut Rng| rng.below(labels + 1) as u8;
     let mut steps = BTreeSet::new();
@@ -82,13 +84,19 @@ fn drawn_out(rng: &mut Rng) -> Table {
     Table {
         states: MAX_STATES,
         start: rng.pick(&[0, 0, 128, u8::MAX]),
-        names: names(rng, labels),
+        names: names(rng, kinds, labels),
         transitions: steps.into_iter().collect(),
     }
 }
 
 /// As many transitions as so many states and labels allow.
-pub fn with_counts(rng: &mut Rng, states: usize, labels: usize, transitions: usize) -> Table {
+pub fn with_counts(
+    rng: &mut Rng,
+    kinds: &mut Kinds,
+    states: usize,
+    labels: usize,
+    transitions: usize,
+) -> Table {
     let possible = states * states * (labels + 1);
     let wanted = transitions.min(possible - possible / 4);
     let mut steps = BTreeSet::new();
@@ -102,17 +110,93 @@ pub fn with_counts(rng: &mut Rng, states: usize, labels: usize, transitions: usi
     Table {
         states,
         start: rng.below(states) as u8,
-        names: names(rng, labels),
+        names: names(rng, kinds, labels),
         transitions: steps.into_iter().collect(),
     }
 }
 
-fn names(rng: &mut Rng, labels: usize) -> Vec<Vec<u8>> {
-    // Two bytes are too few for 40 names of these letters.
-    let longest = rng.pick(&[3, 4, MAX_NAME, MAX_NAME]);
-    let mut names: Vec<Vec<u8>> = Vec::with_capacity(labels);
-    while names.len() < labels {
-        let name = name(rng, longest);
+pub const NAMED: &str = "names";
+
+/// The names of so many labels. The last way needs three.
+pub const NAMES_OF: [Way<usize, Vec<Vec<u8>>>; 6] = [
+    way("without marks", 4, &[0], |rng, &labels| {
+        let longest = longest(rng);
+        different(rng, labels, |rng| name(rng, longest))
+    }),
+    way("with marks and without", 4, &[0], |rng, &labels| {
+        let longest = longest(rng);
+        different(rng, labels, |rng| {
+            let end = rng.pick(&[b"".as_slice(), b"?", b"!"]);
+            [&name(rng, longest), end].concat()
+        })
+    }),
+    way("all received", 1, &[0], |rng, &labels| {
+        let longest = longest(rng);
+        different(rng, labels, |rng| marked(name(rng, longest), b'?'))
+    }),
+    way("all sent", 1, &[0], |rng, &labels| {
+        let longest = longest(rng);
+        different(rng, labels, |rng| marked(name(rng, longest), b'!'))
+    }),
+    way("of twelve letters and a mark", 2, &[0], |rng, &labels| {
+        different(rng, labels, |rng| {
+            let stem = loop {
+                let stem = name(rng, MAX_STEM);
+                if stem.len() == MAX_STEM {
+                    break stem;
+                }
+            };
+            marked(stem, rng.pick(&MARKS))
+        })
+    }),
+    way("three of each stem", 3, &[0], |rng, &labels| {
+        let longest = longest(rng);
+        let stems = different(rng, labels.div_ceil(3), |rng| name(rng, longest));
+        let three = |stem: &Vec<u8>| {
+            let [received, sent] = MARKS.map(|mark| marked(stem.clone(), mark));
+            [stem.clone(), received, sent]
+        };
+        let mut names: Vec<Vec<u8>> = stems.iter().flat_map(three).collect();
+        names.truncate(labels);
+        for label in (1..labels).rev() {
+            names.swap(label, rng.below(label + 1));
+        }
+        names
+    }),
+];
+
+/// A small table with all three names of some stem.
+pub fn with_three_of_a_stem(rng: &mut Rng) -> Table {
+    let labels = rng.between(3, 6);
+    let mut table = with_counts(rng, &mut Kinds::default(), 4, labels, 9);
+    let [.., three] = &NAMES_OF;
+    table.names = (three.make)(rng, &labels);
+    table
+}
+
+/// In one of these ways, if there are any.
+fn names(rng: &mut Rng, kinds: &mut Kinds, labels: usize) -> Vec<Vec<u8>> {
+    match labels {
+        0 => Vec::new(),
+        1 | 2 => kinds.make(rng, NAMED, &NAMES_OF[..NAMES_OF.len() - 1], &labels),
+        _ => kinds.make(rng, NAMED, &NAMES_OF, &labels),
+    }
+}
+
+/// Two bytes are too few for 40 names of these letters.
+fn longest(rng: &mut Rng) -> usize {
+    rng.pick(&[3, 4, MAX_STEM, MAX_STEM])
+}
+
+pub fn marked(mut stem: Vec<u8>, mark: u8) -> Vec<u8> {
+    stem.push(mark);
+    stem
+}
+
+fn different(rng: &mut Rng, count: usize, name: impl Fn(&mut Rng) -> Vec<u8>) -> Vec<Vec<u8>> {
+    let mut names: Vec<Vec<u8>> = Vec::with_capacity(count);
+    while names.len() < count {
+        let name = name(rng);
         if !names.contains(&name) {
             names.push(name);
         }
@@ -120,7 +204,7 @@ fn names(rng: &mut Rng, labels: usize) -> Vec<Vec<u8>> {
     names
 }
 
-/// Mostly from few letters, so that names often begin alike. None begins with `q`.
+/// A stem, mostly from few letters, so that names often begin alike. None begins with `q`.
 pub fn name(rng: &mut Rng, longest: usize) -> Vec<u8> {
     let length = match rng.one_in(4) {
         true => longest,
@@ -138,7 +222,7 @@ pub fn name(rng: &mut Rng, longest: usize) -> Vec<u8> {
 }
 
 /// Texts to read, of a table or near it.
-pub const TEXTS: [Way<Table, Vec<u8>>; 10] = [
+pub const TEXTS: [Way<Table, Vec<u8>>; 18] = [
     way("as written", 32, &[0], |_, table| table.text()),
     way("bytes damaged", 30, &[1], |rng, table| {
         let mut text = table.text();
@@ -162,7 +246,41 @@ pub const TEXTS: [Way<Table, Vec<u8>>; 10] = [
     }),
     way("empty", 3, &[1], |_, _| Vec::new()),
     way("far longer", 3, &[1], far_longer),
+    way("longest", 1, &[0], |rng, _| longest_table(rng).text()),
+    way("a mark doubled", 2, &[1], |rng, table| marks::in_table(rng, table, marks::double)),
+    way("a blank before a mark", 2, &[1], |rng, table| {
+        marks::in_table(rng, table, marks::separate)
+    }),
+    way("a mark alone", 1, &[1], |rng, table| marks::in_table(rng, table, marks::leave_alone)),
+    way("thirteen letters before a mark", 2, &[1], |rng, table| {
+        marks::in_table(rng, table, marks::lengthen)
+    }),
+    way("another mark", 3, &[0, 3], |rng, table| marks::in_table(rng, table, marks::exchange)),
+    way("a mark dropped", 3, &[0, 3], |rng, table| marks::in_table(rng, table, marks::remove)),
+    way("a mark added", 3, &[0, 1, 3], marks::added_in_table),
 ];
+
+/// As many states, labels, transitions and bytes of names as there may be: 20,321 bytes of text.
+pub fn longest_table(rng: &mut Rng) -> Table {
+    let mut table = table_of_most(rng);
+    for name in &mut table.names {
+        name.push(rng.pick(&MARKS));
+    }
+    table
+}
+
+/// The same without marks: 20,281 bytes of text.
+pub fn table_of_most(rng: &mut Rng) -> Table {
+    let kinds = &mut Kinds::default();
+    let mut table = with_counts(rng, kinds, MAX_STATES, MAX_LABELS, MAX_TRANSITIONS);
+    table.names = (1..=MAX_LABELS).map(longest_stem).collect();
+    table
+}
+
+/// Of twelve letters, another one for each label.
+pub fn longest_stem(label: usize) -> Vec<u8> {
+    format!("{:x<1$}{label:02}", "l", MAX_STEM - 2).into_bytes()
+}
 
 fn far_longer(rng: &mut Rng, table: &Table) -> Vec<u8> {
     let length = match rng.one_in(100) {
@@ -216,7 +334,7 @@ pub fn out_of_range(rng: &mut Rng, table: &Table) -> Vec<u8> {
 
 pub fn name_used_twice(rng: &mut Rng, table: &Table) -> Vec<u8> {
     let mut table = match table.labels() {
-        0 | 1 => with_counts(rng, 4, 5, 9),
+        0 | 1 => with_counts(rng, &mut Kinds::default(), 4, 5, 9),
         _ => table.clone(),
     };
     let label = rng.between(1, table.labels() - 1);
@@ -227,7 +345,7 @@ pub fn name_used_twice(rng: &mut Rng, table: &Table) -> Vec<u8> {
 /// Two transitions exchanged, or one that stands twice.
 pub fn not_above(rng: &mut Rng, table: &Table) -> Vec<u8> {
     let mut table = match table.transitions.len() {
-        0 | 1 => with_counts(rng, 4, 2, 9),
+        0 | 1 => with_counts(rng, &mut Kinds::default(), 4, 2, 9),
         _ => table.clone(),
     };
     let at = rng.between(1, table.transitions.len() - 1);
@@ -293,7 +411,7 @@ fn set_name(rng: &mut Rng, table: &Table, lines: &mut [Vec<u8>]) {
         return;
     };
     let new = match rng.below(12) {
-        0 => name(rng, MAX_NAME + 1),
+        0 => name(rng, MAX_STEM + 1),
         1 => Vec::new(),
         2 => b"0a".to_vec(),
         3 => b"aB".to_vec(),
@@ -325,11 +443,12 @@ fn set_layout(rng: &mut Rng, line: &mut Vec<u8>) {
 /// Some bytes changed, mostly into such as no reading leaves.
 pub fn damage_prepared(rng: &mut Rng, table: &Table, bytes: &mut [u8]) {
     for _ in 0..rng.between(1, 2) {
-        match rng.below(6) {
+        match rng.below(8) {
             0 => bytes[rng.below(NAMES)] = rng.pick(&[0, 1, 2, 4, 5, 39, 40, 41, 255]),
             1 => bytes[rng.below(TABLE_LENGTH)] = rng.below(256) as u8,
             2 => damage_names(rng, table, bytes),
             3 | 4 => damage_transitions(rng, table, bytes),
+            5 | 6 if table.labels() > 0 => damage_mark(rng, table, bytes),
             _ => {
                 let count = rng.below(NAMES);
                 bytes[count] = (bytes[count]).wrapping_add(rng.pick(&[1, 255]));
@@ -347,6 +466,25 @@ fn damage_names(rng: &mut Rng, table: &Table, bytes: &mut [u8]) {
         0 => bytes.copy_within(other..other + NAME_SLOT, slot),
         1 => bytes[slot] = rng.pick(&[0, 1, 2, 11, 12, 13, 14, 15, 16, 255]),
         _ => bytes[slot + rng.below(NAME_SLOT)] = rng.pick(super::TELLING),
+    }
+}
+
+/// One more mark behind a name, counted or not; thirteen letters; a mark within.
+fn damage_mark(rng: &mut Rng, table: &Table, bytes: &mut [u8]) {
+    let label = rng.below(table.labels());
+    let length = table.names[label].len();
+    let slot = &mut bytes[NAMES + label * NAME_SLOT..][..NAME_SLOT];
+    match rng.below(4) {
+        0 => {
+            slot[0] = length as u8 + 1;
+            slot[length + 1] = rng.pick(&MARKS);
+        }
+        1 => slot[length + 1] = rng.pick(&MARKS),
+        2 => {
+            slot[0] = MAX_STEM as u8 + 1;
+            slot[length..=MAX_STEM + 1].fill(rng.pick(b"az0_"));
+        }
+        _ => slot[rng.between(1, length)] = rng.pick(&MARKS),
     }
 }
 
