@@ -20,6 +20,12 @@ fn listing(sample: &str) -> String {
     String::from_utf8(explain_folder(&root().join(sample))).expect("ASCII")
 }
 
+/// Whether a listing has a line with these numbers.
+fn has_line(listing: &str, numbers: &str) -> bool {
+    let columns: String = numbers.split(' ').map(|number| format!("{number:>6}")).collect();
+    listing.lines().any(|line| line == columns)
+}
+
 /// The texts that stand in four columns, without these.
 fn shown(document: &str) -> Vec<String> {
     let mut blocks = vec![String::new()];
@@ -38,7 +44,8 @@ fn the_example_shows_the_changer_and_its_listing_byte_for_byte() {
     let shown = shown(&read("docs/EXAMPLE.md"));
     let table = read("samples/changer/table.txt");
     let formula = read("samples/changer/formula.txt");
-    assert_eq!(shown, [table, formula, listing("samples/changer")]);
+    let directions = read("samples/directions/formula.txt");
+    assert_eq!(shown, [table, formula, listing("samples/changer"), directions]);
 }
 
 #[test]
@@ -57,9 +64,8 @@ fn the_changer_comes_to_wait_in_the_three_ways_that_the_documents_tell() {
         assert!(question.accepts(&[into_the_wait.as_slice(), &[0]].concat()), "{way}");
     }
     for edge in ["2 5 5", "3 5 5", "2 5 4", "4 6 2", "5 0 7"] {
-        let columns: String = edge.split(' ').map(|number| format!("{number:>6}")).collect();
         assert!(example.contains(&format!("`{edge}`")), "{edge}");
-        assert!(listing("samples/changer").lines().any(|line| line == columns), "{edge}");
+        assert!(has_line(&listing("samples/changer"), edge), "{edge}");
     }
 }
 
@@ -71,6 +77,19 @@ fn the_sample_with_directions_is_the_changer_with_marks() {
     for (name, number) in names.into_iter().zip(1..) {
         assert!(marked.contains(&format!("{number:>6} {name}\n")), "{name}");
     }
+}
+
+#[test]
+fn the_listing_with_directions_is_as_the_example_tells() {
+    let (example, listing) = (read("docs/EXAMPLE.md"), listing("samples/directions"));
+    assert!(listing.starts_with("     1     1    11    16\n"));
+    assert!(example.contains("with 11 rows and 16 edges"));
+    for edge in ["1 2 2", "1 2 3"] {
+        assert!(example.contains(&format!("`{edge}`")), "{edge}");
+        assert!(has_line(&listing, edge), "{edge}");
+    }
+    let sent_done = |line: &&str| line.len() == 18 && &line[6..12] == "     7";
+    assert_eq!(listing.lines().filter(sent_done).count(), 1);
 }
 
 /// Each way into the wait, from its last command on.
@@ -86,7 +105,6 @@ fn after_some_command_the_changer_receives_nothing_and_comes_to_wait() {
         assert!(!ways.accepts(&word[1..]), "{word:?}");
         assert!(!ways.accepts(&word[..word.len() - 1]), "{word:?}");
     }
-    assert!(listing("samples/directions").starts_with("     1     1    11    16\n"));
 }
 
 #[test]

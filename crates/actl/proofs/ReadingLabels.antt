@@ -11,7 +11,8 @@ use lib.Pow.{shl-exact}
 use lib.Seq.{take-at}
 use Rattle.actl.specs.Sizes.{mostNodes}
 use Rattle.columns.specs.Bytes.{sameBytes}
-use Rattle.lts.specs.Names.{Direction, labelDirection, findFrom, lookup}
+use Rattle.lts.specs.Names.{findFrom, lookup}
+use Rattle.lts.specs.Directions.{Direction, labelDirection}
 use Rattle.actl.specs.Actions.{Action, maskOf}
 use Rattle.actl.specs.Grammar.{Disjunction, name, showF}
 use Rattle.actl.specs.Meaning.{labelNumber, labelsOf}

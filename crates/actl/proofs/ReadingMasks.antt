@@ -8,7 +8,7 @@ use native.Mathlib.Decide.{decLe}
 use native.Mathlib.Omega.{arith}
 use borrow.Author.Tests.{eq-eqb, ne-eqb}
 use lib.Bits.{bitOr, or-block}
-use Rattle.lts.specs.Names.{Direction}
+use Rattle.lts.specs.Directions.{Direction}
 use Rattle.actl.specs.Actions.{Action, satisfies, maskOf}
 
 abbrev bit : Bool → ℕ

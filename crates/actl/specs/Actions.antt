@@ -3,7 +3,7 @@ use mathlib.Core.Bool.{Bool, true, false, cond, not as negate, _&&_, _||_}
 use Prim.Native.Nat.{ℕ, zero, suc, _+_, _/_, _%_, _^_}
 use lib.Dec.{eqb}
 use Rattle.lts.specs.Steps.{silent as isSilent}
-use Rattle.lts.specs.Names.{Direction, sameDirection}
+use Rattle.lts.specs.Directions.{Direction, sameDirection}
 
 -- χ ::= a | ¬χ | χ ∨ χ, over label numbers. `any` is 01's `*`, Definition 2's "true". 02: "an operand `?` is all received labels and an
 -- operand `!` all sent ones".

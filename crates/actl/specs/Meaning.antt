@@ -3,7 +3,8 @@ use mathlib.Core.List.{List}
 use mathlib.Core.Option.{Option, none, some}
 use Prim.Native.Nat.{ℕ}
 use lib.ListN.{length}
-use Rattle.lts.specs.Names.{Direction, labelDirection, lookup}
+use Rattle.lts.specs.Names.{lookup}
+use Rattle.lts.specs.Directions.{Direction, labelDirection}
 use Rattle.actl.specs.Actions.{Action, Mask, maskOf, Cond, silent, labels}
 use Rattle.actl.specs.Formulas.{Formula}
 use Rattle.actl.specs.Grammar.{Name, Set, operand, union, Operand, name, any, received, sent, except, group, Condition, dot, set, Quantifier, existential, universal, Head, next, until, untilThen, Disjunction, term, or, Term, tru, not, modal, paren}

@@ -10,7 +10,8 @@ use borrow.Author.Tests.{leb-true, ltb-true, ltb-false}
 use lib.Dec.{leb, ltb}
 use lib.ListN.{length, getD, drop, length-append, drop-of-length-le}
 use lib.Seq.{drop-cons}
-use Rattle.lts.specs.Names.{isLower, isNameByte, isMark, isName, stemRun, stemLength, stemEnd, markLength, nameLength, nameEnd}
+use Rattle.lts.specs.Names.{isLower, isNameByte, isMark, isName}
+use Rattle.lts.specs.NameEnds.{stemRun, stemLength, stemEnd, markLength, nameLength, nameEnd}
 use Rattle.lts.proofs.Lists.{and-true-of, and-true-to}
 use Rattle.lts.proofs.Laws.Stems.{isStem}
 use Rattle.lts.proofs.Laws.NameBytes.{stem-grows, name-ends, name-full, mark-ends}

@@ -7,7 +7,8 @@ use Prim.Native.Nat.{ℕ, _+_, _-_, _≤_}
 use native.Mathlib.Omega.{arith}
 use lib.Bits.{bitOr, or-zero-l}
 use lib.ListN.{length, drop}
-use Rattle.lts.specs.Names.{isLower, Direction, labelDirection}
+use Rattle.lts.specs.Names.{isLower}
+use Rattle.lts.specs.Directions.{Direction, labelDirection}
 use Rattle.actl.specs.Actions.{Action}
 use Rattle.actl.specs.Grammar.{gap, Set, operand, union, Operand, any, received, sent, except, group, showS, showO}
 use Rattle.actl.specs.Reader.{InSet, sParen, InOperand, oFirst, oOr, oNot, operandAt, afterSet, stop, closeStep, plugO}

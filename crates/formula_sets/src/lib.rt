@@ -6,7 +6,7 @@ ghost use lib.ListN.{length};
 ghost use Rattle.actl.specs.Sizes.{longestText};
 ghost use Rattle.lts.specs.HoldsTable.{HoldsTable};
 ghost use mathlib.Core.Bool.{cond};
-ghost use Rattle.lts.specs.Names.{labelDirection, sameDirection};
+ghost use Rattle.lts.specs.Directions.{labelDirection, sameDirection};
 ghost use Rattle.lts.specs.Prepared.{tableIn};
 ghost use Rattle.lts.specs.Steps.{labels};
 ghost use Rattle.actl.specs.Actions.{Action};

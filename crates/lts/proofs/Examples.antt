@@ -9,7 +9,7 @@ use Rattle.lts.specs.Sizes.{tableLength}
 use Rattle.columns.specs.Ascii.{ascii}
 use Rattle.columns.specs.Columns.{column, digitsWithin}
 use Rattle.lts.specs.Reply.{accepted, refusal}
-use Rattle.lts.specs.Names.{neither, received, sent, labelDirection}
+use Rattle.lts.specs.Directions.{neither, received, sent, labelDirection}
 use Rattle.lts.specs.Steps.{Step, Table, silent, stepsFrom, idleAt}
 use Rattle.lts.specs.Text.{tableText, ended}
 use Rattle.lts.specs.Reading.{readTable, readTableWith, readLabels, readLabelsWith, readTransitions}

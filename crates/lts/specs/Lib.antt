@@ -1,8 +1,10 @@
 pub mod Answers
 pub mod Check
+pub mod Directions
 pub mod HoldsTable
 pub mod Lines
 pub mod Lists
+pub mod NameEnds
 pub mod Names
 pub mod Prepared
 pub mod Range

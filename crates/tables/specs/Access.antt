@@ -4,7 +4,7 @@ use mathlib.Core.List.{List}
 use mathlib.Core.Option.{Option, none, some}
 use Prim.Native.Nat.{ℕ, _<_}
 use Rattle.lts.specs.Steps.{Step}
-use Rattle.lts.specs.Names as names
+use Rattle.lts.specs.Directions as directions
 use Rattle.lts.specs.Prepared.{transitionAt}
 use Rattle.tables.specs.declared.prepared.Transition.{Transition}
 use Rattle.tables.specs.declared.names.Direction.{Direction}
@@ -28,7 +28,7 @@ foundIn (At k) = some k
 foundIn Nowhere = none
 
 -- A name's direction.
-abbrev pub directionIn : Direction → names.Direction
-directionIn Neither = names.neither
-directionIn Received = names.received
-directionIn Sent = names.sent
+abbrev pub directionIn : Direction → directions.Direction
+directionIn Neither = directions.neither
+directionIn Received = directions.received
+directionIn Sent = directions.sent

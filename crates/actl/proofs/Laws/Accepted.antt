@@ -11,7 +11,7 @@ use lib.ListN.{length}
 use lib.Pow.{pow-pos}
 use borrow.Author.Tests.{leb-true, lt-ltb}
 use Rattle.actl.specs.Sizes.{mostNodes, longestText}
-use Rattle.lts.specs.Names.{labelDirection}
+use Rattle.lts.specs.Directions.{labelDirection}
 use Rattle.lts.specs.Reply.{Reply, accepted, refusal, unless}
 use Rattle.lts.proofs.Lists.{and-true-to}
 use Rattle.actl.specs.Actions.{Mask, Cond, silent, labels, maskOf}

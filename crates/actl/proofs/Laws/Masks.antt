@@ -9,7 +9,7 @@ use native.Mathlib.Omega.{arith}
 use lib.Dec.{eqb, ltb}
 use borrow.Author.Tests.{eq-eqb, ne-eqb, lt-ltb, eqb-true, ltb-true}
 use Rattle.lts.specs.Steps.{silent}
-use Rattle.lts.specs.Names.{Direction}
+use Rattle.lts.specs.Directions.{Direction}
 use Rattle.lts.proofs.Lists.{and-true-of, and-true-to}
 use Rattle.actl.specs.Actions.{Action, satisfies, Mask, inSet, maskOf}
 use Rattle.actl.specs.Prepared.{maskWithin}

@@ -3,7 +3,7 @@ use borrow.Author.Needs.{needs}
 use native.Mathlib.Omega.{arith}
 use Rattle.actl.proofs.ReadingLabels.{shifted-all}
 use mathlib.Core.Path.{ap}
-use Rattle.lts.specs.Names.{labelDirection}
+use Rattle.lts.specs.Directions.{labelDirection}
 use Rattle.actl.specs.Actions.{Action, maskOf}
 use Rattle.actl.specs.Readers.{namesIn}
 use Rattle.formula_sets.proofs.all_labels.Statement.{statement}

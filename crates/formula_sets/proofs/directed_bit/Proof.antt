@@ -4,7 +4,7 @@ use mathlib.Core.Path.{_≡_, sym, ap, _∙_}
 use mathlib.Core.Bool.{Bool, cond}
 use Prim.Native.Nat.{suc, _^_}
 use native.Mathlib.Omega.{arith}
-use Rattle.lts.specs.Names.{labelDirection, sameDirection}
+use Rattle.lts.specs.Directions.{labelDirection, sameDirection}
 use Rattle.actl.specs.Readers.{namesIn}
 use Rattle.tables.specs.Access.{directionIn}
 use Rattle.actl.proofs.ReadingLabels.{shifted-two}

@@ -4,7 +4,7 @@ use mathlib.Core.Path.{_≡_, ap, ap₂, _∙_}
 use Prim.Native.Nat.{suc, _+_, _-_, _≤_}
 use native.Mathlib.Omega.{arith}
 use lib.ListN.{length}
-use Rattle.lts.specs.Names.{labelDirection}
+use Rattle.lts.specs.Directions.{labelDirection}
 use Rattle.actl.specs.Actions.{Action, maskOf}
 use Rattle.actl.specs.Readers.{namesIn}
 use Rattle.tables.specs.Access.{directionIn}

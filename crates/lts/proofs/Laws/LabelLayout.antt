@@ -10,7 +10,8 @@ use Rattle.columns.specs.Bytes.{sameBytes}
 use Rattle.columns.specs.Columns.{column, valueAt}
 use Rattle.columns.proofs.Laws.Compared.{each-append, each-weaken, same-equal, same-of-equal}
 use Rattle.columns.proofs.Laws.ColumnsRead.{ColumnAt}
-use Rattle.lts.specs.Names.{isName, nameLength, nameEnd}
+use Rattle.lts.specs.Names.{isName}
+use Rattle.lts.specs.NameEnds.{nameLength, nameEnd}
 use Rattle.lts.specs.Text.{labelLine}
 use Rattle.lts.specs.Reading.{firstLine, labelLaidOut}
 use Rattle.lts.specs.Lines.{NoLineAt, Labelled}

@@ -10,7 +10,9 @@ use lib.Dec.{eqb}
 use lib.ListN.{length, getD, take, drop, length-append, length-drop, drop-of-length-le}
 use lib.Seq.{drop-at, drop-cons, drop-drop, take-at, take-add}
 use Rattle.columns.proofs.Laws.Compared.{Each, each-append, each-weaken}
-use Rattle.lts.specs.Names.{isLower, isNameByte, unmarked, marked, isMark, isLastMark, atMost, isNameWith, isName, Direction, neither, received, sent, directionOfMark, directionBehind, directionOf, sameDirection, markOf, stemLength, stemEnd, markLength, withMark, nameLength, nameEnd, nameDirection}
+use Rattle.lts.specs.Names.{isLower, isNameByte, unmarked, marked, isMark, isLastMark, atMost, isNameWith, isName}
+use Rattle.lts.specs.Directions.{Direction, neither, received, sent, directionOfMark, directionOf, sameDirection, markOf}
+use Rattle.lts.specs.NameEnds.{stemLength, stemEnd, markLength, withMark, nameLength, nameEnd, nameDirection}
 use Rattle.lts.proofs.Lists.{and-true-of, and-true-to, or-true-of, or-true-left, or-true-right}
 use Rattle.lts.proofs.Laws.Stems.{isStem, stem-high, stem-short, stem-is-name, stem-is-longest, stem-is-run}
 
@@ -199,7 +201,7 @@ run-is-longest l rest e = case (name-parts l e)
     case (inr h) = omega (arith, marked-length l rest h)
 
 -- Directions.
-behind-marked : (c : ℕ) (p : List ℕ) (b : ℕ) → directionBehind c (p ++ (b ∷ [])) ≡ directionOfMark b
+behind-marked : (c : ℕ) (p : List ℕ) (b : ℕ) → directionOf (c ∷ (p ++ (b ∷ []))) ≡ directionOfMark b
 behind-marked c [] b = refl
 behind-marked c (d ∷ p) b = behind-marked d p b
 
@@ -213,7 +215,7 @@ byte-unmarked b h = ap (λ t. cond t received (cond (eqb b 33) sent neither)) (o
     other : (m : ℕ) → isNameByte m ≡ false → eqb b m ≡ false
     other m f = ne-eqb b m (λ e. true≢false (sym h ∙ (ap isNameByte e ∙ f)))
 
-behind-unmarked : (n b : ℕ) (l : List ℕ) → isNameByte b ≡ true → AtMost n l → directionBehind b l ≡ neither
+behind-unmarked : (n b : ℕ) (l : List ℕ) → isNameByte b ≡ true → AtMost n l → directionOf (b ∷ l) ≡ neither
 behind-unmarked n b [] h e = byte-unmarked b h
 behind-unmarked zero b (c ∷ l) h e = absurd (false≢true e)
 behind-unmarked (suc n) b (c ∷ l) h e = let p = and-true-of (isNameByte c) (atMost unmarked n l) e in behind-unmarked n c l (p .0) (p .1)

@@ -12,7 +12,8 @@ use Rattle.lts.specs.Sizes.{nameSlotLength}
 use Rattle.columns.specs.Bytes.{sameBytes}
 use Rattle.columns.proofs.Laws.Compared.{same-of-unequal, same-equal}
 use Rattle.lts.specs.Lists.{upFrom}
-use Rattle.lts.specs.Names.{longestName, Direction, markOf, findFrom, lookup}
+use Rattle.lts.specs.Names.{longestName, findFrom, lookup}
+use Rattle.lts.specs.Directions.{Direction, markOf}
 use Rattle.lts.specs.Reading.{used}
 use Rattle.lts.specs.Slots.{storedName, storedNames}
 use Rattle.lts.specs.Answers.{isSome}

@@ -14,7 +14,8 @@ use Rattle.columns.specs.Bytes.{sameBytes}
 use Rattle.columns.proofs.Laws.Compared.{same-of-unequal}
 use Rattle.lts.specs.Lists.{upFrom}
 use Rattle.lts.specs.Steps.{labels}
-use Rattle.lts.specs.Names.{longestName, isName, nameLength, nameEnd, findFrom, lookup}
+use Rattle.lts.specs.Names.{longestName, isName, findFrom, lookup}
+use Rattle.lts.specs.NameEnds.{nameLength, nameEnd}
 use Rattle.lts.specs.Reading.{used}
 use Rattle.lts.specs.Prepared.{tableIn, byteAt, nameAt}
 use Rattle.lts.specs.Slots.{storedName, storedNames}

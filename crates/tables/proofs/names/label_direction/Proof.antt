@@ -7,7 +7,9 @@ use native.Mathlib.Omega.{arith}
 use Prim.Native.Nat.{_+_, _-_, _*_}
 use lib.ListN.{getD, take, drop}
 use Rattle.lts.specs.Sizes.{headLength, nameSlotLength}
-use Rattle.lts.specs.Names.{isName, directionOf, nameDirection}
+use Rattle.lts.specs.Names.{isName}
+use Rattle.lts.specs.Directions.{directionOf}
+use Rattle.lts.specs.NameEnds.{nameDirection}
 use Rattle.lts.specs.Prepared.{tableIn, byteAt, nameAt}
 use Rattle.lts.proofs.Lists.{getD-mem}
 use Rattle.lts.proofs.Laws.Contents.{name-in}
