@@ -11,8 +11,8 @@ use borrow.Author.Tests.{ne-eqb}
 use Rattle.lts.specs.Names.{isLower, isNameByte, marked, isMark, atMost, isName}
 use Rattle.lts.proofs.Lists.{and-true-of}
 use Rattle.lts.proofs.Laws.NameBytes.{name-more, name-ends}
-use Rattle.actl.specs.Grammar.{Name, Set, operand, union, Operand, name, any, received, sent, except, group, Condition, dot, set, Quantifier, existential, universal, Head, next, until, untilThen, Disjunction, term, or, Term, tru, not, modal, paren, gap, showS, showO, showC, showQ, showH, showF, showT}
-use Rattle.actl.specs.Reader.{InDisjunction, fTop, fParen, InTerm, tFirst, tOr, tNot, tModal, InSet, sParen, sNext, sUntil, sThen, InOperand, oFirst, oOr, oNot, State, termAt, afterE, afterA, afterNext, afterUntil, bracketAt, operandAt, afterDot, naming, afterSet, afterDisjunction, ReaderStep, go, stop, on, plugT, plugO, named, leaveO, readByte, finish, finishDisjunction, proceed, run, start, read, Result, whole, refused}
+use Rattle.actl.specs.Grammar.{Name, Set, operand, union, Operand, name, any, received, sent, except, group, Condition, dot, set, Quantifier, existential, universal, Head, next, until, untilThen, reach, labelled, Disjunction, conjunction, or, Conjunction, term, and, Term, tru, not, modal, paren, gap, showS, showO, showC, showQ, showR, showL, showH, showF, showA, showT}
+use Rattle.actl.specs.Reader.{InDisjunction, fTop, fParen, InTerm, tFirst, tOr, tAnd, tNot, tModal, InSet, sParen, sNext, sUntil, sThen, sLabelled, InOperand, oFirst, oOr, oNot, State, termAt, afterE, afterA, afterLabelled, afterNext, afterUntil, bracketAt, operandAt, afterDot, naming, afterSet, afterDisjunction, ReaderStep, go, stop, on, andLast, plugT, plugO, named, leaveO, readByte, finish, finishDisjunction, proceed, run, start, read, Result, whole, refused}
 use Rattle.actl.proofs.Sound.{leave-step}
 
 -- Blanks, where they count up.
@@ -137,6 +137,10 @@ cond-read : (c : Condition) (q : Quantifier) (a b d : ℕ) (k : InTerm) (s : Lis
 cond-read dot q a b d k s = gaps (afterDot q a b k) (λ g. refl) d (93 ∷ s)
 cond-read (set x) q a b d k s = enter q a k b x (gap d (93 ∷ s)) ∙ (set-read x (sNext q a k b) (gap d (93 ∷ s)) (ends-gap d 93 s refl refl) ∙ gaps (afterSet x (sNext q a k b)) (λ g. refl) d (93 ∷ s))
 
+label-read : (q : Quantifier) (k : InTerm) (s : List ℕ) → run (showL q s) (termAt k) ≡ run s (afterLabelled q k 0)
+label-read existential k s = refl
+label-read universal k s = refl
+
 pub head-read : (h : Head) (k : InTerm) (s : List ℕ) → run (showH h s) (termAt k) ≡ run s (termAt (tModal h k 0))
 head-read (next q a b c d) k s =
     quant-read q k (gap a (91 ∷ gap b (showC c (gap d (93 ∷ s)))))
@@ -153,14 +157,38 @@ head-read (untilThen a b x c d y e) k s =
     ∙ (gaps (afterSet x (sUntil a k b)) (λ g. refl) c (59 ∷ gap d (showS y (gap e (93 ∷ s))))
     ∙ (gaps (λ g. operandAt (oFirst (sThen a b x c k g))) (λ g. refl) d (showS y (gap e (93 ∷ s)))
     ∙ (set-read y (sThen a b x c k d) (gap e (93 ∷ s)) (ends-gap e 93 s refl refl) ∙ gaps (afterSet y (sThen a b x c k d)) (λ g. refl) e (93 ∷ s))))))
+head-read (reach existential) k s = refl
+head-read (reach universal) k s = refl
+head-read (labelled q a b x d) k s =
+    label-read q k (gap a (91 ∷ gap b (showS x (gap d (93 ∷ s)))))
+    ∙ (gaps (afterLabelled q k) (λ g. refl) a (91 ∷ gap b (showS x (gap d (93 ∷ s))))
+    ∙ (gaps (λ g. operandAt (oFirst (sLabelled q a k g))) (λ g. refl) b (showS x (gap d (93 ∷ s)))
+    ∙ (set-read x (sLabelled q a k b) (gap d (93 ∷ s)) (ends-gap d 93 s refl refl) ∙ gaps (afterSet x (sLabelled q a k b)) (λ g. refl) d (93 ∷ s))))
+
+-- A conjunction begins a formula, or stands behind `|`.
+pub data Starts (k : InDisjunction) : InTerm → (Conjunction → Disjunction) → Type 0 where
+  first : Starts k (tFirst k) conjunction
+  later : (f : Disjunction) (a b : ℕ) → Starts k (tOr f a k b) (or f a b)
 
 mutual
   pub formula-read : (f : Disjunction) (k : InDisjunction) (s : List ℕ) → run (showF f s) (termAt (tFirst k)) ≡ run s (afterDisjunction f k 0)
-  formula-read (term t) k s = term-read t (tFirst k) s
-  formula-read (or f a b t) k s =
-      formula-read f k (gap a (124 ∷ gap b (showT t s)))
-      ∙ (gaps (afterDisjunction f k) (λ g. refl) a (124 ∷ gap b (showT t s))
-      ∙ (gaps (λ g. termAt (tOr f a k g)) (λ g. refl) b (showT t s) ∙ term-read t (tOr f a k b) s))
+  formula-read (conjunction c) k s = conjunction-read c k first s
+  formula-read (or f a b c) k s =
+      formula-read f k (gap a (124 ∷ gap b (showA c s)))
+      ∙ (gaps (afterDisjunction f k) (λ g. refl) a (124 ∷ gap b (showA c s))
+      ∙ (gaps (λ g. termAt (tOr f a k g)) (λ g. refl) b (showA c s) ∙ conjunction-read c k (later f a b) s))
+
+  conjunction-read : (c : Conjunction) (k : InDisjunction) {i : InTerm} {v : Conjunction → Disjunction} → Starts k i v → (s : List ℕ) → run (showA c s) (termAt i) ≡ run s (afterDisjunction (v c) k 0)
+  conjunction-read (term t) k first s = term-read t (tFirst k) s
+  conjunction-read (term t) k (later f a b) s = term-read t (tOr f a k b) s
+  conjunction-read (and c a b t) k first s =
+      conjunction-read c k first (gap a (38 ∷ gap b (showT t s)))
+      ∙ (gaps (afterDisjunction (conjunction c) k) (λ g. refl) a (38 ∷ gap b (showT t s))
+      ∙ (gaps (λ g. termAt (tAnd (conjunction c) a k g)) (λ g. refl) b (showT t s) ∙ term-read t (tAnd (conjunction c) a k b) s))
+  conjunction-read (and c a b t) k (later f g h) s =
+      conjunction-read c k (later f g h) (gap a (38 ∷ gap b (showT t s)))
+      ∙ (gaps (afterDisjunction (or f g h c) k) (λ i. refl) a (38 ∷ gap b (showT t s))
+      ∙ (gaps (λ i. termAt (tAnd (or f g h c) a k i)) (λ i. refl) b (showT t s) ∙ term-read t (tAnd (or f g h c) a k b) s))
 
   pub term-read : (t : Term) (k : InTerm) (s : List ℕ) → run (showT t s) (termAt k) ≡ run s (plugT t k)
   term-read tru k s = refl

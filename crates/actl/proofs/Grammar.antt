@@ -10,7 +10,7 @@ use lib.ListN.{length, take, drop, length-append, take-append-drop}
 use lib.Seq.{take-append-seam, take-append-add, take-append-le}
 use Rattle.lts.specs.Names.{Marks, marked}
 use Rattle.actl.specs.Grammar.{Disjunction, showF, gap, Text, Viable, Longest}
-use Rattle.actl.specs.Reader.{InDisjunction, fTop, fParen, State, termAt, afterE, afterA, afterNext, afterUntil, bracketAt, operandAt, afterDot, naming, afterSet, afterDisjunction, ReaderStep, go, stop, readByte, finish, finishDisjunction, proceed, run, start, read, Result, whole, refused}
+use Rattle.actl.specs.Reader.{InDisjunction, fTop, fParen, State, termAt, afterE, afterA, afterFirst, afterSecond, afterLabelled, afterNext, afterUntil, bracketAt, operandAt, afterDot, naming, afterSet, afterDisjunction, ReaderStep, go, stop, readByte, finish, finishDisjunction, proceed, run, start, read, Result, whole, refused}
 use Rattle.actl.proofs.Sound.{shown, Reads, goes, stops, step-reads, completes}
 use Rattle.actl.proofs.Complete.{formula-read}
 use Rattle.actl.proofs.Marks.{formula-fits}
@@ -34,6 +34,9 @@ finish-whole : (x : State) (f : Disjunction) → finish x ≡ whole f → shown 
 finish-whole (termAt k) f e = not-both e
 finish-whole (afterE k) f e = not-both e
 finish-whole (afterA k) f e = not-both e
+finish-whole (afterFirst q k) f e = not-both e
+finish-whole (afterSecond q k) f e = not-both e
+finish-whole (afterLabelled q k g) f e = not-both e
 finish-whole (afterNext q k g) f e = not-both e
 finish-whole (afterUntil k g) f e = not-both e
 finish-whole (bracketAt q a k g) f e = not-both e
@@ -52,6 +55,9 @@ finish-refused : (x : State) (r : List ℕ) → finish x ≡ refused r → [] �
 finish-refused (termAt k) r e = same-rest e
 finish-refused (afterE k) r e = same-rest e
 finish-refused (afterA k) r e = same-rest e
+finish-refused (afterFirst q k) r e = same-rest e
+finish-refused (afterSecond q k) r e = same-rest e
+finish-refused (afterLabelled q k g) r e = same-rest e
 finish-refused (afterNext q k g) r e = same-rest e
 finish-refused (afterUntil k g) r e = same-rest e
 finish-refused (bracketAt q a k g) r e = same-rest e

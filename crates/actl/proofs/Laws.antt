@@ -3,6 +3,7 @@ pub mod Accepted
 pub mod ByGrammar
 pub mod Checked
 pub mod Classed
+pub mod Expanded
 pub mod Foreign
 pub mod Forms
 pub mod Lists

@@ -3,7 +3,7 @@ use mathlib.Core.Path.{_≡_, refl}
 use mathlib.Core.Bool.{true}
 use Rattle.lts.specs.Names.{marked}
 use Rattle.lts.proofs.Lists.{and-true-to}
-use Rattle.actl.specs.Grammar.{Set, operand, union, Operand, name, any, received, sent, except, group, Condition, dot, set, Head, next, until, untilThen, Disjunction, term, or, Term, tru, not, modal, paren, fitsS, fitsO, fitsC, fitsH, fitsF, fitsT}
+use Rattle.actl.specs.Grammar.{Set, operand, union, Operand, name, any, received, sent, except, group, Condition, dot, set, Head, next, until, untilThen, reach, labelled, Disjunction, conjunction, or, Conjunction, term, and, Term, tru, not, modal, paren, fitsS, fitsO, fitsC, fitsH, fitsF, fitsA, fitsT}
 
 mutual
   set-fits : (x : Set) → fitsS marked x ≡ true
@@ -26,11 +26,17 @@ head-fits : (h : Head) → fitsH marked h ≡ true
 head-fits (next q a b c d) = condition-fits c
 head-fits (until a b x d) = set-fits x
 head-fits (untilThen a b x c d y e) = and-true-to (fitsS marked x) (fitsS marked y) (set-fits x) (set-fits y)
+head-fits (reach q) = refl
+head-fits (labelled q a b x d) = set-fits x
 
 mutual
   pub formula-fits : (f : Disjunction) → fitsF marked f ≡ true
-  formula-fits (term t) = term-fits t
-  formula-fits (or f a b t) = and-true-to (fitsF marked f) (fitsT marked t) (formula-fits f) (term-fits t)
+  formula-fits (conjunction c) = conjunction-fits c
+  formula-fits (or f a b c) = and-true-to (fitsF marked f) (fitsA marked c) (formula-fits f) (conjunction-fits c)
+
+  conjunction-fits : (c : Conjunction) → fitsA marked c ≡ true
+  conjunction-fits (term t) = term-fits t
+  conjunction-fits (and c a b t) = and-true-to (fitsA marked c) (fitsT marked t) (conjunction-fits c) (term-fits t)
 
   term-fits : (t : Term) → fitsT marked t ≡ true
   term-fits tru = refl

@@ -6,8 +6,8 @@ use Prim.Native.Nat.{ℕ, zero, suc, _-_}
 use native.Mathlib.Omega.{arith}
 use lib.ListN.{length, drop, length-append}
 use lib.Seq.{drop-append-seam}
-use Rattle.actl.specs.Grammar.{Name, Set, operand, union, Operand, name, any, received, sent, except, group, Condition, dot, set, Quantifier, existential, universal, Head, next, until, untilThen, Disjunction, term, or, Term, tru, not, modal, paren, gap, showS, showO, showC, showQ, showH, showT, showF}
-use Rattle.actl.specs.Mentions.{Mention, namesS, namesO, namesC, namesH, namesF, namesT, offset}
+use Rattle.actl.specs.Grammar.{Name, Set, operand, union, Operand, name, any, received, sent, except, group, Condition, dot, set, Quantifier, existential, universal, Head, next, until, untilThen, reach, labelled, Disjunction, conjunction, or, Conjunction, term, and, Term, tru, not, modal, paren, gap, showS, showO, showC, showQ, showR, showL, showH, showT, showA, showF}
+use Rattle.actl.specs.Mentions.{Mention, namesS, namesO, namesC, namesH, namesF, namesA, namesT, offset}
 
 -- r ends t.
 abbrev Ends : List ℕ → List ℕ → Type 0
@@ -44,6 +44,14 @@ endQ : (q : Quantifier) {r t : List ℕ} → Ends r t → Ends r (showQ q t)
 endQ existential h = past 69 (past 88 h)
 endQ universal h = past 65 (past 88 h)
 
+endR : (q : Quantifier) {r t : List ℕ} → Ends r t → Ends r (showR q t)
+endR existential h = past 69 (past 70 h)
+endR universal h = past 65 (past 71 h)
+
+endL : (q : Quantifier) {r t : List ℕ} → Ends r t → Ends r (showL q t)
+endL existential h = past 68 (past 73 (past 65 h))
+endL universal h = past 66 (past 79 (past 88 h))
+
 endC : (c : Condition) {r t : List ℕ} → Ends r t → Ends r (showC c t)
 endC dot h = past 46 h
 endC (set x) h = endS x h
@@ -52,11 +60,17 @@ endH : (j : Head) {r t : List ℕ} → Ends r t → Ends r (showH j t)
 endH (next q a b c d) h = endQ q (gapped a (past 91 (gapped b (endC c (gapped d (past 93 h))))))
 endH (until a b x d) h = past 69 (past 85 (gapped a (past 91 (gapped b (endS x (gapped d (past 93 h)))))))
 endH (untilThen a b x c d y e) h = past 69 (past 85 (gapped a (past 91 (gapped b (endS x (gapped c (past 59 (gapped d (endS y (gapped e (past 93 h)))))))))))
+endH (reach q) h = endR q h
+endH (labelled q a b x d) h = endL q (gapped a (past 91 (gapped b (endS x (gapped d (past 93 h))))))
 
 mutual
   endF : (f : Disjunction) {r t : List ℕ} → Ends r t → Ends r (showF f t)
-  endF (term u) h = endT u h
-  endF (or f a b u) h = endF f (gapped a (past 124 (gapped b (endT u h))))
+  endF (conjunction c) h = endA c h
+  endF (or f a b c) h = endF f (gapped a (past 124 (gapped b (endA c h))))
+
+  endA : (c : Conjunction) {r t : List ℕ} → Ends r t → Ends r (showA c t)
+  endA (term u) h = endT u h
+  endA (and c a b u) h = endA c (gapped a (past 38 (gapped b (endT u h))))
 
   endT : (u : Term) {r t : List ℕ} → Ends r t → Ends r (showT u t)
   endT tru h = past 84 h
@@ -92,11 +106,17 @@ memH (next q a b c d) s m h = endQ q (gapped a (past 91 (gapped b (memC c (gap d
 memH (until a b x d) s m h = past 69 (past 85 (gapped a (past 91 (gapped b (memS x (gap d (93 ∷ s)) m h)))))
 memH (untilThen a b x c d y e) s m h = past 69 (past 85 (gapped a (past 91 (gapped b (both (namesS x (gap c (59 ∷ gap d (showS y (gap e (93 ∷ s)))))) (namesS y (gap e (93 ∷ s)))
     (λ k. memS x (gap c (59 ∷ gap d (showS y (gap e (93 ∷ s))))) m k) (λ k. endS x (gapped c (past 59 (gapped d (memS y (gap e (93 ∷ s)) m k))))) h)))))
+memH (reach q) s m h = absurd (List·Memᴰ·not-nil h)
+memH (labelled q a b x d) s m h = endL q (gapped a (past 91 (gapped b (memS x (gap d (93 ∷ s)) m h))))
 
 mutual
   memF : (f : Disjunction) (s : List ℕ) (m : Mention) → List·Memᴰ m (namesF f s) → Stands m (showF f s)
-  memF (term t) s m h = memT t s m h
-  memF (or f a b t) s m h = both (namesF f (gap a (124 ∷ gap b (showT t s)))) (namesT t s) (λ k. memF f (gap a (124 ∷ gap b (showT t s))) m k) (λ k. endF f (gapped a (past 124 (gapped b (memT t s m k))))) h
+  memF (conjunction c) s m h = memA c s m h
+  memF (or f a b c) s m h = both (namesF f (gap a (124 ∷ gap b (showA c s)))) (namesA c s) (λ k. memF f (gap a (124 ∷ gap b (showA c s))) m k) (λ k. endF f (gapped a (past 124 (gapped b (memA c s m k))))) h
+
+  memA : (c : Conjunction) (s : List ℕ) (m : Mention) → List·Memᴰ m (namesA c s) → Stands m (showA c s)
+  memA (term t) s m h = memT t s m h
+  memA (and c a b t) s m h = both (namesA c (gap a (38 ∷ gap b (showT t s)))) (namesT t s) (λ k. memA c (gap a (38 ∷ gap b (showT t s))) m k) (λ k. endA c (gapped a (past 38 (gapped b (memT t s m k))))) h
 
   memT : (t : Term) (s : List ℕ) (m : Mention) → List·Memᴰ m (namesT t s) → Stands m (showT t s)
   memT tru s m h = absurd (List·Memᴰ·not-nil h)

@@ -1,5 +1,5 @@
 -- Nodes written one after the other into the bytes that reading keeps, and moved up by one.
-use mathlib.Core.Path.{_≡_, sym, ap, _∙_}
+use mathlib.Core.Path.{_≡_, refl, sym, ap, _∙_}
 use mathlib.Core.List.{List, [], _∷_, _++_, append-assoc}
 use Prim.Native.Nat.{ℕ, suc, _+_, _*_, _-_, _≤_, _<_}
 use native.Mathlib.Numerals.{add-one}
@@ -8,11 +8,13 @@ use lib.ListN.{length, getD, take, drop, set, length-append, length-take, length
 use lib.Seq.{length-take-le, take-suc, drop-cons, take-append-le, take-at, drop-at, set-at, getD-take, take-take}
 use Rattle.columns.specs.Write.{pasted}
 use Rattle.columns.proofs.Laws.Pasting.{pasted-length}
-use Rattle.actl.specs.Sizes.{longestText, nodeSlotLength, readingLength}
+use Rattle.actl.specs.Sizes.{mostNodes, nodeSlotLength, formulaLength}
 use Rattle.lts.proofs.Lists.{bind-append}
-use Rattle.actl.specs.Formulas.{Formula, nodes}
+use Rattle.actl.specs.Formulas.{Formula, size, nodes}
 use Rattle.actl.specs.Prepared.{Slot, slot, slotOf, slotBytes}
-use Rattle.actl.specs.Readers.{bytesOfNodes, putAt, joinedAt, NodesWritten}
+use Rattle.actl.specs.Readers.{bytesOfNodes, putAt, NodesWritten, NodesEnclosed, orBytes, notBytes, andBytes}
+use Rattle.actl.proofs.Nodes.{length-nodes}
+use Rattle.actl.proofs.Laws.Widths.{length-parts}
 use Rattle.actl.proofs.ReadingBytes.{pasted-none, pasted-then, pasted-over}
 
 -- Bytes while those below `top` move up by w: the ones from i on have moved.
@@ -65,39 +67,53 @@ module _ (w top i : ℕ) (e : List ℕ) (room : top + w ≤ length e) (h : i ≤
       (λ j. b j ++ (l ++ c j)) ∙ (ap (λ m. take i e ++ m) (sym (append-assoc l q r)) ∙ ap (λ m. take i e ++ ((l ++ q) ++ drop m e)) d)
 
 -- Nodes written so far.
-module _ {e : List ℕ} (long : length e ≡ readingLength) where
-  pub written-none : (n : ℕ) → n ≤ longestText → NodesWritten n n e e []
-  written-none n h = record { ends = omega arith; fits = h; made = pasted-none (1 + n * nodeSlotLength) e }
-
-  pub written-length : {n m : ℕ} {x l : List ℕ} → NodesWritten n m e x l → length x ≡ readingLength
-  written-length {n} {m} {l} p = ap length (p .made) ∙ (pasted-length e (1 + n * nodeSlotLength) l (omega (arith, p .ends, p .fits)) ∙ long)
+module _ {e : List ℕ} (long : length e ≡ formulaLength) where
+  pub written-none : (n : ℕ) → NodesWritten n n e e []
+  written-none n = record { ends = omega arith; long = refl; made = λ h. pasted-none (1 + n * nodeSlotLength) e }
 
   pub written-more : {n m k : ℕ} {x y l j : List ℕ} → NodesWritten n m e x l → NodesWritten m k x y j → NodesWritten n k e y (l ++ j)
   written-more {n} {m} {x} {y} {l} {j} p q = record {
     ends = omega (arith, p .ends, q .ends, length-append l j);
-    fits = q .fits;
-    made = pasted-then (1 + n * nodeSlotLength) (1 + m * nodeSlotLength) l j e x y (p .made) (p .ends) (omega (arith, p .ends, p .fits)) (q .made);
+    long = q .long ∙ p .long;
+    made = λ h.
+        let w : m ≤ mostNodes = omega (arith, q .ends) in
+        pasted-then (1 + n * nodeSlotLength) (1 + m * nodeSlotLength) l j e x y (p .made w) (p .ends) (omega (arith, p .ends)) (q .made h);
   }
 
-  pub put-written : (n : ℕ) (node : Slot) (x : List ℕ) → n < longestText → x ≡ putAt n node e → NodesWritten n (n + 1) e x (slotBytes node)
-  put-written n node x h p = record { ends = omega arith; fits = omega arith; made = p }
-
-  pub join-written : (start n : ℕ) (x y l : List ℕ) → n < longestText → NodesWritten start n e x l → y ≡ joinedAt start n x → NodesWritten start (n + 1) e y (slotBytes (slot 3 0 0) ++ l)
-  join-written start n x y l h p q =
+  -- More nodes before and behind those from `start` on.
+  pub written-around : (n start m w : ℕ) (x y a l before behind : List ℕ) → NodesWritten n m e x (a ++ l) → 1 + start * nodeSlotLength ≡ 1 + n * nodeSlotLength + length a
+      → length before + length behind ≡ w * nodeSlotLength → NodesEnclosed start m w before behind x y → NodesWritten n (m + w) e y (a ++ (before ++ (l ++ behind)))
+  written-around n start m w x y a l before behind p z v q =
       let i = 1 + start * nodeSlotLength in
-      let top = 1 + n * nodeSlotLength in
-      let b = slotBytes (slot 3 0 0) in
-      let u = take i e ++ l in
-      let a = length-take-le i e (omega (arith, p .ends)) in
-      let z : length u ≡ top = length-append (take i e) l ∙ omega (arith, p .ends) in
-      let c : x ≡ u ++ drop (i + length l) e = p .made ∙ sym (append-assoc (take i e) l (drop (i + length l) e)) in
-      let d : drop i (take top x) ≡ l = ap (drop i) (ap (take top) c ∙ take-at u (drop (i + length l) e) top z) ∙ drop-at (take i e) l i a in
-      let w = length-append b l in
+      let o = 1 + n * nodeSlotLength in
+      let top = 1 + m * nodeSlotLength in
+      let c = before ++ (l ++ behind) in
+      let f = pasted e o a in
+      let al = length-append a l in
+      let ac = length-append a c in
+      let bc = length-append before (l ++ behind) in
+      let cc = length-append l behind in
       record {
         ends = omega (arith, p .ends);
-        fits = omega arith;
-        made = q ∙ (ap (λ m. pasted x i (b ++ m)) d ∙ pasted-over i l (b ++ l) e x (p .made) (omega arith) (omega (arith, p .ends)));
+        long = q .long ∙ p .long;
+        made = λ h.
+            let lf = pasted-length e o a (omega (arith, p .ends)) in
+            let r : x ≡ pasted f i l = p .made (omega arith) ∙ sym (pasted-then o i a l e f (pasted f i l) refl z (omega (arith, p .ends)) refl) in
+            let u = length-take-le i f (omega (arith, p .ends)) in
+            let t : length (take i f ++ l) ≡ top = length-append (take i f) l ∙ omega (arith, p .ends) in
+            let d : drop i (take top x) ≡ l = ap (drop i) (ap (take top) (r ∙ sym (append-assoc (take i f) l (drop (i + length l) f))) ∙ take-at (take i f ++ l) (drop (i + length l) f) top t) ∙ drop-at (take i f) l i u in
+            q .made h
+            ∙ (ap (λ k. pasted x i (before ++ (k ++ behind))) d
+            ∙ (pasted-over i l c f x r (omega arith) (omega (arith, p .ends))
+            ∙ pasted-then o i a c e f (pasted f i c) refl z (omega (arith, p .ends)) refl));
       }
+
+pub bytes-length : (f : Formula) → length (bytesOfNodes f) ≡ size f * nodeSlotLength
+bytes-length f = length-parts (λ g. slotBytes (slotOf g)) nodeSlotLength (λ g. refl) (nodes f) ∙ ap (λ k. k * nodeSlotLength) (length-nodes f)
 
 pub bytes-or : (f g : Formula) → bytesOfNodes (Formula.or f g) ≡ (slotBytes (slot 3 0 0) ++ bytesOfNodes f) ++ bytesOfNodes g
 bytes-or f g = ap (λ l. slotBytes (slot 3 0 0) ++ l) (bind-append (λ f. slotBytes (slotOf f)) (nodes f) (nodes g)) ∙ sym (append-assoc (slotBytes (slot 3 0 0)) (bytesOfNodes f) (bytesOfNodes g))
+
+-- ~(~f | ~g): the nodes of f stand between `~|~` and `~`.
+pub bytes-and : (f g : Formula) → bytesOfNodes (Formula.not (Formula.or (Formula.not f) (Formula.not g))) ≡ (andBytes ++ (bytesOfNodes f ++ notBytes)) ++ bytesOfNodes g
+bytes-and f g = ap (λ l. andBytes ++ l) (bind-append (λ h. slotBytes (slotOf h)) (nodes f) (nodes (Formula.not g)) ∙ sym (append-assoc (bytesOfNodes f) notBytes (bytesOfNodes g)))

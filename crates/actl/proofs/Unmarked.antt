@@ -10,7 +10,7 @@ use Rattle.lts.specs.Names.{Marks, unmarked, marked, Plain}
 use Rattle.lts.proofs.Lists.{and-true-to}
 use Rattle.lts.proofs.Laws.Unmarked.{plain-behind, plain-append, plain-take, plain-stem}
 use Rattle.actl.specs.Formulas.{Formula}
-use Rattle.actl.specs.Grammar.{Name, Set, operand, union, Operand, name, any, received, sent, except, group, Condition, dot, set, Quantifier, existential, universal, Head, next, until, untilThen, Disjunction, term, or, Term, tru, not, modal, paren, gap, showS, showO, showC, showQ, showH, showF, showT, fitsS, fitsO, fitsC, fitsH, fitsF, fitsT, Text, Grammatical, Viable, Longest}
+use Rattle.actl.specs.Grammar.{Name, Set, operand, union, Operand, name, any, received, sent, except, group, Condition, dot, set, Quantifier, existential, universal, Head, next, until, untilThen, reach, labelled, Disjunction, conjunction, or, Conjunction, term, and, Term, tru, not, modal, paren, gap, showS, showO, showC, showQ, showR, showL, showH, showF, showA, showT, fitsS, fitsO, fitsC, fitsH, fitsF, fitsA, fitsT, Text, Grammatical, Viable, Longest}
 use Rattle.actl.specs.Reader.{State, ReaderStep, go, stop, readByte, proceed, run, start, whole, refused}
 use Rattle.actl.specs.ByGrammar.{ReadBy, long, ungrammatical, grammatical}
 use Rattle.actl.proofs.Sound.{shown, Reads, goes, stops, step-reads, completes}
@@ -47,6 +47,14 @@ plain-quantifier : (q : Quantifier) (s : List ℕ) → Plain (showQ q s) → Pla
 plain-quantifier existential s h = h
 plain-quantifier universal s h = h
 
+plain-reach : (q : Quantifier) (s : List ℕ) → Plain (showR q s) → Plain s
+plain-reach existential s h = h
+plain-reach universal s h = h
+
+plain-letters : (q : Quantifier) (s : List ℕ) → Plain (showL q s) → Plain s
+plain-letters existential s h = h
+plain-letters universal s h = h
+
 plain-head : (j : Head) (s : List ℕ) → Plain (showH j s) → (fitsH unmarked j ≡ true) × Plain s
 plain-head (next q a b c d) s h =
     let inside = gap b (showC c (gap d (93 ∷ s))) in
@@ -61,14 +69,26 @@ plain-head (untilThen a b x c d y e) s h =
     let i = plain-set x (gap c (59 ∷ gap d second)) (plain-gap b first (plain-gap a (91 ∷ gap b first) h)) in
     let j = plain-set y (gap e (93 ∷ s)) (plain-gap d second (plain-gap c (59 ∷ gap d second) (i .1))) in
     (and-true-to (fitsS unmarked x) (fitsS unmarked y) (i .0) (j .0), plain-gap e (93 ∷ s) (j .1))
+plain-head (reach q) s h = (refl, plain-reach q s h)
+plain-head (labelled q a b x d) s h =
+    let inside = gap b (showS x (gap d (93 ∷ s))) in
+    let i = plain-set x (gap d (93 ∷ s)) (plain-gap b (showS x (gap d (93 ∷ s))) (plain-gap a (91 ∷ inside) (plain-letters q (gap a (91 ∷ inside)) h))) in
+    (i .0, plain-gap d (93 ∷ s) (i .1))
 
 mutual
   plain-formula : (f : Disjunction) (s : List ℕ) → Plain (showF f s) → (fitsF unmarked f ≡ true) × Plain s
-  plain-formula (term t) s h = plain-term t s h
-  plain-formula (or f a b t) s h =
-      let i = plain-formula f (gap a (124 ∷ gap b (showT t s))) h in
-      let j = plain-term t s (plain-gap b (showT t s) (plain-gap a (124 ∷ gap b (showT t s)) (i .1))) in
-      (and-true-to (fitsF unmarked f) (fitsT unmarked t) (i .0) (j .0), j .1)
+  plain-formula (conjunction c) s h = plain-conjunction c s h
+  plain-formula (or f a b c) s h =
+      let i = plain-formula f (gap a (124 ∷ gap b (showA c s))) h in
+      let j = plain-conjunction c s (plain-gap b (showA c s) (plain-gap a (124 ∷ gap b (showA c s)) (i .1))) in
+      (and-true-to (fitsF unmarked f) (fitsA unmarked c) (i .0) (j .0), j .1)
+
+  plain-conjunction : (c : Conjunction) (s : List ℕ) → Plain (showA c s) → (fitsA unmarked c ≡ true) × Plain s
+  plain-conjunction (term t) s h = plain-term t s h
+  plain-conjunction (and c a b t) s h =
+      let i = plain-conjunction c (gap a (38 ∷ gap b (showT t s))) h in
+      let j = plain-term t s (plain-gap b (showT t s) (plain-gap a (38 ∷ gap b (showT t s)) (i .1))) in
+      (and-true-to (fitsA unmarked c) (fitsT unmarked t) (i .0) (j .0), j .1)
 
   plain-term : (t : Term) (s : List ℕ) → Plain (showT t s) → (fitsT unmarked t ≡ true) × Plain s
   plain-term tru s h = (refl, h)

@@ -1,5 +1,5 @@
--- 01, "The formula as text", with 02's marks: trees that keep their blanks and brackets, and the text of each. `showX x s` is x's text with
--- s behind it.
+-- 01, "The formula as text", with 02's marks and short forms: trees that keep their blanks and brackets, and the text of each. `showX x s` is
+-- x's text with s behind it. WrittenOut.antt says what the short forms stand for.
 use mathlib.Core.Path.{_≡_}
 use mathlib.Core.Bool.{Bool, true, false, _&&_}
 use mathlib.Core.List.{List, [], _∷_, _++_}
@@ -34,17 +34,23 @@ pub data Condition : Type 0 where
 pub data Quantifier : Type 0 where
   existential universal : Quantifier
 
--- A keyword with its square bracket.
+-- A keyword with its square bracket, if it has one. 02: "`EF`, `AG`, `DIA[A]` and `BOX[A]`"; "In DIA and BOX the bracket is a set."
 pub data Head : Type 0 where
   next : Quantifier → ℕ → ℕ → Condition → ℕ → Head
   until : ℕ → ℕ → Set → ℕ → Head
   untilThen : ℕ → ℕ → Set → ℕ → ℕ → Set → ℕ → Head
+  reach : Quantifier → Head
+  labelled : Quantifier → ℕ → ℕ → Set → ℕ → Head
 
 mutual
-  -- 01: "A formula is one or more terms joined by `|`, grouped from the left."
+  -- 01: "A formula is one or more terms joined by `|`, grouped from the left." 02: "`&` binds tighter than `|`; both group from the left"
   pub data Disjunction : Type 0 where
-    term : Term → Disjunction
-    or : Disjunction → ℕ → ℕ → Term → Disjunction
+    conjunction : Conjunction → Disjunction
+    or : Disjunction → ℕ → ℕ → Conjunction → Disjunction
+
+  pub data Conjunction : Type 0 where
+    term : Term → Conjunction
+    and : Conjunction → ℕ → ℕ → Term → Conjunction
 
   -- 01: "A term is `T`, `~` and a term, a keyword with its square bracket and a term, or a formula in round brackets."
   pub data Term : Type 0 where
@@ -79,15 +85,30 @@ abbrev pub showQ : Quantifier → List ℕ → List ℕ
 showQ existential s = 69 ∷ 88 ∷ s
 showQ universal s = 65 ∷ 88 ∷ s
 
+-- 02: EF and AG, DIA and BOX
+abbrev pub showR : Quantifier → List ℕ → List ℕ
+showR existential s = 69 ∷ 70 ∷ s
+showR universal s = 65 ∷ 71 ∷ s
+
+abbrev pub showL : Quantifier → List ℕ → List ℕ
+showL existential s = 68 ∷ 73 ∷ 65 ∷ s
+showL universal s = 66 ∷ 79 ∷ 88 ∷ s
+
 abbrev pub showH : Head → List ℕ → List ℕ
 showH (next q a b c d) s = showQ q (gap a (91 ∷ gap b (showC c (gap d (93 ∷ s)))))
 showH (until a b x d) s = 69 ∷ 85 ∷ gap a (91 ∷ gap b (showS x (gap d (93 ∷ s))))
 showH (untilThen a b x c d y e) s = 69 ∷ 85 ∷ gap a (91 ∷ gap b (showS x (gap c (59 ∷ gap d (showS y (gap e (93 ∷ s)))))))
+showH (reach q) s = showR q s
+showH (labelled q a b x d) s = showL q (gap a (91 ∷ gap b (showS x (gap d (93 ∷ s)))))
 
 abbrev mutual
   pub showF : Disjunction → List ℕ → List ℕ
-  showF (term t) s = showT t s
-  showF (or f a b t) s = showF f (gap a (124 ∷ gap b (showT t s)))
+  showF (conjunction c) s = showA c s
+  showF (or f a b c) s = showF f (gap a (124 ∷ gap b (showA c s)))
+
+  pub showA : Conjunction → List ℕ → List ℕ
+  showA (term t) s = showT t s
+  showA (and c a b t) s = showA c (gap a (38 ∷ gap b (showT t s)))
 
   pub showT : Term → List ℕ → List ℕ
   showT tru s = 84 ∷ s
@@ -121,11 +142,17 @@ abbrev pub fitsH : Marks → Head → Bool
 fitsH m (next q a b c d) = fitsC m c
 fitsH m (until a b x d) = fitsS m x
 fitsH m (untilThen a b x c d y e) = fitsS m x && fitsS m y
+fitsH m (reach q) = true
+fitsH m (labelled q a b x d) = fitsS m x
 
 abbrev mutual
   pub fitsF : Marks → Disjunction → Bool
-  fitsF m (term t) = fitsT m t
-  fitsF m (or f a b t) = fitsF m f && fitsT m t
+  fitsF m (conjunction c) = fitsA m c
+  fitsF m (or f a b c) = fitsF m f && fitsA m c
+
+  pub fitsA : Marks → Conjunction → Bool
+  fitsA m (term t) = fitsT m t
+  fitsA m (and c a b t) = fitsA m c && fitsT m t
 
   pub fitsT : Marks → Term → Bool
   fitsT m tru = true

@@ -1,7 +1,9 @@
 pub mod Actions
+pub mod Base
 pub mod ByGrammar
 pub mod Check
 pub mod Cursor
+pub mod Expansion
 pub mod Foreign
 pub mod FormulaReading
 pub mod Formulas
@@ -18,3 +20,4 @@ pub mod Shaped
 pub mod Sizes
 pub mod Walk
 pub mod Writing
+pub mod WrittenOut

@@ -1,4 +1,4 @@
--- The formula that a tree of the grammar stands for, over a table's label names.
+-- The formula that a tree of the base notation stands for, over a table's label names.
 use mathlib.Core.List.{List}
 use mathlib.Core.Option.{Option, none, some}
 use Prim.Native.Nat.{ℕ}
@@ -7,7 +7,8 @@ use Rattle.lts.specs.Names.{lookup}
 use Rattle.lts.specs.Directions.{Direction, labelDirection}
 use Rattle.actl.specs.Actions.{Action, Mask, maskOf, Cond, silent, labels}
 use Rattle.actl.specs.Formulas.{Formula}
-use Rattle.actl.specs.Grammar.{Name, Set, operand, union, Operand, name, any, received, sent, except, group, Condition, dot, set, Quantifier, existential, universal, Head, next, until, untilThen, Disjunction, term, or, Term, tru, not, modal, paren}
+use Rattle.actl.specs.Grammar.{Name, Set, operand, union, Operand, name, any, received, sent, except, group, Condition, dot, set, Quantifier, existential, universal}
+use Rattle.actl.specs.Base.{BaseHead, next, until, untilThen, Base, term, or, BaseTerm, tru, not, modal, paren}
 
 -- A label's number; 0, which satisfies no set, stands for a name that the table lacks.
 abbrev pub labelNumber : Option ℕ → ℕ
@@ -42,17 +43,17 @@ abbrev pub nextOf : Quantifier → Cond → Formula → Formula
 nextOf existential c f = Formula.ex c f
 nextOf universal c f = Formula.ax c f
 
-abbrev pub modalOf : List (List ℕ) → Head → Formula → Formula
+abbrev pub modalOf : List (List ℕ) → BaseHead → Formula → Formula
 modalOf names (next q a b c d) f = nextOf q (condOf names c) f
 modalOf names (until a b x d) f = Formula.eu (maskIn names x) f
 modalOf names (untilThen a b x c d y e) f = Formula.euThen (maskIn names x) (maskIn names y) f
 
 abbrev mutual
-  pub formulaOf : List (List ℕ) → Disjunction → Formula
+  pub formulaOf : List (List ℕ) → Base → Formula
   formulaOf names (term t) = formulaOfTerm names t
   formulaOf names (or f a b t) = Formula.or (formulaOf names f) (formulaOfTerm names t)
 
-  pub formulaOfTerm : List (List ℕ) → Term → Formula
+  pub formulaOfTerm : List (List ℕ) → BaseTerm → Formula
   formulaOfTerm names tru = Formula.tru
   formulaOfTerm names (not a t) = Formula.not (formulaOfTerm names t)
   formulaOfTerm names (modal h a t) = modalOf names h (formulaOfTerm names t)

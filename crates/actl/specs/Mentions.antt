@@ -2,7 +2,7 @@
 use mathlib.Core.List.{List, [], _∷_, _++_}
 use Prim.Native.Nat.{ℕ, _-_}
 use lib.ListN.{length}
-use Rattle.actl.specs.Grammar.{Name, Set, operand, union, Operand, name, any, received, sent, except, group, Condition, dot, set, Head, next, until, untilThen, Disjunction, term, or, Term, tru, not, modal, paren, gap, showS, showO, showT, showF}
+use Rattle.actl.specs.Grammar.{Name, Set, operand, union, Operand, name, any, received, sent, except, group, Condition, dot, set, Head, next, until, untilThen, reach, labelled, Disjunction, conjunction, or, Conjunction, term, and, Term, tru, not, modal, paren, gap, showS, showO, showT, showA, showF}
 
 pub record Mention : Type 0 where
   pub name : Name
@@ -29,11 +29,17 @@ abbrev pub namesH : Head → List ℕ → List Mention
 namesH (next q a b c d) s = namesC c (gap d (93 ∷ s))
 namesH (until a b x d) s = namesS x (gap d (93 ∷ s))
 namesH (untilThen a b x c d y e) s = namesS x (gap c (59 ∷ gap d (showS y (gap e (93 ∷ s))))) ++ namesS y (gap e (93 ∷ s))
+namesH (reach q) s = []
+namesH (labelled q a b x d) s = namesS x (gap d (93 ∷ s))
 
 abbrev mutual
   pub namesF : Disjunction → List ℕ → List Mention
-  namesF (term t) s = namesT t s
-  namesF (or f a b t) s = namesF f (gap a (124 ∷ gap b (showT t s))) ++ namesT t s
+  namesF (conjunction c) s = namesA c s
+  namesF (or f a b c) s = namesF f (gap a (124 ∷ gap b (showA c s))) ++ namesA c s
+
+  pub namesA : Conjunction → List ℕ → List Mention
+  namesA (term t) s = namesT t s
+  namesA (and c a b t) s = namesA c (gap a (38 ∷ gap b (showT t s))) ++ namesT t s
 
   pub namesT : Term → List ℕ → List Mention
   namesT tru s = []

@@ -6,7 +6,7 @@ use Prim.Native.Nat.{ℕ, zero, suc, _-_}
 use lib.Dec.{eqb}
 use lib.ListN.{length}
 use Rattle.lts.specs.Names.{isName}
-use Rattle.actl.specs.Grammar.{Name, Set, operand, union, Operand, name, any, received, sent, except, group, dot, set, Quantifier, existential, universal, Head, next, until, untilThen, Disjunction, term, or, Term, tru, not, modal, paren}
+use Rattle.actl.specs.Grammar.{Name, Set, operand, union, Operand, name, any, received, sent, except, group, dot, set, Quantifier, existential, universal, Head, next, until, untilThen, reach, labelled, Disjunction, conjunction, or, Conjunction, term, and, Term, tru, not, modal, paren}
 
 mutual
   pub data InDisjunction : Type 0 where
@@ -16,6 +16,7 @@ mutual
   pub data InTerm : Type 0 where
     tFirst : InDisjunction → InTerm
     tOr : Disjunction → ℕ → InDisjunction → ℕ → InTerm
+    tAnd : Disjunction → ℕ → InDisjunction → ℕ → InTerm
     tNot : InTerm → ℕ → InTerm
     tModal : Head → InTerm → ℕ → InTerm
 
@@ -25,6 +26,7 @@ mutual
     sNext : Quantifier → ℕ → InTerm → ℕ → InSet
     sUntil : ℕ → InTerm → ℕ → InSet
     sThen : ℕ → ℕ → Set → ℕ → InTerm → ℕ → InSet
+    sLabelled : Quantifier → ℕ → InTerm → ℕ → InSet
 
   pub data InOperand : Type 0 where
     oFirst : InSet → InOperand
@@ -36,6 +38,9 @@ pub data State : Type 0 where
   termAt : InTerm → State
   afterE : InTerm → State
   afterA : InTerm → State
+  afterFirst : Quantifier → InTerm → State
+  afterSecond : Quantifier → InTerm → State
+  afterLabelled : Quantifier → InTerm → ℕ → State
   afterNext : Quantifier → InTerm → ℕ → State
   afterUntil : InTerm → ℕ → State
   bracketAt : Quantifier → ℕ → InTerm → ℕ → State
@@ -52,9 +57,15 @@ pub data ReaderStep : Type 0 where
 abbrev pub on : ℕ → ℕ → ReaderStep → ReaderStep → ReaderStep
 on b m x y = cond (eqb b m) x y
 
+-- A term joined by `&`. It binds tighter than the `|` before it: the term joins the last conjunction.
+abbrev pub andLast : Disjunction → ℕ → ℕ → Term → Disjunction
+andLast (conjunction c) a b t = conjunction (and c a b t)
+andLast (or f g h c) a b t = or f g h (and c a b t)
+
 abbrev pub plugT : Term → InTerm → State
-plugT t (tFirst k) = afterDisjunction (term t) k 0
-plugT t (tOr f a k b) = afterDisjunction (or f a b t) k 0
+plugT t (tFirst k) = afterDisjunction (conjunction (term t)) k 0
+plugT t (tOr f a k b) = afterDisjunction (or f a b (term t)) k 0
+plugT t (tAnd f a k b) = afterDisjunction (andLast f a b t) k 0
 plugT t (tNot k a) = plugT (not a t) k
 plugT t (tModal h k a) = plugT (modal h a t) k
 
@@ -70,6 +81,7 @@ blankF (fParen k a) = go (termAt (tFirst (fParen k (suc a))))
 abbrev pub blankT : InTerm → ReaderStep
 blankT (tFirst k) = blankF k
 blankT (tOr f a k b) = go (termAt (tOr f a k (suc b)))
+blankT (tAnd f a k b) = go (termAt (tAnd f a k (suc b)))
 blankT (tNot k a) = go (termAt (tNot k (suc a)))
 blankT (tModal h k a) = go (termAt (tModal h k (suc a)))
 
@@ -78,6 +90,7 @@ blankS (sParen k a) = sParen k (suc a)
 blankS (sNext q a k b) = sNext q a k (suc b)
 blankS (sUntil a k b) = sUntil a k (suc b)
 blankS (sThen a b x c k d) = sThen a b x c k (suc d)
+blankS (sLabelled q a k b) = sLabelled q a k (suc b)
 
 abbrev pub blankO : InOperand → InOperand
 blankO (oFirst k) = oFirst (blankS k)
@@ -87,7 +100,7 @@ blankO (oNot k a) = oNot k (suc a)
 abbrev pub termStep : InTerm → ℕ → ReaderStep
 termStep k b =
     on b 84 (go (plugT tru k)) (on b 126 (go (termAt (tNot k 0))) (on b 40 (go (termAt (tFirst (fParen k 0))))
-    (on b 69 (go (afterE k)) (on b 65 (go (afterA k)) stop))))
+    (on b 69 (go (afterE k)) (on b 65 (go (afterA k)) (on b 68 (go (afterFirst existential k)) (on b 66 (go (afterFirst universal k)) stop))))))
 
 -- The bytes l as a name, where they are one.
 abbrev pub named : (l : List ℕ) → InOperand → (t : Bool) → isName l ≡ t → ReaderStep → ReaderStep
@@ -105,6 +118,7 @@ closeStep x (sParen k a) g b = on b 41 (go (plugO (group a x g) k)) stop
 closeStep x (sNext q a k c) g b = on b 93 (go (termAt (tModal (next q a c (set x) g) k 0))) stop
 closeStep x (sUntil a k c) g b = on b 93 (go (termAt (tModal (until a c x g) k 0))) (on b 59 (go (operandAt (oFirst (sThen a c x g k 0)))) stop)
 closeStep y (sThen a c x d k e) g b = on b 93 (go (termAt (tModal (untilThen a c x d e y g) k 0))) stop
+closeStep x (sLabelled q a k c) g b = on b 93 (go (termAt (tModal (labelled q a c x g) k 0))) stop
 
 abbrev pub setStep : Set → InSet → ℕ → ℕ → ReaderStep
 setStep x k g b = on b 32 (go (afterSet x k (suc g))) (on b 124 (go (operandAt (oOr x g k 0))) (closeStep x k g b))
@@ -119,10 +133,22 @@ abbrev pub parenStep : Disjunction → InDisjunction → ℕ → ℕ → ReaderS
 parenStep f fTop g b = stop
 parenStep f (fParen k a) g b = on b 41 (go (plugT (paren a f g) k)) stop
 
+-- The second letter of DIA or BOX, and the third.
+abbrev pub second : Quantifier → ℕ
+second existential = 73
+second universal = 79
+
+abbrev pub third : Quantifier → ℕ
+third existential = 65
+third universal = 88
+
 abbrev pub readByte : State → ℕ → ReaderStep
 readByte (termAt k) b = on b 32 (blankT k) (termStep k b)
-readByte (afterE k) b = on b 88 (go (afterNext existential k 0)) (on b 85 (go (afterUntil k 0)) stop)
-readByte (afterA k) b = on b 88 (go (afterNext universal k 0)) stop
+readByte (afterE k) b = on b 88 (go (afterNext existential k 0)) (on b 85 (go (afterUntil k 0)) (on b 70 (go (termAt (tModal (reach existential) k 0))) stop))
+readByte (afterA k) b = on b 88 (go (afterNext universal k 0)) (on b 71 (go (termAt (tModal (reach universal) k 0))) stop)
+readByte (afterFirst q k) b = on b (second q) (go (afterSecond q k)) stop
+readByte (afterSecond q k) b = on b (third q) (go (afterLabelled q k 0)) stop
+readByte (afterLabelled q k g) b = on b 32 (go (afterLabelled q k (suc g))) (on b 91 (go (operandAt (oFirst (sLabelled q g k 0)))) stop)
 readByte (afterNext q k g) b = on b 32 (go (afterNext q k (suc g))) (on b 91 (go (bracketAt q g k 0)) stop)
 readByte (afterUntil k g) b = on b 32 (go (afterUntil k (suc g))) (on b 91 (go (operandAt (oFirst (sUntil g k 0)))) stop)
 readByte (bracketAt q a k g) b = on b 32 (go (bracketAt q a k (suc g))) (on b 46 (go (afterDot q a g k 0)) (operandStep (oFirst (sNext q a k g)) b))
@@ -130,7 +156,7 @@ readByte (operandAt k) b = on b 32 (go (operandAt (blankO k))) (operandStep k b)
 readByte (afterDot q a c k g) b = on b 32 (go (afterDot q a c k (suc g))) (on b 93 (go (termAt (tModal (next q a c dot g) k 0))) stop)
 readByte (naming n k) b = named (n .bytes ++ (b ∷ [])) k (isName (n .bytes ++ (b ∷ []))) refl (leaveO (name n) k b)
 readByte (afterSet x k g) b = setStep x k g b
-readByte (afterDisjunction f k g) b = on b 32 (go (afterDisjunction f k (suc g))) (on b 124 (go (termAt (tOr f g k 0))) (parenStep f k g b))
+readByte (afterDisjunction f k g) b = on b 32 (go (afterDisjunction f k (suc g))) (on b 38 (go (termAt (tAnd f g k 0))) (on b 124 (go (termAt (tOr f g k 0))) (parenStep f k g b)))
 
 -- A formula that is the whole text, or what is left from the byte that no grammatical text has there.
 pub data Result : Type 0 where
@@ -146,6 +172,9 @@ abbrev pub finish : State → Result
 finish (termAt k) = refused []
 finish (afterE k) = refused []
 finish (afterA k) = refused []
+finish (afterFirst q k) = refused []
+finish (afterSecond q k) = refused []
+finish (afterLabelled q k g) = refused []
 finish (afterNext q k g) = refused []
 finish (afterUntil k g) = refused []
 finish (bracketAt q a k g) = refused []

@@ -6,20 +6,21 @@ use mathlib.Core.List.{List, [], _∷_, _++_}
 use mathlib.Core.Option.{Option, none, some}
 use Prim.Native.Nat.{ℕ, zero, suc, _+_, _*_, _-_, _≤_, _<_}
 use lib.ListN.{length, take, drop}
-use Rattle.actl.specs.Sizes.{longestText, nodeSlotLength, readingLength}
+use Rattle.actl.specs.Sizes.{longestText, mostNodes, nodeSlotLength, formulaLength}
 use Rattle.columns.specs.Write.{pasted}
 use Rattle.lts.specs.Lists.{bind}
 use Rattle.lts.specs.Names.{lookup}
 use Rattle.lts.specs.Prepared.{tableIn}
 use Rattle.lts.specs.HoldsTable.{HoldsTable}
-use Rattle.actl.specs.Actions.{Cond}
+use Rattle.actl.specs.Actions.{Action, Mask, Cond}
 use Rattle.actl.specs.Formulas.{Formula, size, nodes}
-use Rattle.actl.specs.Grammar.{gap, Set, Operand, Condition, Quantifier, Head, next, Disjunction, Term, showS, showO, showC, showH, showF, showT}
-use Rattle.actl.specs.Reader.{oFirst, InTerm, tFirst, tModal, termAt, afterNext, afterUntil, operandAt, afterSet, afterDisjunction, plugO, plugT, read, whole, refused}
+use Rattle.actl.specs.Grammar.{gap, Set, Operand, Condition, Quantifier, existential, universal, Head, next, until, untilThen, reach, labelled, Disjunction, Conjunction, Term, showS, showO, showC, showH, showF, showT}
+use Rattle.actl.specs.WrittenOut.{writtenOut, writtenOutConjunction, writtenOutTerm}
+use Rattle.actl.specs.Reader.{oFirst, InTerm, tFirst, tModal, termAt, afterNext, afterUntil, afterFirst, second, third, operandAt, afterSet, afterDisjunction, plugO, plugT, read, whole, refused}
 use Rattle.actl.specs.Mentions.{Mention, namesS, namesO, namesC, namesH, namesF, namesT}
-use Rattle.actl.specs.Meaning.{labelsOf, actionOfOperand, maskIn, condOf, modalOf, formulaOf, formulaOfTerm}
+use Rattle.actl.specs.Meaning.{labelsOf, actionOfOperand, maskIn, condOf, formulaOf, formulaOfTerm}
 use Rattle.actl.specs.Reading.{unknownAt, firstUnknown}
-use Rattle.actl.specs.Prepared.{Slot, slot, slotOf, slotBytes}
+use Rattle.actl.specs.Prepared.{Slot, slot, nextSlot, slotOf, slotBytes}
 use Rattle.actl.specs.Cursor.{peek, Token, Moves, Marked}
 
 -- The label names of the table in prepared bytes.
@@ -85,20 +86,58 @@ pub record NextRead (N : List (List ℕ)) (s : List ℕ) (at lost to : ℕ) (met
   pub means : condOf N condition ≡ met
   pub lacks : left ≡ earlier lost (unknownIn N (length s) (namesC condition (gap behind (93 ∷ drop to s))))
 
+-- The formula of a part of the text, written out.
+abbrev pub formulaF : List (List ℕ) → Disjunction → Formula
+formulaF N f = formulaOf N (writtenOut f)
+
+abbrev pub formulaA : List (List ℕ) → Conjunction → Formula
+formulaA N c = formulaOfTerm N (writtenOutConjunction c)
+
+abbrev pub formulaT : List (List ℕ) → Term → Formula
+formulaT N t = formulaOfTerm N (writtenOutTerm t)
+
+-- The node between two `~`, where every path or step is meant.
+abbrev pub dualSlots : Quantifier → Slot → List Slot
+dualSlots existential v = v ∷ []
+dualSlots universal v = slot 2 0 0 ∷ v ∷ slot 2 0 0 ∷ []
+
+abbrev pub nextKind : Quantifier → ℕ
+nextKind existential = 4
+nextKind universal = 6
+
+-- The nodes that a keyword puts before those of its arm.
+abbrev pub headSlots : List (List ℕ) → Head → List Slot
+headSlots N (next q a b c d) = nextSlot (nextKind q) (condOf N c) ∷ []
+headSlots N (until a b x d) = slot 8 (maskIn N x) 0 ∷ []
+headSlots N (untilThen a b x c d y e) = slot 9 (maskIn N x) (maskIn N y) ∷ []
+headSlots N (reach q) = dualSlots q (slot 8 (labelsOf N Action.any) 0)
+headSlots N (labelled q a b x d) = dualSlots q (slot 5 (maskIn N x) 0)
+
 -- The bracket of EU.
 pub record UntilRead (N : List (List ℕ)) (s : List ℕ) (at lost to : ℕ) (node : Slot) (left : ℕ) : Type 0 where
   pub value : Head
   pub text : List ℕ → List ℕ
   pub shows : (r : List ℕ) → showH value r ≡ 69 ∷ 85 ∷ text r
   pub moves : Moves s at to text (λ k. afterUntil k 0) (λ k. termAt (tModal value k 0))
-  pub means : (f : Formula) → slotOf (modalOf N value f) ≡ node
+  pub means : headSlots N value ≡ node ∷ []
   pub lacks : left ≡ earlier lost (unknownIn N (length s) (namesH value (drop to s)))
 
-pub record HeadRead (N : List (List ℕ)) (s : List ℕ) (at lost to : ℕ) (node : Slot) (left : ℕ) : Type 0 where
+-- The rest of DIA or BOX behind its first letter, with the bracket.
+pub record LabelledRead (N : List (List ℕ)) (s : List ℕ) (q : Quantifier) (at lost to : ℕ) (mask : Mask) (left : ℕ) : Type 0 where
+  pub before : ℕ
+  pub inside : ℕ
+  pub value : Set
+  pub behind : ℕ
+  pub moves : Moves s at to (λ r. second q ∷ third q ∷ gap before (91 ∷ gap inside (showS value (gap behind (93 ∷ r))))) (afterFirst q) (λ k. termAt (tModal (labelled q before inside value behind) k 0))
+  pub means : mask ≡ maskIn N value
+  pub lacks : left ≡ earlier lost (unknownIn N (length s) (namesS value (gap behind (93 ∷ drop to s))))
+
+-- A keyword, and the nodes that it puts before its arm's.
+pub record HeadRead (N : List (List ℕ)) (s : List ℕ) (at lost to : ℕ) (slots : List Slot) (left : ℕ) : Type 0 where
   pub value : Head
   pub up : at < to
   pub moves : Moves s at to (showH value) termAt (λ k. termAt (tModal value k 0))
-  pub means : (f : Formula) → slotOf (modalOf N value f) ≡ node
+  pub means : headSlots N value ≡ slots
   pub lacks : left ≡ earlier lost (unknownIn N (length s) (namesH value (drop to s)))
 
 -- A place at which no `T`, `~` or `(` stands: a term there begins with a keyword.
@@ -106,6 +145,12 @@ pub record NoMark (s : List ℕ) (at : ℕ) : Type 0 where
   pub no-true : peek s at ≡ 84 → ⊥
   pub no-not : peek s at ≡ 126 → ⊥
   pub no-paren : peek s at ≡ 40 → ⊥
+
+-- A place at which no EX, AX or EU stands.
+pub record NoLong (s : List ℕ) (at : ℕ) : Type 0 where
+  pub no-ex : peek s at ≡ 69 → peek s (at + 1) ≡ 88 → ⊥
+  pub no-ax : peek s at ≡ 65 → peek s (at + 1) ≡ 88 → ⊥
+  pub no-eu : peek s at ≡ 69 → peek s (at + 1) ≡ 85 → ⊥
 
 -- How far a text without keyword there can go on: past an E or an A.
 abbrev pub NoKeyword : List ℕ → ℕ → ℕ → Type 0
@@ -119,28 +164,47 @@ bytesOfNodes F = bind (λ f. slotBytes (slotOf f)) (nodes F)
 abbrev pub putAt : ℕ → Slot → List ℕ → List ℕ
 putAt k node b = pasted b (1 + k * nodeSlotLength) (slotBytes node)
 
--- Bytes with `|` written before the nodes from `start` up to n, which move up by one.
-abbrev pub joinedAt : ℕ → ℕ → List ℕ → List ℕ
-joinedAt start n b = pasted b (1 + start * nodeSlotLength) (slotBytes (slot 3 0 0) ++ drop (1 + start * nodeSlotLength) (take (1 + n * nodeSlotLength) b))
-
--- The bytes x are the bytes e with l written from node n on, up to node m.
+-- The bytes x are the bytes e with l written from node n on, up to node m. Of a text of more than 40 nodes the nodes are counted alone.
 pub record NodesWritten (n m : ℕ) (e x l : List ℕ) : Type 0 where
   pub ends : 1 + m * nodeSlotLength ≡ 1 + n * nodeSlotLength + length l
-  pub fits : m ≤ longestText
-  pub made : x ≡ pasted e (1 + n * nodeSlotLength) l
+  pub long : length x ≡ length e
+  pub made : m ≤ mostNodes → x ≡ pasted e (1 + n * nodeSlotLength) l
 
--- Room for the nodes of what is left of the text: there are no more nodes than bytes.
+-- The nodes from `start` up to n moved up by w in the bytes x: whatever is put into their place stands before them.
+pub record NodesMoved (start n w : ℕ) (e x : List ℕ) : Type 0 where
+  pub long : length x ≡ length e
+  pub made : n + w ≤ mostNodes → (l : List ℕ) → length l ≡ w * nodeSlotLength → pasted x (1 + start * nodeSlotLength) l ≡ pasted e (1 + start * nodeSlotLength) (l ++ drop (1 + start * nodeSlotLength) (take (1 + n * nodeSlotLength) e))
+
+-- The nodes from `start` up to n stand between two lists of nodes, of w nodes together, in the bytes x.
+pub record NodesEnclosed (start n w : ℕ) (before behind e x : List ℕ) : Type 0 where
+  pub long : length x ≡ length e
+  pub made : n + w ≤ mostNodes → x ≡ pasted e (1 + start * nodeSlotLength) (before ++ (drop (1 + start * nodeSlotLength) (take (1 + n * nodeSlotLength) e) ++ behind))
+
+-- `~`, `|` and `~`, which stand before the left side of `&`, and the `~` before its right side.
+abbrev pub orBytes : List ℕ
+orBytes = slotBytes (slot 3 0 0)
+
+abbrev pub notBytes : List ℕ
+notBytes = slotBytes (slot 2 0 0)
+
+abbrev pub andBytes : List ℕ
+andBytes = notBytes ++ (orBytes ++ notBytes)
+
+-- A byte of the text makes at most four nodes.
+abbrev pub mostCounted : ℕ
+mostCounted = 4 * longestText
+
+-- Bytes for 40 nodes; n are counted up to a place.
 pub record NodeRoom (e : List ℕ) (at n : ℕ) : Type 0 where
-  pub below : n ≤ at
-  pub long : length e ≡ readingLength
+  pub below : n ≤ 4 * at
+  pub long : length e ≡ formulaLength
 
 pub record TermRead (N : List (List ℕ)) (s : List ℕ) (at n lost : ℕ) (e : List ℕ) (to m left : ℕ) (x : List ℕ) : Type 0 where
   pub value : Term
   pub up : at < to
-  pub few : m + at ≤ n + to
-  pub count : m ≡ n + size (formulaOfTerm N value)
+  pub few : m + 4 * at ≤ n + 4 * to
   pub moves : Moves s at to (showT value) termAt (plugT value)
-  pub written : NodesWritten n m e x (bytesOfNodes (formulaOfTerm N value))
+  pub written : NodesWritten n m e x (bytesOfNodes (formulaT N value))
   pub lacks : left ≡ earlier lost (unknownIn N (length s) (namesT value (drop to s)))
 
 -- A formula ends at one place, and the blanks behind it at the other.
@@ -148,12 +212,12 @@ pub record FormulaRead (N : List (List ℕ)) (s : List ℕ) (at n lost : ℕ) (e
   pub value : Disjunction
   pub up : at < end
   pub blanks : end ≤ to
-  pub few : m + at ≤ n + end
-  pub count : m ≡ n + size (formulaOf N value)
+  pub few : m + 4 * at ≤ n + 4 * end
   pub token : Token s to
-  pub last : peek s to ≡ 124 → ⊥
+  pub no-and : peek s to ≡ 38 → ⊥
+  pub no-or : peek s to ≡ 124 → ⊥
   pub moves : Moves s at to (λ r. showF value (gap (to - end) r)) (λ k. termAt (tFirst k)) (λ k. afterDisjunction value k (to - end))
-  pub written : NodesWritten n m e x (bytesOfNodes (formulaOf N value))
+  pub written : NodesWritten n m e x (bytesOfNodes (formulaF N value))
   pub lacks : left ≡ earlier lost (unknownIn N (length s) (namesF value (gap (to - end) (drop to s))))
 
 -- A formula, and the `)` behind it.
@@ -170,13 +234,13 @@ pub record Unbracketed (N : List (List ℕ)) (s : List ℕ) (at n lost : ℕ) (e
   pub contents : FormulaRead N s at n lost e end to m left x
   pub other : peek s to ≡ 41 → ⊥
 
--- A whole text: its nodes in the bytes e, how many there are, and the first name that the table lacks.
+-- A whole text: how many nodes it has, written out; the nodes in the bytes e, if they are not too many; the first name that the table lacks.
 pub record WholeRead (N : List (List ℕ)) (s e x : List ℕ) (n left : ℕ) : Type 0 where
   pub value : Disjunction
   pub reads : read s ≡ whole value
-  pub count : n ≡ size (formulaOf N value)
-  pub long : length x ≡ readingLength
-  pub made : x ≡ pasted e 1 (bytesOfNodes (formulaOf N value))
+  pub count : n ≡ size (formulaF N value)
+  pub long : length x ≡ length e
+  pub made : n ≤ mostNodes → x ≡ pasted e 1 (bytesOfNodes (formulaF N value))
   pub lacks : left ≡ earlier 0 (firstUnknown N value (namesF value []))
 
 -- 01: "length of the longest beginning that some grammatical text, of any length, has"

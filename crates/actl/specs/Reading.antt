@@ -12,6 +12,7 @@ use Rattle.actl.specs.Formulas.{Formula, size, highestWithoutClass}
 use Rattle.actl.specs.Grammar.{Disjunction}
 use Rattle.actl.specs.Reader.{Result, whole, refused, read}
 use Rattle.actl.specs.Mentions.{Mention, namesF, offset}
+use Rattle.actl.specs.WrittenOut.{writtenOut}
 use Rattle.actl.specs.Meaning.{formulaOf}
 
 -- Goes on if there is nothing to refuse, and else refuses with a number and what was found.
@@ -32,13 +33,17 @@ firstUnknown names f (m ∷ l) = unknownAt (lookup names (m .name .bytes)) (offs
 abbrev pub withClasses : Formula → Reply Formula
 withClasses F = unless (leb (size F) mostNodes) 8 (size F) (unlessFound (highestWithoutClass F) 9 (accepted F))
 
--- Behind the grammar, of a text whose tree is f: 7, 8, 9, or the formula.
+-- Behind the grammar, of a text whose tree is f: 7 measures the text; 8, 9 and the formula are those of the tree written out.
 abbrev pub onTree : List (List ℕ) → Disjunction → Reply Formula
-onTree names f = unlessFound (firstUnknown names f (namesF f [])) 7 (withClasses (formulaOf names f))
+onTree names f = unlessFound (firstUnknown names f (namesF f [])) 7 (withClasses (formulaOf names (writtenOut f)))
 
 abbrev pub onResult : List (List ℕ) → List ℕ → Result → Reply Formula
 onResult names text (refused rest) = refusal 6 (length text - length rest)
 onResult names text (whole f) = onTree names f
 
+-- A text of any length.
+abbrev pub readUnlimited : List (List ℕ) → List ℕ → Reply Formula
+readUnlimited names text = onResult names text (read text)
+
 unfoldable pub readFormula : List (List ℕ) → List ℕ → Reply Formula
-readFormula names text = unless (leb (length text) longestText) 5 (length text) (onResult names text (read text))
+readFormula names text = unless (leb (length text) longestText) 5 (length text) (readUnlimited names text)

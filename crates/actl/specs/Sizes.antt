@@ -16,10 +16,6 @@ nodeSlotLength = 17
 abbrev pub formulaLength : ℕ
 formulaLength = suc (mostNodes * nodeSlotLength)
 
--- What reading keeps: laid out as a prepared formula, with a slot for each byte of the text. There are no more nodes than bytes.
-abbrev pub readingLength : ℕ
-readingLength = suc (longestText * nodeSlotLength)
-
 -- Every node at every state.
 abbrev pub nodePositions : ℕ
 nodePositions = mostNodes * mostStates

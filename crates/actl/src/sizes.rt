@@ -10,8 +10,5 @@ pub const NODE_SLOT: usize = 17;
 
 pub const FORMULA_LENGTH: usize = 1 + NODES * NODE_SLOT;
 
-// What reading keeps: laid out as a prepared formula, with a slot for each byte of the text. There are no more nodes than bytes.
-pub const READING_LENGTH: usize = 1 + LONGEST_TEXT * NODE_SLOT;
-
 // Every node at every state.
 pub const NODE_POSITIONS: usize = NODES * STATES;

@@ -2,6 +2,7 @@ pub mod Beginnings
 pub mod BenchSheet
 pub mod Demands
 pub mod Examples
+pub mod Expanded
 pub mod Grammatical
 pub mod Languages
 pub mod Lines

@@ -1,6 +1,7 @@
 pub mod BenchSheet
 pub mod BothTexts
 pub mod Demands
+pub mod Expanded
 pub mod Explanation
 pub mod Positions
 pub mod Printed

@@ -2,21 +2,19 @@
 use mathlib.Core.Path.{_≡_, refl, sym, ap, _∙_}
 use mathlib.Core.List.{List, [], _∷_}
 use Prim.Native.Nat.{ℕ, zero, suc, _-_, _≤_}
-use native.Mathlib.Nat.{zero-add}
 use native.Mathlib.Decide.{decLe}
 use native.Mathlib.Omega.{arith}
 use lib.ListN.{length, drop, length-drop, drop-of-length-le}
 use lib.Seq.{drop-cons}
-use Rattle.actl.specs.Sizes.{readingLength}
 use Rattle.actl.specs.Grammar.{gap, showF}
 use Rattle.actl.specs.Reader.{fTop, tFirst, termAt, afterDisjunction, stop, readByte, finishDisjunction, proceed, run, start, read, refused}
 use Rattle.actl.specs.Mentions.{namesF}
 use Rattle.actl.specs.Cursor.{peek, Token, Marked, Fails}
-use Rattle.actl.specs.Readers.{unknownIn, earlier, FormulaRead, WholeRead, RefusedAt}
+use Rattle.actl.specs.Readers.{unknownIn, earlier, formulaF, FormulaRead, WholeRead, RefusedAt}
 use Rattle.formula_cursor.proofs.ReadingPlaces.{run-stop}
 use Rattle.formula_cursor.proofs.ReadingMoves.{on-other}
 use Rattle.actl.proofs.ReadingLabels.{first-unknown}
-use Rattle.actl.proofs.ReadingNodes.{written-length}
+use Rattle.actl.proofs.ReadingNodes.{bytes-length}
 
 pub refused-at : (s : List ℕ) (to : ℕ) → to ≤ length s → read s ≡ refused (drop to s) → RefusedAt s to
 refused-at s to h e = record { rest = drop to s; reads = e; figure = omega (arith, length-drop to s) }
@@ -40,7 +38,7 @@ module _ {N : List (List ℕ)} {s e : List ℕ} {end to m l : ℕ} {x : List ℕ
       ends (suc g) z w = refl
 
       stuck : readByte (afterDisjunction (h .value) fTop (to - end)) (peek s to) ≡ stop
-      stuck = on-other (peek s to) 32 _ _ (h .token .past) ∙ on-other (peek s to) 124 _ _ (h .last)
+      stuck = on-other (peek s to) 32 _ _ (h .token .past) ∙ (on-other (peek s to) 38 _ _ (h .no-and) ∙ on-other (peek s to) 124 _ _ (h .no-or))
 
       rest : Dec (length s ≤ to) → run (drop to s) (afterDisjunction (h .value) fTop (to - end)) ≡ refused (drop to s)
       rest (yes w) = let d = drop-of-length-le s w in ap (λ r. run r (afterDisjunction (h .value) fTop (to - end))) d ∙ (ends (to - end) refl w ∙ ap refused (sym d))
@@ -48,8 +46,8 @@ module _ {N : List (List ℕ)} {s e : List ℕ} {end to m l : ℕ} {x : List ℕ
           let d = drop-cons s to 256 (omega arith) in
           ap (λ r. run r (afterDisjunction (h .value) fTop (to - end))) d ∙ (ap (λ v. proceed v (run (drop (suc to) s)) (refused (peek s to ∷ drop (suc to) s))) stuck ∙ ap refused (sym d))
 
-  pub text-whole : length e ≡ readingLength → end ≡ length s → WholeRead N s e x m l
-  text-whole long z =
+  pub text-whole : end ≡ length s → WholeRead N s e x m l
+  text-whole z =
       let w : to ≡ length s = omega (arith, h .blanks, h .moves .within) in
       let b : to - end ≡ 0 = omega arith in
       let d : drop to s ≡ [] = drop-of-length-le s (let v : length s ≤ to = omega arith in v) in
@@ -57,8 +55,8 @@ module _ {N : List (List ℕ)} {s e : List ℕ} {end to m l : ℕ} {x : List ℕ
       record {
         value = h .value;
         reads = h .moves .reads fTop ∙ (λ i. run (d i) (afterDisjunction (h .value) fTop (b i)));
-        count = h .count ∙ zero-add _;
-        long = written-length long (h .written);
+        count = omega (arith, h .written .ends, bytes-length (formulaF N (h .value)));
+        long = h .written .long;
         made = h .written .made;
         lacks = h .lacks ∙ (λ i. earlier 0 (unknownIn N (length (t i)) (namesF (h .value) (gap (b i) (d i))))) ∙ ap (earlier 0) (first-unknown N (h .value) (namesF (h .value) []));
       }

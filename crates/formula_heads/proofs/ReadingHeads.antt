@@ -1,24 +1,26 @@
 -- What the readers of keywords and their square brackets show at each of their answers.
 use mathlib.Core.Path.{_≡_, refl, sym, ap, _∙_, subst}
 use mathlib.Core.Logic.{_⊎_, inl, inr}
-use mathlib.Core.List.{List, _∷_}
-use Prim.Native.Nat.{ℕ, _+_, _-_, _<_}
+use mathlib.Core.List.{List, [], _∷_}
+use Prim.Native.Nat.{ℕ, _+_, _-_, _≤_, _<_}
 use native.Mathlib.Omega.{arith}
-use lib.ListN.{length, drop}
-use Rattle.actl.specs.Actions.{Cond, silent, labels}
-use Rattle.actl.specs.Formulas.{Formula}
-use Rattle.actl.specs.Grammar.{gap, dot, set, Quantifier, existential, universal, next, until, untilThen, showS, showQ}
-use Rattle.actl.specs.Reader.{InSet, sNext, sUntil, sThen, InTerm, tModal, oFirst, termAt, afterE, afterA, afterNext, afterUntil, bracketAt, afterDot, operandAt, afterSet}
-use Rattle.actl.specs.Meaning.{condOf, nextOf}
+use lib.ListN.{length, getD, drop}
+use Rattle.actl.specs.Actions.{Action, Mask, Cond, silent, labels}
+use Rattle.actl.specs.Grammar.{gap, dot, set, Quantifier, existential, universal, next, until, untilThen, reach, labelled, showS, showQ}
+use Rattle.actl.specs.Reader.{InSet, sNext, sUntil, sThen, sLabelled, InTerm, tModal, oFirst, termAt, afterE, afterA, afterFirst, afterSecond, afterLabelled, afterNext, afterUntil, bracketAt, afterDot, operandAt, afterSet, go, second, third, readByte}
+use Rattle.actl.specs.Meaning.{labelsOf, condOf}
 use Rattle.actl.specs.Mentions.{namesS}
-use Rattle.actl.specs.Prepared.{slot, nextSlot, slotOf}
+use Rattle.actl.specs.Prepared.{slot, nextSlot}
 use Rattle.actl.specs.Cursor.{peek, Token, Skipped, Moves, Fails, Marked, Tokened, Keyword}
-use Rattle.actl.specs.Readers.{unknownIn, earlier, SetRead, EnclosedRead, Unclosed, NextRead, UntilRead, NoMark, NoKeyword}
-use Rattle.formula_heads.specs.HeadReplies.{NextAnswer, UntilAnswer, HeadAnswer, exNode, axNode, headingOf}
+use Rattle.actl.specs.Readers.{unknownIn, earlier, nextKind, SetRead, EnclosedRead, Unclosed, NextRead, UntilRead, LabelledRead, HeadRead, NoMark, NoLong, NoKeyword}
+use Rattle.formula_heads.specs.HeadReplies.{NextAnswer, UntilAnswer, LabelledAnswer, HeadAnswer, exNode, axNode, headingOf, diamondOf, boxOf}
 use Rattle.formula_heads.specs.declared.Bracket.{Bracket}
 use Rattle.formula_heads.specs.declared.Bracket.the-variants.{Read, Refused}
 use Rattle.formula_heads.specs.declared.Heading.{Heading}
 use Rattle.formula_heads.specs.declared.Heading.the-variants as heading
+use Rattle.formula_sets.specs.SetReplies.{EnclosedAnswer}
+use Rattle.formula_sets.specs.declared.Labels.{Labels}
+use Rattle.formula_sets.specs.declared.Labels.the-variants as sets
 use Rattle.formulas.specs.Access.{condIn, slotOfNode}
 use Rattle.formulas.specs.declared.node.Condition.{Condition}
 use Rattle.formulas.specs.declared.node.Node.{Node}
@@ -109,7 +111,7 @@ module _ (N : List (List ℕ)) (s : List ℕ) (at lost o : ℕ) (k : Skipped s a
             text = λ r. gap (o - at) (91 ∷ gap (d - (o + 1)) (showS (c .value) (gap (c .blanks) (93 ∷ r))));
             shows = λ r. refl;
             moves = then behind-set v;
-            means = λ f. ap (λ z. slot 8 z 0) (sym (c .means));
+            means = ap (λ z. slot 8 z 0 ∷ []) (sym (c .means));
             lacks = c .lacks ∙ ap (λ r. earlier lost (unknownIn N (length s) (namesS (c .value) (gap (c .blanks) r)))) (v .text);
           }
 
@@ -137,7 +139,7 @@ module _ (N : List (List ℕ)) (s : List ℕ) (at lost o : ℕ) (k : Skipped s a
               text = λ r. gap (o - at) (91 ∷ gap (d - (o + 1)) (showS (c .value) (gap (c .blanks) (59 ∷ gap (g - (e + 1)) (showS (y .value) (gap (y .blanks) (93 ∷ r)))))));
               shows = λ r. refl;
               moves = then behind-set (then at-then w);
-              means = λ f. λ i. slot 9 (sym (c .means) i) (sym (y .means) i);
+              means = λ i. slot 9 (sym (c .means) i) (sym (y .means) i) ∷ [];
               lacks = y .lacks ∙ (ap (λ z. earlier z (unknownIn N (length s) (namesS (y .value) (gap (y .blanks) (drop (h .end) s))))) (c .lacks)
                   ∙ (ap (λ (p : List ℕ × List ℕ). earlier (earlier lost (unknownIn N (length s) (namesS (c .value) (gap (c .blanks) (p .0))))) (unknownIn N (length s) (namesS (y .value) (gap (y .blanks) (p .1)))))
                   (λ i. ((at-then .text ∙ ap (λ r. 59 ∷ gap (g - (e + 1)) r) (w .text)) i, v .text i))
@@ -148,6 +150,64 @@ module _ (N : List (List ℕ)) (s : List ℕ) (at lost o : ℕ) (k : Skipped s a
         unfolding then-at
         then-fails (inl h) = fail (then behind-set at-then) (fail-only then-at h)
         then-fails (inr h) = fail (then behind-set at-then) (set-stops h then-at (λ v n i z. on-other _ 93 _ _ z))
+
+-- DIA and BOX behind their first letter.
+small : (q : Quantifier) → (second q < 256) × (third q < 256)
+small existential = (omega arith, omega arith)
+small universal = (omega arith, omega arith)
+
+second-read : (q : Quantifier) (k : InTerm) → readByte (afterFirst q k) (second q) ≡ go (afterSecond q k)
+second-read existential k = refl
+second-read universal k = refl
+
+third-read : (q : Quantifier) (k : InTerm) → readByte (afterSecond q k) (third q) ≡ go (afterLabelled q k 0)
+third-read existential k = refl
+third-read universal k = refl
+
+module _ (N : List (List ℕ)) (s : List ℕ) (at lost : ℕ) (q : Quantifier) where
+  pub no-second : at ≤ length s → (peek s at ≡ second q → ⊥) → Fails s at at (afterFirst q)
+  no-second w h = stops w (λ k. refl) (λ k. on-other (peek s at) (second q) _ _ h)
+
+  module _ {d : ℕ} (h : Marked s at (second q) d) where
+    to-second : Moves s at d (λ r. second q ∷ r) (afterFirst q) (afterSecond q)
+    to-second = marked h (small q .0) (second-read q)
+
+    pub no-third : (peek s d ≡ third q → ⊥) → Fails s at d (afterFirst q)
+    no-third g = fail to-second (stops (to-second .within) (λ k. refl) (λ k. on-other (peek s d) (third q) _ _ g))
+
+    module _ {e : ℕ} (g : Marked s d (third q) e) {o : ℕ} (b : Skipped s e o) where
+      before-labelled : Moves s at o (λ r. second q ∷ third q ∷ gap (o - e) r) (afterFirst q) (λ k. afterLabelled q k (o - e))
+      before-labelled = then to-second (then (marked g (small q .1) (third-read q)) (skip (λ n k. afterLabelled q k n) (λ n k. refl) b))
+
+      pub labelled-unopened : (peek s o ≡ 91 → ⊥) → Fails s at o (afterFirst q)
+      labelled-unopened n = fail before-labelled (stops (b .within) (λ k. refl) (λ k. on-other (peek s o) 32 _ _ (b .past) ∙ on-other (peek s o) 91 _ _ n))
+
+      module _ {f : ℕ} (t : Tokened s o 91 f) where
+        at-labelled : Moves s at f (λ r. second q ∷ third q ∷ gap (o - e) (91 ∷ gap (f - (o + 1)) r)) (afterFirst q) (λ k. operandAt (oFirst (sLabelled q (o - e) k (f - (o + 1)))))
+        at-labelled = then before-labelled (tokened (λ n k. operandAt (oFirst (sLabelled q (o - e) k n))) t (omega arith) (λ k. refl) (λ n k. refl))
+
+        pub labelled-read : {to m l : ℕ} → EnclosedRead N s f 93 lost to m l → LabelledRead N s q at lost to m l
+        labelled-read {to} i =
+            let c = i .contents in
+            let v : Moves s (i .end) to (λ r. 93 ∷ r) (λ k. afterSet (c .value) (sLabelled q (o - e) k (f - (o + 1))) (c .blanks)) (λ k. termAt (tModal (labelled q (o - e) (f - (o + 1)) (c .value) (c .blanks)) k 0)) = marked (i .shut) (omega arith) (λ k. refl) in
+            record {
+              before = o - e;
+              inside = f - (o + 1);
+              value = c .value;
+              behind = c .blanks;
+              moves = then at-labelled (then (at-only (λ k. sLabelled q (o - e) k (f - (o + 1))) (c .moves)) v);
+              means = c .means;
+              lacks = c .lacks ∙ ap (λ r. earlier lost (unknownIn N (length s) (namesS (c .value) (gap (c .blanks) r)))) (v .text);
+            }
+
+        pub labelled-fails : {to : ℕ} → Fails s f to (λ k. operandAt (oFirst k)) ⊎ Unclosed N s f 93 lost to → Fails s at to (afterFirst q)
+        labelled-fails (inl i) = fail at-labelled (fail-only (λ k. sLabelled q (o - e) k (f - (o + 1))) i)
+        labelled-fails (inr i) = fail at-labelled (set-stops i (λ k. sLabelled q (o - e) k (f - (o + 1))) (λ v n k z. on-other _ 93 _ _ z))
+
+module _ (N : List (List ℕ)) (s : List ℕ) (at lost : ℕ) (w : List ℕ) {d e o f : ℕ} (h : Marked s at (getD w 0 0) d) (g : Marked s d (getD w 1 0) e) (b : Skipped s e o) (t : Tokened s o 91 f) where
+  pub labelled-answers : (r : Labels) → EnclosedAnswer N s f 93 lost r → LabelledAnswer N s at w lost r
+  labelled-answers (sets.Read c m l) i = λ q u v. labelled-read N s at lost q (subst (λ k. Marked s at k d) u h) (subst (λ k. Marked s d k e) v g) b t i
+  labelled-answers (sets.Refused c) i = λ q u v. labelled-fails N s at lost q (subst (λ k. Marked s at k d) u h) (subst (λ k. Marked s d k e) v g) b t i
 
 -- Keywords.
 module _ (N : List (List ℕ)) (s : List ℕ) (at lost : ℕ) where
@@ -162,7 +222,7 @@ module _ (N : List (List ℕ)) (s : List ℕ) (at lost : ℕ) where
 
   -- The slot of the node over a step condition is that of the formula.
   Over : Quantifier → (Condition → Node) → Type 0
-  Over q node = (met : Cond) (x : Condition) (f : Formula) → met ≡ condIn x → slotOf (nextOf q met f) ≡ slotOfNode (node x)
+  Over q node = (met : Cond) (x : Condition) → met ≡ condIn x → nextSlot (nextKind q) met ≡ slotOfNode (node x)
 
   head-next : (q : Quantifier) (node : Condition → Node) → Over q node → (d : ℕ) → Moves s at d (showQ q) termAt (λ k. afterNext q k 0) → at < d → (r : Bracket) → NextAnswer N s d lost r → HeadAnswer N s at lost (headingOf node r)
   unfolding Over
@@ -170,35 +230,82 @@ module _ (N : List (List ℕ)) (s : List ℕ) (at lost : ℕ) where
     value = next q (h .before) (h .inside) (h .condition) (h .behind);
     up = let w = h .moves .up in omega arith;
     moves = then m (at-only (λ k. (q, k)) (h .moves));
-    means = λ f. over (condOf N (h .condition)) x f (h .means);
+    means = ap (λ z. z ∷ []) (over (condOf N (h .condition)) x (h .means));
     lacks = h .lacks;
   }
   head-next q node over d m u (Refused c) h = fail m (fail-only (λ k. (q, k)) h)
 
   pub head-EX : {d : ℕ} → Keyword s at 69 88 d → (r : Bracket) → NextAnswer N s d lost r → HeadAnswer N s at lost (headingOf exNode r)
   unfolding Over
-  head-EX {d} h r n = head-next existential exNode (λ met x f e. ap (nextSlot 4) e) d (the-EX h) (let z = h .two .next in omega arith) r n
+  head-EX {d} h r n = head-next existential exNode (λ met x e. ap (nextSlot 4) e) d (the-EX h) (let z = h .two .next in omega arith) r n
 
   pub head-AX : {d : ℕ} → Keyword s at 65 88 d → (r : Bracket) → NextAnswer N s d lost r → HeadAnswer N s at lost (headingOf axNode r)
   unfolding Over
-  head-AX {d} h r n = head-next universal axNode (λ met x f e. ap (nextSlot 6) e) d (the-AX h) (let z = h .two .next in omega arith) r n
+  head-AX {d} h r n = head-next universal axNode (λ met x e. ap (nextSlot 6) e) d (the-AX h) (let z = h .two .next in omega arith) r n
 
   pub head-EU : {d : ℕ} → Keyword s at 69 85 d → (r : Heading) → UntilAnswer N s d lost r → HeadAnswer N s at lost r
   head-EU {d} h (heading.Read c node l) n =
       let z = h .two .next in
       let w = n .moves .up in
       record { value = n .value; up = omega arith; moves = written-as (λ r. sym (n .shows r)) (then (the-EU h) (n .moves)); means = n .means; lacks = n .lacks }
+  head-EU h (heading.Dual c node l) n = absurd n
   head-EU h (heading.Refused c) n = fail (the-EU h) n
 
-  pub no-head : {to : ℕ} → Token s at → NoMark s at → (peek s at ≡ 69 → peek s (at + 1) ≡ 88 → ⊥) → (peek s at ≡ 65 → peek s (at + 1) ≡ 88 → ⊥) → (peek s at ≡ 69 → peek s (at + 1) ≡ 85 → ⊥) → NoKeyword s at to → Fails s at to termAt
-  no-head {to} t n ex ax eu (inl h) =
+  -- Short forms.
+  module _ {d : ℕ} (mask : Mask) (all : mask ≡ labelsOf N Action.any) where
+    pub head-EF : Keyword s at 69 70 d → HeadRead N s at lost d (slot 8 mask 0 ∷ []) lost
+    head-EF h = record {
+      value = reach existential;
+      up = omega (arith, h .two .next);
+      moves = then (marked {y = afterE} (h .one) (omega arith) (λ k. refl)) (marked (h .two) (omega arith) (λ k. refl));
+      means = ap (λ z. slot 8 z 0 ∷ []) (sym all);
+      lacks = sym (earlier-none lost);
+    }
+
+    pub head-AG : Keyword s at 65 71 d → HeadRead N s at lost d (slot 2 0 0 ∷ slot 8 mask 0 ∷ slot 2 0 0 ∷ []) lost
+    head-AG h = record {
+      value = reach universal;
+      up = omega (arith, h .two .next);
+      moves = then (marked {y = afterA} (h .one) (omega arith) (λ k. refl)) (marked (h .two) (omega arith) (λ k. refl));
+      means = ap (λ z. slot 2 0 0 ∷ slot 8 z 0 ∷ slot 2 0 0 ∷ []) (sym all);
+      lacks = sym (earlier-none lost);
+    }
+
+  pub head-DIA : {d : ℕ} → Marked s at 68 d → (r : Labels) → LabelledAnswer N s d (73 ∷ 65 ∷ []) lost r → HeadAnswer N s at lost (diamondOf r)
+  head-DIA h (sets.Read c m l) n =
+      let g = n existential refl refl in
+      record {
+        value = labelled existential (g .before) (g .inside) (g .value) (g .behind);
+        up = omega (arith, h .next, g .moves .up);
+        moves = then (marked h (omega arith) (λ k. refl)) (g .moves);
+        means = ap (λ z. slot 5 z 0 ∷ []) (sym (g .means));
+        lacks = g .lacks;
+      }
+  head-DIA h (sets.Refused c) n = fail (marked h (omega arith) (λ k. refl)) (n existential refl refl)
+
+  pub head-BOX : {d : ℕ} → Marked s at 66 d → (r : Labels) → LabelledAnswer N s d (79 ∷ 88 ∷ []) lost r → HeadAnswer N s at lost (boxOf r)
+  head-BOX h (sets.Read c m l) n =
+      let g = n universal refl refl in
+      record {
+        value = labelled universal (g .before) (g .inside) (g .value) (g .behind);
+        up = omega (arith, h .next, g .moves .up);
+        moves = then (marked h (omega arith) (λ k. refl)) (g .moves);
+        means = ap (λ z. slot 2 0 0 ∷ slot 5 z 0 ∷ slot 2 0 0 ∷ []) (sym (g .means));
+        lacks = g .lacks;
+      }
+  head-BOX h (sets.Refused c) n = fail (marked h (omega arith) (λ k. refl)) (n universal refl refl)
+
+  pub no-head : {to : ℕ} → Token s at → NoMark s at → NoLong s at → (peek s at ≡ 69 → peek s (at + 1) ≡ 70 → ⊥) → (peek s at ≡ 65 → peek s (at + 1) ≡ 71 → ⊥)
+      → (peek s at ≡ 68 → ⊥) → (peek s at ≡ 66 → ⊥) → NoKeyword s at to → Fails s at to termAt
+  no-head {to} t n o ef ag dia box (inl h) =
       let z = h .next in
       fail (marked {y = afterE} h (omega arith) (λ k. refl)) (stops (let w = h .within in omega arith) (λ k. refl)
-      (λ k. on-other (peek s to) 88 _ _ (λ q. ex (h .here) (ap (peek s) (sym z) ∙ q)) ∙ on-other (peek s to) 85 _ _ (λ q. eu (h .here) (ap (peek s) (sym z) ∙ q))))
-  no-head {to} t n ex ax eu (inr (inl h)) =
+      (λ k. on-other (peek s to) 88 _ _ (λ q. o .no-ex (h .here) (ap (peek s) (sym z) ∙ q)) ∙ (on-other (peek s to) 85 _ _ (λ q. o .no-eu (h .here) (ap (peek s) (sym z) ∙ q))
+      ∙ on-other (peek s to) 70 _ _ (λ q. ef (h .here) (ap (peek s) (sym z) ∙ q)))))
+  no-head {to} t n o ef ag dia box (inr (inl h)) =
       let z = h .next in
       fail (marked {y = afterA} h (omega arith) (λ k. refl)) (stops (let w = h .within in omega arith) (λ k. refl)
-      (λ k. on-other (peek s to) 88 _ _ (λ q. ax (h .here) (ap (peek s) (sym z) ∙ q))))
-  no-head {to} t n ex ax eu (inr (inr h)) = subst (λ i. Fails s at i termAt) (sym (h .2)) (stops (t .within) (λ k. refl)
+      (λ k. on-other (peek s to) 88 _ _ (λ q. o .no-ax (h .here) (ap (peek s) (sym z) ∙ q)) ∙ on-other (peek s to) 71 _ _ (λ q. ag (h .here) (ap (peek s) (sym z) ∙ q))))
+  no-head {to} t n o ef ag dia box (inr (inr h)) = subst (λ i. Fails s at i termAt) (sym (h .2)) (stops (t .within) (λ k. refl)
       (λ k. on-other (peek s at) 32 _ _ (t .past) ∙ (on-other (peek s at) 84 _ _ (n .no-true) ∙ (on-other (peek s at) 126 _ _ (n .no-not) ∙ (on-other (peek s at) 40 _ _ (n .no-paren)
-      ∙ (on-other (peek s at) 69 _ _ (h .0) ∙ on-other (peek s at) 65 _ _ (h .1)))))))
+      ∙ (on-other (peek s at) 69 _ _ (h .0) ∙ (on-other (peek s at) 65 _ _ (h .1) ∙ (on-other (peek s at) 68 _ _ dia ∙ on-other (peek s at) 66 _ _ box))))))))

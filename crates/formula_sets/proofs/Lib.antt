@@ -1,2 +1,1 @@
-pub mod ReadingChains
 pub mod ReadingSets

@@ -36,7 +36,7 @@ pub enum Wildcard {
 }
 
 // 01: "`*` (all labels)". Label 0 is none of them.
-fn all_labels(table: &[u8]) -> u64
+pub fn all_labels(table: &[u8]) -> u64
     requires { ⌜ HoldsTable (now table) ⌝ }
     ensures { λ r. ⌜ r ≡ labelsOf (namesIn (now (table .entry))) Action.any ⌝ }
 {

@@ -1,1 +1,2 @@
+pub mod ReadingChains
 pub mod ReadingTerms

@@ -1,20 +1,22 @@
 // Reading a formula's text: the readers of terms, brackets and formulas call each other, each from a cursor to the cursor behind what it
-// read. What they make of it: the nodes in preorder, stored as in a prepared formula, and the first name that the table lacks.
-use actl::sizes::NODE_SLOT;
-use actl::sizes::READING_LENGTH;
+// read. What they make of it: the nodes of the text written out, in preorder, stored as in a prepared formula, and the first name that the table lacks.
+use actl::sizes::FORMULA_LENGTH;
 ghost use mathlib.Core.Path.{_≡_};
-ghost use Prim.Native.Nat.{_+_, _*_, _-_, _≤_, _<_};
+ghost use Prim.Native.Nat.{_≤_};
 ghost use lib.ListN.{length};
-ghost use Rattle.actl.specs.Sizes.{longestText, readingLength};
+ghost use Rattle.actl.specs.Sizes.{longestText, formulaLength};
 ghost use Rattle.lts.specs.HoldsTable.{HoldsTable};
-ghost use Rattle.actl.specs.Readers.{namesIn, ReaderStart, joinedAt, NodeRoom};
+ghost use Rattle.actl.specs.Readers.{namesIn, ReaderStart, NodeRoom};
 ghost use Rattle.formula_terms.specs.TermReplies.{TermAnswer, BracketAnswer, FormulaAnswer, ReadingAnswer};
 use formula_cursor::Cursor;
 use formula_cursor::Match;
 use formula_heads::Heading;
 use formula_heads::head;
+use formula_nodes::conjoin;
+use formula_nodes::disjoin;
+use formula_nodes::put;
+use formula_nodes::put_dual;
 use formulas::node::Node;
-use formulas::node::put_node;
 
 // A term, and how many nodes there are behind it.
 pub enum Nodes {
@@ -34,25 +36,11 @@ pub enum Reading {
     Refused(usize),
 }
 
-// The nodes from `start` up to n move up by one, and `|` stands before them.
-fn join(nodes: &mut [u8; READING_LENGTH], start: usize, n: usize)
-    requires { ⌜ (length (now nodes) ≡ readingLength) × (start ≤ n) × (n < longestText) ⌝ }
-    ensures { λ r. ⌜ now (nodes .exit) ≡ joinedAt start n (now (nodes .entry)) ⌝ }
-{
-    let low = 1 + start * NODE_SLOT;
-    let mut i = 1 + n * NODE_SLOT;
-    while low < i {
-        i -= 1;
-        nodes[i + NODE_SLOT] = nodes[i];
-    }
-    put_node(nodes, start, Node::Or);
-}
-
 // 01: "A term is `T`, `~` and a term, a keyword with its square bracket and a term, or a formula in round brackets."
 fn term(
     table: &[u8],
     text: &[u8],
-    nodes: &mut [u8; READING_LENGTH],
+    nodes: &mut [u8; FORMULA_LENGTH],
     c: Cursor,
     n: usize,
     lost: usize,
@@ -61,11 +49,11 @@ fn term(
     ensures { λ r. ⌜ TermAnswer (namesIn (now (table .entry))) (now (text .entry)) (c .at) n lost (now (nodes .entry)) (now (nodes .exit)) r ⌝ }
 {
     if let Match::Past(d) = c.mark(text, b'T') {
-        put_node(nodes, n, Node::True);
+        put(nodes, n, Node::True);
         return Nodes::Read(d, n + 1, lost);
     }
     if let Match::Past(d) = c.token(text, b'~') {
-        put_node(nodes, n, Node::Not);
+        put(nodes, n, Node::Not);
         return term(table, text, nodes, d, n + 1, lost);
     }
     if let Match::Past(d) = c.token(text, b'(') {
@@ -76,8 +64,13 @@ fn term(
         Heading::Refused(e) => Nodes::Refused(e),
         Heading::Read(e, node, l) => {
             let f = e.skip_blanks(text);
-            put_node(nodes, n, node);
+            put(nodes, n, node);
             term(table, text, nodes, f, n + 1, l)
+        }
+        Heading::Dual(e, node, l) => {
+            let f = e.skip_blanks(text);
+            put_dual(nodes, n, node);
+            term(table, text, nodes, f, n + 3, l)
         }
     }
 }
@@ -86,7 +79,7 @@ fn term(
 fn bracket(
     table: &[u8],
     text: &[u8],
-    nodes: &mut [u8; READING_LENGTH],
+    nodes: &mut [u8; FORMULA_LENGTH],
     c: Cursor,
     n: usize,
     lost: usize,
@@ -106,11 +99,12 @@ fn bracket(
     }
 }
 
-// 01: "A formula is one or more terms joined by `|`, grouped from the left." It is read with the blanks behind it.
+// 01: "A formula is one or more terms joined by `|`, grouped from the left." 02: "`&` binds tighter than `|`; both group from the left": `&` joins
+// what stands from the first node of the last conjunction on, `|` all from the formula's. It is read with the blanks behind it.
 fn formula(
     table: &[u8],
     text: &[u8],
-    nodes: &mut [u8; READING_LENGTH],
+    nodes: &mut [u8; FORMULA_LENGTH],
     c: Cursor,
     n: usize,
     lost: usize,
@@ -119,6 +113,7 @@ fn formula(
     ensures { λ r. ⌜ FormulaAnswer (namesIn (now (table .entry))) (now (text .entry)) (c .at) n lost (now (nodes .entry)) (now (nodes .exit)) r ⌝ }
 {
     let mut d = c;
+    let mut start = n;
     let mut k = n;
     let mut lacks = lost;
     loop {
@@ -129,21 +124,28 @@ fn formula(
             }
             Nodes::Read(e, m, l) => {
                 let f = e.skip_blanks(text);
-                let Match::Past(g) = f.token(text, b'|') else {
-                    return Chain::Read(e, f, m, l);
-                };
-                join(nodes, n, m);
-                d = g;
-                k = m + 1;
                 lacks = l;
+                if let Match::Past(g) = f.token(text, b'&') {
+                    conjoin(nodes, start, m);
+                    d = g;
+                    k = m + 4;
+                } else {
+                    let Match::Past(g) = f.token(text, b'|') else {
+                        return Chain::Read(e, f, m, l);
+                    };
+                    disjoin(nodes, n, m);
+                    d = g;
+                    start = m + 1;
+                    k = m + 1;
+                }
             }
         }
     }
 }
 
 // A whole text of at most 512 bytes.
-pub fn read_text(table: &[u8], text: &[u8], nodes: &mut [u8; READING_LENGTH]) -> Reading
-    requires { ⌜ HoldsTable (now table) × (length (now text) ≤ longestText) × (length (now nodes) ≡ readingLength) ⌝ }
+pub fn read_text(table: &[u8], text: &[u8], nodes: &mut [u8; FORMULA_LENGTH]) -> Reading
+    requires { ⌜ HoldsTable (now table) × (length (now text) ≤ longestText) × (length (now nodes) ≡ formulaLength) ⌝ }
     ensures { λ r. ⌜ ReadingAnswer (namesIn (now (table .entry))) (now (text .entry)) (now (nodes .entry)) (now (nodes .exit)) r ⌝ }
 {
     let c = Cursor { at: 0 };

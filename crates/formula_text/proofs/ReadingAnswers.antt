@@ -10,12 +10,12 @@ use borrow.Author.Tests.{le-leb, lt-leb}
 use lib.Dec.{leb}
 use lib.ListN.{length, getD, take, drop, set, replicate, length-drop, length-replicate, getD-replicate}
 use lib.Seq.{getD-take, getD-drop, length-take-le, take-all, drop-cons, take-append-add, ext-getD}
-use Rattle.actl.specs.Sizes.{mostNodes, nodeSlotLength, formulaLength, readingLength}
+use Rattle.actl.specs.Sizes.{mostNodes, nodeSlotLength, formulaLength}
 use Rattle.columns.specs.Write.{pasted}
 use Rattle.lts.specs.Lists.{upFrom}
 use Rattle.lts.specs.Reply.{accepted, refusal, unless, leftIn, answers}
 use Rattle.actl.specs.Formulas.{Formula, tru, size, nodes, highestWithoutClass}
-use Rattle.actl.specs.Prepared.{slotOf, slotBytes, formulaBytes}
+use Rattle.actl.specs.Prepared.{formulaBytes}
 use Rattle.actl.specs.Reading.{unlessFound, withClasses}
 use Rattle.actl.specs.Readers.{bytesOfNodes}
 use Rattle.actl.specs.Walk.{kindOf, kindsOf, kindsIn}
@@ -23,7 +23,7 @@ use Rattle.actl.specs.Writing.{preparedBytes, NodesHeld}
 use Rattle.formula_text.specs.FormulaAnswers.{FormulaAnswered}
 use Rattle.formula_text.specs.declared.FormulaReply.the-variants.{Accepted, NameUnknown, TooManyNodes, NoClass}
 use Rattle.actl.proofs.Nodes.{length-nodes}
-use Rattle.actl.proofs.Laws.Widths.{length-parts}
+use Rattle.actl.proofs.ReadingNodes.{bytes-length}
 use Rattle.actl.proofs.Laws.Forms.{slot-of-form}
 
 -- A function of the numbers from j on is one of a list's members.
@@ -50,16 +50,16 @@ zeros-part k j r h =
     let near : i < k = omega arith in
     getD-take k (drop j z) i 0 near ∙ (getD-drop j z i 0 ∙ (getD-replicate r (j + i) 0 0 (omega arith) ∙ sym (getD-replicate k i 0 0 near))))
 
-module _ (b : List ℕ) (n : ℕ) (F : Formula) (count : n ≡ size F) (made : b ≡ pasted (replicate readingLength 0) 1 (bytesOfNodes F)) (few : n ≤ mostNodes) where
+module _ (b : List ℕ) (n : ℕ) (F : Formula) (count : n ≡ size F) (made : b ≡ pasted (replicate formulaLength 0) 1 (bytesOfNodes F)) (few : n ≤ mostNodes) where
   pub bytes-are : preparedBytes b n ≡ formulaBytes F
   unfolding formulaBytes
   bytes-are =
       let B = bytesOfNodes F in
-      let Z : List ℕ = drop (1 + length B) (replicate readingLength 0) in
+      let Z : List ℕ = drop (1 + length B) (replicate formulaLength 0) in
       let w = mostNodes * nodeSlotLength in
-      let l : length B ≡ size F * nodeSlotLength = length-parts (λ f. slotBytes (slotOf f)) nodeSlotLength (λ f. refl) (nodes F) ∙ ap (λ k. k * nodeSlotLength) (length-nodes F) in
+      let l = bytes-length F in
       let s : w ≡ length B + (w - length B) = omega arith in
-      let t : take w (B ++ Z) ≡ B ++ replicate (w - length B) 0 = ap (λ k. take k (B ++ Z)) s ∙ (take-append-add B Z (w - length B) ∙ ap (λ x. B ++ x) (zeros-part (w - length B) (1 + length B) readingLength (omega arith))) in
+      let t : take w (B ++ Z) ≡ B ++ replicate (w - length B) 0 = ap (λ k. take k (B ++ Z)) s ∙ (take-append-add B Z (w - length B) ∙ ap (λ x. B ++ x) (zeros-part (w - length B) (1 + length B) formulaLength (omega arith))) in
       ap (λ x. n ∷ drop 1 (take formulaLength x)) made ∙ (λ i. count i ∷ t i)
 
   same-count : n ≡ length (nodes F)
@@ -103,7 +103,7 @@ module _ (b : List ℕ) (n lost : ℕ) (e : List ℕ) (F : Formula) where
       classed : (x : List ℕ) → none ≡ highestWithoutClass F → x ≡ pasted e 0 (preparedBytes b n) → FormulaAnswered (withClasses F) e Accepted x
       classed x q p =
           let r : withClasses F ≡ accepted F = few ∙ ap (λ o. unlessFound o 9 (accepted F)) (sym q) in
-          let f = bytes-are b n F (h .count) (h .made) w in
+          let f = bytes-are b n F (h .count) (h .made w) w in
           record {
             replies = sym (ap (answers (λ F. tt)) r);
             leaves = p ∙ ((λ i. f i ++ drop (0 + length (f i)) e) ∙ (ap (λ k. formulaBytes F ++ drop k e) (zero-add (length (formulaBytes F))) ∙ sym (ap (λ a. leftIn formulaBytes a e) r)));

@@ -8,7 +8,7 @@ use native.Mathlib.Omega.{arith}
 use borrow.Author.Tests.{le-leb, lt-leb}
 use lib.Dec.{leb}
 use lib.ListN.{length, replicate}
-use Rattle.actl.specs.Sizes.{formulaLength, longestText, readingLength}
+use Rattle.actl.specs.Sizes.{formulaLength, longestText}
 use Rattle.lts.specs.Sizes.{tableLength}
 use Rattle.lts.specs.Reply.{Reply, refusal, unless, leftIn, answers}
 use Rattle.lts.specs.Steps.{Table}
@@ -18,13 +18,12 @@ use Rattle.lts.specs.Answers.{isSome}
 use Rattle.lts.proofs.Laws.Prepared.{prepared-in, prepared-holds}
 use Rattle.actl.specs.Formulas.{Formula}
 use Rattle.actl.specs.Reader.{read}
-use Rattle.actl.specs.Meaning.{formulaOf}
 use Rattle.actl.specs.Mentions.{namesF}
 use Rattle.actl.specs.Reading.{firstUnknown, onResult, readFormula}
 use Rattle.actl.specs.Prepared.{formulaBytes}
 use Rattle.formula_text.specs.Replies.{formulaReply}
 use Rattle.actl.specs.FormulaReading.{formulaReading, withTable}
-use Rattle.actl.specs.Readers.{namesIn, WholeRead, RefusedAt}
+use Rattle.actl.specs.Readers.{namesIn, formulaF, WholeRead, RefusedAt}
 use Rattle.formula_text.specs.FormulaAnswers.{FormulaAnswered, FormulaAnsweredWith}
 use Rattle.formula_text.specs.declared.FormulaReply.{FormulaReply}
 use Rattle.formula_text.specs.declared.FormulaReply.the-variants.{TooLong, NotGrammatical, TableForeign, BufferShort}
@@ -83,9 +82,9 @@ module _ (b s e : List ℕ) where
           pub refused-text : (n : ℕ) → RefusedAt s n → FormulaAnswered (formulaReading b s e) e (NotGrammatical n) e
           refused-text n h = refuses _ e (NotGrammatical n) 6 n (result ∙ (ap (onResult (namesIn b) s) (h .reads) ∙ ap (refusal 6) (sym (h .figure)))) refl
 
-          pub whole-text : (c x : List ℕ) (n lost : ℕ) (r : FormulaReply) → WholeRead (namesIn b) s (replicate readingLength 0) c n lost → FormulaAnsweredWith c n lost e r x → FormulaAnswered (formulaReading b s e) e r x
+          pub whole-text : (c x : List ℕ) (n lost : ℕ) (r : FormulaReply) → WholeRead (namesIn b) s (replicate formulaLength 0) c n lost → FormulaAnsweredWith c n lost e r x → FormulaAnswered (formulaReading b s e) e r x
           whole-text c x n lost r h f =
-              let F = formulaOf (namesIn b) (h .value) in
+              let F = formulaF (namesIn b) (h .value) in
               let o = firstUnknown (namesIn b) (h .value) (namesF (h .value) []) in
               let a = f F o (record { count = h .count; made = h .made; lacks = h .lacks }) in
               let q = result ∙ ap (onResult (namesIn b) s) (h .reads) in

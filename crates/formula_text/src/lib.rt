@@ -1,7 +1,6 @@
 // Reading a formula's text over a prepared table.
 use actl::sizes::FORMULA_LENGTH;
 use actl::sizes::LONGEST_TEXT;
-use actl::sizes::READING_LENGTH;
 use lts::sizes::TABLE_LENGTH;
 ghost use mathlib.Core.Path.{_≡_};
 ghost use Rattle.formula_text.specs.Replies.{formulaReply};
@@ -43,7 +42,7 @@ pub fn read_formula(table: &[u8], text: &[u8], formula: &mut [u8]) -> FormulaRep
     if LONGEST_TEXT < text.len() {
         return FormulaReply::TooLong(text.len());
     }
-    let mut nodes = [0u8; READING_LENGTH];
+    let mut nodes = [0u8; FORMULA_LENGTH];
     let x = read_text(table, text, &mut nodes);
     match x {
         Reading::Refused(longest) => FormulaReply::NotGrammatical(longest),

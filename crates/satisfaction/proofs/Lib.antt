@@ -4,4 +4,5 @@ pub mod Leads
 pub mod Refusals
 pub mod Runs
 pub mod Satisfaction
+pub mod ShortForms
 pub mod Verdicts

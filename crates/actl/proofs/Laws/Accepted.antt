@@ -16,7 +16,9 @@ use Rattle.lts.specs.Reply.{Reply, accepted, refusal, unless}
 use Rattle.lts.proofs.Lists.{and-true-to}
 use Rattle.actl.specs.Actions.{Mask, Cond, silent, labels, maskOf}
 use Rattle.actl.specs.Formulas.{Formula, size, nodes, highestWithoutClass}
-use Rattle.actl.specs.Grammar.{Set, Condition, dot, set, Quantifier, existential, universal, Head, next, until, untilThen, Disjunction, term, or, Term, tru, not, modal, paren}
+use Rattle.actl.specs.Grammar.{Set, Condition, dot, set, Quantifier, existential, universal}
+use Rattle.actl.specs.Base.{BaseHead, next, until, untilThen, Base, term, or, BaseTerm, tru, not, modal, paren}
+use Rattle.actl.specs.WrittenOut.{writtenOut}
 use Rattle.actl.specs.Meaning.{actionOfSet, maskIn, condOf, nextOf, modalOf, formulaOf, formulaOfTerm}
 use Rattle.actl.specs.Mentions.{namesF}
 use Rattle.actl.specs.Prepared.{slotOf, formulaBytes, maskWithin, slotWithin, IsForm}
@@ -63,25 +65,25 @@ module _ (names : List (List ℕ)) where
   within-next universal dot f h = within-bare (Formula.ax silent f) (nodes f) refl refl h
   within-next universal (set x) f h = within-node (Formula.ax (labels (maskIn names x)) f) (nodes f) (set-within x) zero-within h
 
-  within-modal : (m : Head) (f : Formula) → Within n f → Within n (modalOf names m f)
+  within-modal : (m : BaseHead) (f : Formula) → Within n f → Within n (modalOf names m f)
   within-modal (next q a b c d) f h = within-next q c f h
   within-modal (until a b x d) f h = within-node (Formula.eu (maskIn names x) f) (nodes f) (set-within x) zero-within h
   within-modal (untilThen a b x c d y e) f h = within-node (Formula.euThen (maskIn names x) (maskIn names y) f) (nodes f) (set-within x) (set-within y) h
 
   mutual
-    formula-within : (f : Disjunction) → Within n (formulaOf names f)
+    formula-within : (f : Base) → Within n (formulaOf names f)
     formula-within (term t) = term-within t
     formula-within (or f a b t) =
         within-bare (formulaOf names (or f a b t)) (nodes (formulaOf names f) ++ nodes (formulaOfTerm names t)) refl refl
         (within-both (formulaOf names f) (formulaOfTerm names t) (formula-within f) (term-within t))
 
-    term-within : (t : Term) → Within n (formulaOfTerm names t)
+    term-within : (t : BaseTerm) → Within n (formulaOfTerm names t)
     term-within tru = within-bare Formula.tru [] refl refl (λ g m. absurd (List·Memᴰ·not-nil m))
     term-within (not a t) = within-bare (formulaOfTerm names (not a t)) (nodes (formulaOfTerm names t)) refl refl (term-within t)
     term-within (modal h a t) = within-modal h (formulaOfTerm names t) (term-within t)
     term-within (paren a f b) = formula-within f
 
-  pub sets-within : (f : Disjunction) → Within (length names) (formulaOf names f)
+  pub sets-within : (f : Base) → Within (length names) (formulaOf names f)
   unfolding n
   sets-within f = formula-within f
 
@@ -102,12 +104,12 @@ pub record Accepts (n : ℕ) (F : Formula) : Type 0 where
 result-accepts : (names : List (List ℕ)) (text : List ℕ) (r : Result) {F : Formula} → onResult names text r ≡ accepted F → Accepts (length names) F
 result-accepts names text (refused rest) e = let z : _≡_ {A = ℕ} 0 1 = cc in absurd (omega arith)
 result-accepts names text (whole f) {F} e =
-    let G = formulaOf names f in
+    let G = formulaOf names (writtenOut f) in
     let a = found-accepts (firstUnknown names f (namesF f [])) 7 (withClasses G) e .1 in
     let (b, c) = unless-accepts (leb (size G) 40) 8 (size G) (unlessFound (highestWithoutClass G) 9 (accepted G)) a in
     let (d, g) = found-accepts (highestWithoutClass G) 9 (accepted G) c in
     let same : G ≡ F = cc in
-    subst (Accepts (length names)) same (record { few = leb-true (size G) 40 b; no-classless = d; within = sets-within names f })
+    subst (Accepts (length names)) same (record { few = leb-true (size G) 40 b; no-classless = d; within = sets-within names (writtenOut f) })
 
 pub reading-accepts : (names : List (List ℕ)) (text : List ℕ) {F : Formula} → readFormula names text ≡ accepted F → Accepts (length names) F
 unfolding readFormula

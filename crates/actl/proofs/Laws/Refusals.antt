@@ -10,6 +10,7 @@ use Rattle.lts.proofs.Laws.Refusals.{Numbered, Between, numbered-unless, number
 use Rattle.actl.specs.Sizes.{mostNodes, longestText}
 use Rattle.actl.specs.Formulas.{size, highestWithoutClass}
 use Rattle.actl.specs.Grammar.{Disjunction}
+use Rattle.actl.specs.WrittenOut.{writtenOut}
 use Rattle.actl.specs.Meaning.{formulaOf}
 use Rattle.actl.specs.Mentions.{namesF}
 use Rattle.actl.specs.Reader.{Result, whole, refused, read}
@@ -22,7 +23,7 @@ numbered-found P (some f) n r h o = h
 module _ (names : List (List ℕ)) where
   pub tree-numbers : (f : Disjunction) → Numbered (Between 7 9) (onTree names f)
   tree-numbers f =
-      let F = formulaOf names f in
+      let F = formulaOf names (writtenOut f) in
       numbered-found (Between 7 9) (firstUnknown names f (namesF f [])) 7 _ (omega arith, omega arith)
       (numbered-unless (Between 7 9) (leb (size F) mostNodes) 8 (size F) _ (omega arith, omega arith)
       (numbered-found (Between 7 9) (highestWithoutClass F) 9 _ (omega arith, omega arith) tt))

@@ -6,7 +6,7 @@ use native.Mathlib.Omega.{arith}
 use Rattle.formula_cursor.specs.CursorReplies.{KeywordAnswer}
 use Rattle.actl.specs.Readers.{namesIn}
 use Rattle.formula_heads.specs.HeadReplies.{HeadAnswer}
-use Rattle.formula_heads.proofs.ReadingHeads.{head-EX, head-AX, head-EU, no-head}
+use Rattle.formula_heads.proofs.ReadingHeads.{head-EX, head-AX, head-EU}
 use Rattle.formula_heads.proofs.head.Statement.{statement}
 use Rattle.formula_heads.proofs.head.Tie as tie
 
@@ -97,21 +97,23 @@ returns-3 c =
 enum-told-3 : tie.Need-enum-told-3
 enum-told-3 c = search needs
 
-no-keyword-requires : tie.Need-no-keyword-requires
-no-keyword-requires c κs = search needs
-
-returns-4 : tie.Need-returns-4
-returns-4 c =
-    let a = c .before .before .before .before .before .before .before .before .before .before .before .before .before .before .before .args in
-    let N = namesIn (a .table .now) in
+short-form-requires : tie.Need-short-form-requires
+short-form-requires c κs =
+    let a = c .before .before .before .before .before .before .before .before .before .before .before .before .before .before .args in
     let s = a .text .now in
     let at = a .c .at in
-    let pre = c .before .before .before .before .before .before .before .before .before .before .before .before .before .before .before .pre in
-    no-head N s at (a .lost) (pre .0 .token) (pre .1)
-    (subst (KeywordAnswer s at (69 ∷ 88 ∷ [])) (c .before .before .before .before .before .before .before .before .before .enum-told .given .1) (c .before .before .before .before .before .before .before .before .before .before .before .keyword .ensures))
-    (subst (KeywordAnswer s at (65 ∷ 88 ∷ [])) (c .before .before .before .before .before .enum-told2 .given .1) (c .before .before .before .before .before .before .before .keyword2 .ensures))
-    (subst (KeywordAnswer s at (69 ∷ 85 ∷ [])) (c .before .enum-told3 .given .1) (c .before .before .before .keyword3 .ensures))
-    (c .no-keyword .ensures)
+    let pre = c .before .before .before .before .before .before .before .before .before .before .before .before .before .before .pre in (
+      pre .0,
+      pre .1,
+      record {
+        no-ex = subst (KeywordAnswer s at (69 ∷ 88 ∷ [])) (c .before .before .before .before .before .before .before .before .enum-told .given .1) (c .before .before .before .before .before .before .before .before .before .before .keyword .ensures);
+        no-ax = subst (KeywordAnswer s at (65 ∷ 88 ∷ [])) (c .before .before .before .before .enum-told2 .given .1) (c .before .before .before .before .before .before .keyword2 .ensures);
+        no-eu = subst (KeywordAnswer s at (69 ∷ 85 ∷ [])) (c .enum-told3 .given .1) (c .before .before .keyword3 .ensures);
+      },
+    )
+
+returns-4 : tie.Need-returns-4
+returns-4 c = c .short-form .ensures
 
 pub head-spec : {M : Type 1} → statement M
 head-spec =
@@ -134,5 +136,5 @@ head-spec =
     until-head-requires
     returns-3
     enum-told-3
-    no-keyword-requires
+    short-form-requires
     returns-4)

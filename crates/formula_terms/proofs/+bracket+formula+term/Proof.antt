@@ -13,8 +13,8 @@ use Rattle.formula_terms.proofs.+bracket+formula+term.{statement}
 use Rattle.formula_terms.proofs.+bracket+formula+term.Tie.{close}
 use Rattle.formula_terms.proofs.+bracket+formula+term.Proof.Measures.{μ-bracket, μ-formula, μ-term, bracket-at, formula-at, term-at, bracket-claims, formula-claims, term-claims}
 use Rattle.formula_terms.proofs.+bracket+formula+term.Proof.Bracket.{bracket-formula-requires, bracket-enum-known-x, bracket-enum-known-x-2, bracket-mark-requires, bracket-enum-known-f, bracket-enum-told, bracket-returns, bracket-returns-2, bracket-returns-3}
-use Rattle.formula_terms.proofs.+bracket+formula+term.Proof.Formula.{formula-Inv-loop, formula-μ-loop, formula-loop-holds, formula-term-requires, formula-enum-known-x, formula-returns, formula-enum-known-x-2, formula-skip-blanks-requires, formula-token-requires, formula-enum-known-g, formula-enum-told, formula-returns-2, formula-join-requires, formula-add-k, formula-loop-less, formula-loop-again}
-use Rattle.formula_terms.proofs.+bracket+formula+term.Proof.Term.{term-mark-requires, term-enum-known-d, term-put-node-requires, term-add-t21, term-returns, term-enum-told, term-token-requires, term-enum-known-d-2, term-put-node-requires-2, term-add-term, term-term-requires, term-returns-2, term-enum-told-2, term-token-requires-2, term-enum-known-d-3, term-bracket-requires, term-returns-3, term-enum-told-3, term-head-requires, term-enum-known-x, term-enum-known-x-2, term-skip-blanks-requires, term-put-node-requires-3, term-add-term-2, term-term-requires-2, term-returns-4, term-returns-5}
+use Rattle.formula_terms.proofs.+bracket+formula+term.Proof.Formula.{formula-Inv-loop, formula-μ-loop, formula-loop-holds, formula-term-requires, formula-enum-known-x, formula-returns, formula-enum-known-x-2, formula-skip-blanks-requires, formula-token-requires, formula-enum-known-g, formula-conjoin-requires, formula-add-k, formula-loop-less, formula-loop-again, formula-enum-told, formula-token-requires-2, formula-enum-known-g-2, formula-enum-told-2, formula-returns-2, formula-disjoin-requires, formula-add-start, formula-add-k-2, formula-loop-less-2, formula-loop-again-2}
+use Rattle.formula_terms.proofs.+bracket+formula+term.Proof.Term.{term-mark-requires, term-enum-known-d, term-put-requires, term-add-t24, term-returns, term-enum-told, term-token-requires, term-enum-known-d-2, term-put-requires-2, term-add-term, term-term-requires, term-returns-2, term-enum-told-2, term-token-requires-2, term-enum-known-d-3, term-bracket-requires, term-returns-3, term-enum-told-3, term-head-requires, term-enum-known-x, term-enum-known-x-2, term-skip-blanks-requires, term-put-requires-3, term-add-term-2, term-term-requires-2, term-enum-known-x-3, term-skip-blanks-requires-2, term-put-dual-requires, term-add-term-3, term-term-requires-3, term-returns-4, term-returns-5, term-returns-6}
 
 pub +bracket+formula+term-spec : {M : Type 1} → statement M
 +bracket+formula+term-spec = close μ-bracket μ-formula μ-term (λ t. bracket-lts.spec (bracket-claims t)
@@ -42,24 +42,32 @@ pub +bracket+formula+term-spec : {M : Type 1} → statement M
     (formula-skip-blanks-requires t)
     (formula-token-requires t)
     (formula-enum-known-g t)
-    (formula-enum-told t)
-    (formula-returns-2 t)
-    (formula-join-requires t)
+    (formula-conjoin-requires t)
     (formula-add-k t)
     (formula-loop-less t)
-    (formula-loop-again t))
+    (formula-loop-again t)
+    (formula-enum-told t)
+    (formula-token-requires-2 t)
+    (formula-enum-known-g-2 t)
+    (formula-enum-told-2 t)
+    (formula-returns-2 t)
+    (formula-disjoin-requires t)
+    (formula-add-start t)
+    (formula-add-k-2 t)
+    (formula-loop-less-2 t)
+    (formula-loop-again-2 t))
     λ t. term-lts.spec (term-claims t)
     (term-at t)
     term.Post
     (term-mark-requires t)
     (term-enum-known-d t)
-    (term-put-node-requires t)
-    (term-add-t21 t)
+    (term-put-requires t)
+    (term-add-t24 t)
     (term-returns t)
     (term-enum-told t)
     (term-token-requires t)
     (term-enum-known-d-2 t)
-    (term-put-node-requires-2 t)
+    (term-put-requires-2 t)
     (term-add-term t)
     (term-term-requires t)
     (term-returns-2 t)
@@ -73,8 +81,14 @@ pub +bracket+formula+term-spec : {M : Type 1} → statement M
     (term-enum-known-x t)
     (term-enum-known-x-2 t)
     (term-skip-blanks-requires t)
-    (term-put-node-requires-3 t)
+    (term-put-requires-3 t)
     (term-add-term-2 t)
     (term-term-requires-2 t)
+    (term-enum-known-x-3 t)
+    (term-skip-blanks-requires-2 t)
+    (term-put-dual-requires t)
+    (term-add-term-3 t)
+    (term-term-requires-3 t)
     (term-returns-4 t)
     (term-returns-5 t)
+    (term-returns-6 t)

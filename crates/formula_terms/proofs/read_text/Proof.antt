@@ -50,8 +50,7 @@ returns-3 c =
     let a = c .before .before .before .before .before .before .before .before .before .before .before .before .args in
     let N = namesIn (a .table .now) in
     let s = a .text .now in
-    let pre = c .before .before .before .before .before .before .before .before .before .before .before .before .pre in
-    text-whole (subst (FormulaAnswer N s 0 0 0 (a .nodes .now) (c .before .before .before .before .before .formula .last .1 .1 .0)) (c .before .before .before .x2 .given .1) (c .before .before .before .before .before .formula .ensures)) (pre .2) (c .if1 .taken)
+    text-whole (subst (FormulaAnswer N s 0 0 0 (a .nodes .now) (c .before .before .before .before .before .formula .last .1 .1 .0)) (c .before .before .before .x2 .given .1) (c .before .before .before .before .before .formula .ensures)) (c .if1 .taken)
 
 returns-4 : tie.Need-returns-4
 returns-4 c =

@@ -5,7 +5,7 @@ use mathlib.Core.List.{List}
 use Prim.Native.Nat.{ℕ}
 use borrow.Author.Tests.{not-true, not-false}
 use lib.ListN.{replicate, length-replicate}
-use Rattle.actl.specs.Sizes.{readingLength}
+use Rattle.actl.specs.Sizes.{formulaLength}
 use Rattle.actl.specs.FormulaReading.{formulaReading, formulaReplied, formulaLeft}
 use Rattle.actl.specs.ByGrammar.{FormulaByGrammar}
 use Rattle.actl.proofs.Laws.ByGrammar.{formula-by-grammar}
@@ -73,7 +73,7 @@ read-text-requires c κs =
     let long = c .before .before .before .before .before .if1 .left in
     let room = c .before .before .before .before .if2 .left in
     let held = sym (c .before .before .before .is-prepared .ensures) ∙ not-false _ (c .before .before .if3 .left) in
-    (table-held b s e long room held, c .before .if4 .left, length-replicate {A = ℕ} readingLength 0)
+    (table-held b s e long room held, c .before .if4 .left, length-replicate {A = ℕ} formulaLength 0)
 
 enum-known-x : tie.Need-enum-known-x
 enum-known-x c = search needs
@@ -86,7 +86,7 @@ answer-requires c κs =
     let a = c .before .before .before .before .before .before .before .before .before .before .before .before .before .before .before .args in
     let b = a .table .now in
     let s = a .text .now in
-    let t = subst (ReadingAnswer (namesIn b) s (replicate readingLength 0) (c .before .before .before .before .before .read-text .last .1 .1 .0)) (c .before .before .before .x2 .given .1) (c .before .before .before .before .before .read-text .ensures) in
+    let t = subst (ReadingAnswer (namesIn b) s (replicate formulaLength 0) (c .before .before .before .before .before .read-text .last .1 .1 .0)) (c .before .before .before .x2 .given .1) (c .before .before .before .before .before .read-text .ensures) in
     (t .long, c .before .before .before .before .before .before .before .before .before .before .if2 .left)
 
 returns-5 : tie.Need-returns-5
@@ -98,7 +98,7 @@ returns-5 c =
     let long = c .before .before .before .before .before .before .before .before .before .if1 .left in
     let room = c .before .before .before .before .before .before .before .before .if2 .left in
     let held = sym (c .before .before .before .before .before .before .before .is-prepared .ensures) ∙ not-false _ (c .before .before .before .before .before .before .if3 .left) in
-    let t = subst (ReadingAnswer (namesIn b) s (replicate readingLength 0) (c .before .before .before .read-text .last .1 .1 .0)) (c .before .x .given .1) (c .before .before .before .read-text .ensures) in
+    let t = subst (ReadingAnswer (namesIn b) s (replicate formulaLength 0) (c .before .before .before .read-text .last .1 .1 .0)) (c .before .x .given .1) (c .before .before .before .read-text .ensures) in
     both (refused-text b s e long room held (c .before .before .before .before .before .if4 .left) _ t)
 
 same-length : tie.Need-same-length
@@ -113,7 +113,7 @@ returns-6 c =
     let long = c .before .before .before .before .before .before .before .before .before .before .before .before .before .before .if1 .left in
     let room = c .before .before .before .before .before .before .before .before .before .before .before .before .before .if2 .left in
     let held = sym (c .before .before .before .before .before .before .before .before .before .before .before .before .is-prepared .ensures) ∙ not-false _ (c .before .before .before .before .before .before .before .before .before .before .before .if3 .left) in
-    let t = subst (ReadingAnswer (namesIn b) s (replicate readingLength 0) (c .before .before .before .before .before .before .before .before .read-text .last .1 .1 .0)) (c .before .before .before .before .before .before .x2 .given .1) (c .before .before .before .before .before .before .before .before .read-text .ensures) in
+    let t = subst (ReadingAnswer (namesIn b) s (replicate formulaLength 0) (c .before .before .before .before .before .before .before .before .read-text .last .1 .1 .0)) (c .before .before .before .before .before .before .x2 .given .1) (c .before .before .before .before .before .before .before .before .read-text .ensures) in
     let r = c .before .before .answer in
     both (whole-text b s e long room held (c .before .before .before .before .before .before .before .before .before .before .if4 .left) _ _ _ _ (r .result) t (r .ensures))
 

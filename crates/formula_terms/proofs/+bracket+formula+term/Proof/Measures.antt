@@ -14,8 +14,10 @@ use Rattle.formula_cursor.proofs.Cursor.mark.Reads as mark-reads
 use Rattle.formula_cursor.proofs.Cursor.skip_blanks.Reads as skip-blanks-reads
 use Rattle.formula_cursor.proofs.Cursor.token.Reads as token-reads
 use Rattle.formula_heads.proofs.head.Reads as head-reads
-use Rattle.formula_terms.proofs.join.Reads as join-reads
-use Rattle.formulas.proofs.node.put_node.Reads as put-node-reads
+use Rattle.formula_nodes.proofs.conjoin.Reads as conjoin-reads
+use Rattle.formula_nodes.proofs.disjoin.Reads as disjoin-reads
+use Rattle.formula_nodes.proofs.put.Reads as put-reads
+use Rattle.formula_nodes.proofs.put_dual.Reads as put-dual-reads
 use Prim.Native.Nat.{ℕ, _+_, _*_, _-_, _<_}
 use lib.ListN.{length}
 
@@ -50,7 +52,7 @@ abbrev pub bracket-claims : ℕ → bracket-lts.Claims
 bracket-claims t = (formula-below t, formula.Post, mark-reads.Asked, mark-reads.Learnt)
 
 abbrev pub formula-claims : ℕ → formula-lts.Claims
-formula-claims t = (term-below t, term.Post, skip-blanks-reads.Asked, skip-blanks-reads.Learnt, token-reads.Asked, token-reads.Learnt, join-reads.Asked, join-reads.Learnt)
+formula-claims t = (term-below t, term.Post, skip-blanks-reads.Asked, skip-blanks-reads.Learnt, token-reads.Asked, token-reads.Learnt, conjoin-reads.Asked, conjoin-reads.Learnt, disjoin-reads.Asked, disjoin-reads.Learnt)
 
 abbrev pub term-claims : ℕ → term-lts.Claims
-term-claims t = (mark-reads.Asked, mark-reads.Learnt, put-node-reads.Asked, put-node-reads.Learnt, token-reads.Asked, token-reads.Learnt, term-below t, term.Post, bracket-below t, bracket.Post, head-reads.Asked, head-reads.Learnt, skip-blanks-reads.Asked, skip-blanks-reads.Learnt)
+term-claims t = (mark-reads.Asked, mark-reads.Learnt, put-reads.Asked, put-reads.Learnt, token-reads.Asked, token-reads.Learnt, term-below t, term.Post, bracket-below t, bracket.Post, head-reads.Asked, head-reads.Learnt, skip-blanks-reads.Asked, skip-blanks-reads.Learnt, put-dual-reads.Asked, put-dual-reads.Learnt)

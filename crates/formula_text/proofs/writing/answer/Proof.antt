@@ -40,7 +40,7 @@ returns-3 c =
     let b = a .nodes .now in
     let few = c .before .before .before .before .before .before .before .before .before .if2 .left in
     λ F o h. answer-accepted b (a .n) (a .lost) (a .formula .now) F (c .before .before .before .before .before .before .before .before .before .before .if1 .left) o h few _
-    (ap classlessNode (sym (c .before .before .before .before .before .enum-told .given .1)) ∙ c .before .before .before .before .before .before .before .highest-classless .ensures F (sym (kinds-are b (a .n) F (h .count) (h .made) few))) (c .before .before .write-bytes .ensures)
+    (ap classlessNode (sym (c .before .before .before .before .before .enum-told .given .1)) ∙ c .before .before .before .before .before .before .before .highest-classless .ensures F (sym (kinds-are b (a .n) F (h .count) (h .made few) few))) (c .before .before .write-bytes .ensures)
 
 returns-4 : tie.Need-returns-4
 returns-4 c =
@@ -48,7 +48,7 @@ returns-4 c =
     let b = a .nodes .now in
     let few = c .before .before .before .before .before .if2 .left in
     λ F o h. answer-classless b (a .n) (a .lost) (a .formula .now) F (c .before .before .before .before .before .before .if1 .left) o h few _
-    (ap classlessNode (sym (c .before .k .given .1)) ∙ c .before .before .before .highest-classless .ensures F (sym (kinds-are b (a .n) F (h .count) (h .made) few)))
+    (ap classlessNode (sym (c .before .k .given .1)) ∙ c .before .before .before .highest-classless .ensures F (sym (kinds-are b (a .n) F (h .count) (h .made few) few)))
 
 pub answer-spec : {M : Type 1} → statement M
 answer-spec =

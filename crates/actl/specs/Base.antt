@@ -1,0 +1,71 @@
+-- The base notation, 01's, which has no `&` and no EF, AG, DIA or BOX: its trees, with their blanks and brackets, and the text of each. They are
+-- trees of Grammar.antt (`typed`).
+use mathlib.Core.Path.{_≡_}
+use mathlib.Core.Bool.{Bool, true, _&&_}
+use mathlib.Core.List.{List, [], _∷_}
+use Prim.Native.Nat.{ℕ}
+use Rattle.lts.specs.Names.{Marks}
+use Rattle.actl.specs.Grammar.{Set, Condition, Quantifier, Head, Disjunction, Conjunction, Term, gap, showH, fitsH}
+
+-- 01: "a keyword with its square bracket"
+pub data BaseHead : Type 0 where
+  next : Quantifier → ℕ → ℕ → Condition → ℕ → BaseHead
+  until : ℕ → ℕ → Set → ℕ → BaseHead
+  untilThen : ℕ → ℕ → Set → ℕ → ℕ → Set → ℕ → BaseHead
+
+mutual
+  -- 01: "A formula is one or more terms joined by `|`, grouped from the left."
+  pub data Base : Type 0 where
+    term : BaseTerm → Base
+    or : Base → ℕ → ℕ → BaseTerm → Base
+
+  -- 01: "A term is `T`, `~` and a term, a keyword with its square bracket and a term, or a formula in round brackets."
+  pub data BaseTerm : Type 0 where
+    tru : BaseTerm
+    not : ℕ → BaseTerm → BaseTerm
+    modal : BaseHead → ℕ → BaseTerm → BaseTerm
+    paren : ℕ → Base → ℕ → BaseTerm
+
+-- The same tree among those of Grammar.antt.
+abbrev pub typedHead : BaseHead → Head
+typedHead (next q a b c d) = Head.next q a b c d
+typedHead (until a b x d) = Head.until a b x d
+typedHead (untilThen a b x c d y e) = Head.untilThen a b x c d y e
+
+abbrev mutual
+  pub typed : Base → Disjunction
+  typed (term t) = Disjunction.conjunction (Conjunction.term (typedTerm t))
+  typed (or f a b t) = Disjunction.or (typed f) a b (Conjunction.term (typedTerm t))
+
+  pub typedTerm : BaseTerm → Term
+  typedTerm tru = Term.tru
+  typedTerm (not a t) = Term.not a (typedTerm t)
+  typedTerm (modal h a t) = Term.modal (typedHead h) a (typedTerm t)
+  typedTerm (paren a f b) = Term.paren a (typed f) b
+
+abbrev mutual
+  pub showB : Base → List ℕ → List ℕ
+  showB (term t) s = showBT t s
+  showB (or f a b t) s = showB f (gap a (124 ∷ gap b (showBT t s)))
+
+  pub showBT : BaseTerm → List ℕ → List ℕ
+  showBT tru s = 84 ∷ s
+  showBT (not a t) s = 126 ∷ gap a (showBT t s)
+  showBT (modal h a t) s = showH (typedHead h) (gap a (showBT t s))
+  showBT (paren a f b) s = 40 ∷ gap a (showB f (gap b (41 ∷ s)))
+
+abbrev mutual
+  pub fitsB : Marks → Base → Bool
+  fitsB m (term t) = fitsBT m t
+  fitsB m (or f a b t) = fitsB m f && fitsBT m t
+
+  pub fitsBT : Marks → BaseTerm → Bool
+  fitsBT m tru = true
+  fitsBT m (not a t) = fitsBT m t
+  fitsBT m (modal h a t) = fitsH m (typedHead h) && fitsBT m t
+  fitsBT m (paren a f b) = fitsB m f
+
+-- f is the tree of the text s in the base notation.
+pub record BaseText (m : Marks) (s : List ℕ) (f : Base) : Type 0 where
+  pub fits : fitsB m f ≡ true
+  pub shows : showB f [] ≡ s
