@@ -50,8 +50,8 @@
 #define EXPLAINER_FORMULA_TOO_LONG 5        /* its length */
 #define EXPLAINER_FORMULA_NOT_GRAMMATICAL 6 /* the length of the longest beginning that some grammatical text has */
 #define EXPLAINER_NAME_UNKNOWN 7            /* the offset of the first such name */
-#define EXPLAINER_TOO_MANY_NODES 8          /* the count of nodes */
-#define EXPLAINER_NO_CLASS 9                /* the highest-numbered such node */
+#define EXPLAINER_TOO_MANY_NODES 8          /* the count of nodes, short forms written out */
+#define EXPLAINER_NO_CLASS 9                /* the highest-numbered such node, short forms written out */
 #define EXPLAINER_NOT_PREPARED 10           /* 0 the table, 1 the formula */
 #define EXPLAINER_ROWS_SHORT 11             /* the rows that are needed */
 #define EXPLAINER_EDGES_SHORT 12            /* the edges that are needed */
@@ -60,11 +60,11 @@
 
 /* The stack that each call takes at most, in bytes: measured on the inputs that take most, rounded up to a multiple of 16,384. */
 #define EXPLAINER_READ_TABLE_STACK 16384
-#define EXPLAINER_READ_FORMULA_STACK 327680
+#define EXPLAINER_READ_FORMULA_STACK 344064
 #define EXPLAINER_VERDICT_STACK 32768
 #define EXPLAINER_BUILD_STACK 98304
 #define EXPLAINER_ACCEPTS_STACK 49152
-#define EXPLAINER_EXPLAIN_STACK 327680
+#define EXPLAINER_EXPLAIN_STACK 344064
 
 #ifdef __cplusplus
 extern "C" {

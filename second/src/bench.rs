@@ -28,6 +28,8 @@ struct Input {
     table: Vec<u8>,
     formula: Vec<u8>,
     word: Vec<u8>,
+    /// That each call answers.
+    number: u32,
 }
 
 impl Input {
@@ -40,6 +42,7 @@ impl Input {
             table: prepared::table_bytes(table),
             formula: prepared::formula_bytes(formula),
             word: word_along(&Listing::of(table, formula)),
+            number: 0,
         }
     }
 }
@@ -89,6 +92,50 @@ fn operands() -> Input {
     text.resize(MAX_BYTES - 1, b' ');
     text.push(b'T');
     read("operands", table, &text)
+}
+
+/// What has short forms, for reading a formula.
+fn short_forms() -> [Input; 4] {
+    [short(), diamonds(), boxes(), conjunction()]
+}
+
+/// Over the typical question's table.
+fn short() -> Input {
+    let names = ["load", "unload", "clamp", "release", "frame", "drop", "retry", "ack"];
+    let formula =
+        b"AG (BOX[frame] ~EX[.] EU[*; ack] T & ~EF DIA[drop | retry] T & BOX[clamp | load] \
+        AX[~release] AX[*] T)";
+    read("short", typical_table(names), formula)
+}
+
+/// 39 short forms, the most that an accepted line has.
+fn diamonds() -> Input {
+    of_names("diamonds", &"DIA[z|z|z|z]".repeat(MAX_NODES - 1))
+}
+
+/// 228 names in 12 short forms; of such lines this one takes the baseline longest.
+fn boxes() -> Input {
+    let form = format!("BOX[{}]", ["z"; 19].join("|"));
+    of_names("boxes", &(form.repeat(12) + "~~~"))
+}
+
+/// 40 nodes and 512 bytes, over a largest table whose last label is `z`.
+fn of_names(size: &'static str, heads: &str) -> Input {
+    let mut table = tables::table_of_most(&mut Rng::new(3));
+    table.names = (1..MAX_LABELS).map(|label| format!("a{label}").into_bytes()).collect();
+    table.names.push(b"z".to_vec());
+    let mut text = heads.as_bytes().to_vec();
+    text.resize(MAX_BYTES - 1, b' ');
+    text.push(b'T');
+    read(size, table, &text)
+}
+
+/// 512 bytes of 1,277 nodes, the most there can be; refused.
+fn conjunction() -> Input {
+    let table = tables::table_of_most(&mut Rng::new(3));
+    let text = [b"~T".as_slice(), &b"&T".repeat(MAX_BYTES / 2 - 1)].concat();
+    let reply = Formula::read(&table, &text).expect_err("too many nodes");
+    Input { number: Reply::from(reply).number, formula_text: text, ..read("ands", table, b"T") }
 }
 
 fn read(size: &'static str, table: Table, text: &[u8]) -> Input {
@@ -211,10 +258,11 @@ pub fn run(library: &Entries, part: &str, out: &mut impl Write) -> io::Result<()
     };
     let head = ["entry", "input", "library", "baseline", "ratio"];
     writeln!(out, "{:12} {:8} {:>12} {:>12} {:>7}", head[0], head[1], head[2], head[3], head[4])?;
-    let (inputs, directed) = (inputs(), directed());
+    let (inputs, directed, short_forms) = (inputs(), directed(), short_forms());
     for (entry, call) in CALLS.into_iter().filter(|(entry, _)| entry.contains(part)) {
         let directed = directed.iter().filter(|_| entry.starts_with("read_"));
-        for input in inputs.iter().chain(directed) {
+        let short_forms = short_forms.iter().filter(|_| entry == "read_formula");
+        for input in inputs.iter().chain(directed).chain(short_forms) {
             let [library, baseline] = time(call, [library, &BASELINE], input, &mut lent);
             let baseline = baseline.expect("the baseline has all entries");
             let (time, ratio) = match library {
@@ -246,7 +294,7 @@ fn time(
             let Some(reply) = call(of, input, lent) else {
                 continue;
             };
-            assert_eq!(reply.number, 0, "the inputs are accepted");
+            assert_eq!(reply.number, input.number, "{}", input.size);
             let seconds = round(call, of, input, lent, &mut calls[which]);
             let least = shortest[which].get_or_insert(seconds);
             *least = seconds.min(*least);

@@ -1,6 +1,7 @@
 //! Formulas as nodes in order, their classes, and reading them (refusals 5 to 9).
 
-use crate::grammar::{self, Mark};
+use crate::expansion;
+use crate::grammar::{self, Mark, Notation};
 use crate::reply::Refusal;
 use crate::table::{Direction, Table, is_silent};
 
@@ -137,11 +138,25 @@ pub struct Formula {
 }
 
 impl Formula {
-    pub fn read(table: &Table, text: &[u8]) -> Result<Formula, Refusal> {
-        if text.len() > MAX_BYTES {
-            return Err(Refusal::FormulaLength(text.len()));
+    /// 02: "5, 6 and 7 measure the line as typed; the written-out text may pass 512 bytes."
+    pub fn read(table: &Table, line: &[u8]) -> Result<Formula, Refusal> {
+        if line.len() > MAX_BYTES {
+            return Err(Refusal::FormulaLength(line.len()));
         }
-        let marks = grammar::derive(text).map_err(Refusal::Grammar)?;
+        let marks = grammar::derive(Notation::Typed, line).map_err(Refusal::Grammar)?;
+        let text = expansion::written_out(line, &marks);
+        Formula::read_base(table, &text).map_err(|refusal| match refusal {
+            Refusal::Grammar(_) => unreachable!("what is written out is in the base notation"),
+            Refusal::UnknownName(offset) => {
+                Refusal::UnknownName(expansion::offset_in_line(&marks, &text, offset))
+            }
+            other => other,
+        })
+    }
+
+    /// A text of any length without short forms.
+    pub fn read_base(table: &Table, text: &[u8]) -> Result<Formula, Refusal> {
+        let marks = grammar::derive(Notation::Base, text).map_err(Refusal::Grammar)?;
         let formula = Draft::of(&marks, text, table)?.numbered();
         if formula.nodes.len() > MAX_NODES {
             return Err(Refusal::NodeCount(formula.nodes.len()));
@@ -216,6 +231,7 @@ impl Draft {
                     let then = conditions.pop_set();
                     Node::UntilThen(conditions.pop_set(), then, arm())
                 }
+                Mark::TermBegins | Mark::Brackets => continue,
                 operand => {
                     conditions.take(operand, offset)?;
                     continue;
@@ -289,7 +305,7 @@ impl Conditions<'_> {
                 let right = self.pop_set();
                 self.pop_set().union(right)
             }
-            _ => unreachable!("{mark:?} makes a node"),
+            _ => unreachable!("{mark:?} is no operand"),
         };
         self.read.push(Condition::Among(set));
         Ok(())

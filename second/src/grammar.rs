@@ -1,14 +1,24 @@
-//! The formula grammar of 01 as rules over bytes, and reading by all leftmost derivations at once.
+//! The formula grammar of 01 as rules over bytes, with the short forms of 02 or without them, and
+//! reading by all leftmost derivations at once.
 //!
 //! A derivation is what it still expects and the marks that it has passed. Each byte keeps the
-//! derivations that can take it. Every rule can be finished, so one is left exactly if some
-//! grammatical text, of any length, begins as the bytes taken so far.
+//! derivations that can take it. Whatever waits for a byte can be finished, so one is left exactly if
+//! some grammatical text, of any length, begins as the bytes taken so far.
 
 use crate::table::{MAX_STEM, is_name_byte};
+
+#[derive(Clone, Copy, Debug, PartialEq, Eq)]
+pub enum Notation {
+    /// That of 01, without short forms.
+    Base,
+    /// That of a line as typed, with the short forms of 02.
+    Typed,
+}
 
 /// What a derivation says of the text, in postfix order: arms and operands before their mark.
 #[derive(Clone, Copy, Debug, PartialEq, Eq)]
 pub enum Mark {
+    TermBegins,
     True,
     Not,
     Or,
@@ -16,6 +26,17 @@ pub enum Mark {
     AllNext,
     Until,
     UntilThen,
+    Brackets,
+    /// `&`.
+    And,
+    /// `EF`.
+    Eventually,
+    /// `AG`.
+    Always,
+    /// `DIA`.
+    Diamond,
+    /// `BOX`.
+    Box,
     SilentStep,
     NameBegins,
     NameEnds,
@@ -29,8 +50,12 @@ pub enum Mark {
 #[derive(Clone, Copy)]
 enum Rule {
     Formula,
+    MoreConjunctions,
+    Conjunction,
     MoreTerms,
     Term,
+    BareTerm,
+    ShortForm,
     Condition,
     Set,
     MoreOperands,
@@ -55,16 +80,26 @@ use Symbol::*;
 
 type Symbols = &'static [Symbol];
 
-/// Blanks are expected only between two tokens, in one place each, so a text has one derivation.
+/// Blanks are expected only between two tokens, in one place each, so a text has one derivation. In
+/// the base notation nothing is a short form.
 #[rustfmt::skip]
-fn alternatives(rule: Rule) -> &'static [Symbols] {
+fn alternatives(notation: Notation, rule: Rule) -> &'static [Symbols] {
     match rule {
-        Formula => &[&[Part(Term), Part(MoreTerms)]],
-        MoreTerms => &[
+        Formula => &[&[Part(Conjunction), Part(MoreConjunctions)]],
+        MoreConjunctions => &[
             &[],
-            &[Blanks, Byte(b'|'), Blanks, Part(Term), Says(Mark::Or), Part(MoreTerms)],
+            &[Blanks, Byte(b'|'), Blanks, Part(Conjunction), Says(Mark::Or), Part(MoreConjunctions)],
         ],
-        Term => &[
+        Conjunction => &[&[Part(Term), Part(MoreTerms)]],
+        MoreTerms => match notation {
+            Notation::Base => &[&[]],
+            Notation::Typed => &[
+                &[],
+                &[Blanks, Byte(b'&'), Blanks, Part(Term), Says(Mark::And), Part(MoreTerms)],
+            ],
+        },
+        Term => &[&[Says(Mark::TermBegins), Part(BareTerm)]],
+        BareTerm => &[
             &[Byte(b'T'), Says(Mark::True)],
             &[Byte(b'~'), Blanks, Part(Term), Says(Mark::Not)],
             &[Byte(b'E'), Byte(b'X'), Blanks, Byte(b'['), Blanks, Part(Condition), Blanks, Byte(b']'), Blanks,
@@ -75,8 +110,20 @@ fn alternatives(rule: Rule) -> &'static [Symbols] {
                 Part(Term), Says(Mark::Until)],
             &[Byte(b'E'), Byte(b'U'), Blanks, Byte(b'['), Blanks, Part(Set), Blanks, Byte(b';'), Blanks, Part(Set),
                 Blanks, Byte(b']'), Blanks, Part(Term), Says(Mark::UntilThen)],
-            &[Byte(b'('), Blanks, Part(Formula), Blanks, Byte(b')')],
+            &[Byte(b'('), Blanks, Part(Formula), Blanks, Byte(b')'), Says(Mark::Brackets)],
+            &[Part(ShortForm)],
         ],
+        ShortForm => match notation {
+            Notation::Base => &[],
+            Notation::Typed => &[
+                &[Byte(b'E'), Byte(b'F'), Blanks, Part(Term), Says(Mark::Eventually)],
+                &[Byte(b'A'), Byte(b'G'), Blanks, Part(Term), Says(Mark::Always)],
+                &[Byte(b'D'), Byte(b'I'), Byte(b'A'), Blanks, Byte(b'['), Blanks, Part(Set), Blanks, Byte(b']'), Blanks,
+                    Part(Term), Says(Mark::Diamond)],
+                &[Byte(b'B'), Byte(b'O'), Byte(b'X'), Blanks, Byte(b'['), Blanks, Part(Set), Blanks, Byte(b']'), Blanks,
+                    Part(Term), Says(Mark::Box)],
+            ],
+        },
         Condition => &[
             &[Byte(b'.'), Says(Mark::SilentStep)],
             &[Part(Set)],
@@ -135,8 +182,8 @@ struct Derivation {
 }
 
 /// The derivations that are left, with the chains that they share.
-#[derive(Default)]
 struct Derivations {
+    notation: Notation,
     later: Vec<(Symbols, u32)>,
     passed: Vec<(Mark, usize, u32)>,
     open: Vec<Derivation>,
@@ -146,10 +193,9 @@ struct Derivations {
 }
 
 /// The marks of the text's derivation with their offsets, or the length of the longest beginning
-/// that some grammatical text has.
-pub fn derive(text: &[u8]) -> Result<Vec<(Mark, usize)>, usize> {
-    let mut left = Derivations::default();
-    left.open.push(Derivation { expects: &[Part(Formula)], later: NONE, passed: NONE });
+/// that some text grammatical in this notation has.
+pub fn derive(notation: Notation, text: &[u8]) -> Result<Vec<(Mark, usize)>, usize> {
+    let mut left = Derivations::of_formulas(notation);
     for (offset, &byte) in text.iter().enumerate() {
         left.expand(offset);
         left.take(byte);
@@ -162,6 +208,17 @@ pub fn derive(text: &[u8]) -> Result<Vec<(Mark, usize)>, usize> {
 }
 
 impl Derivations {
+    fn of_formulas(notation: Notation) -> Derivations {
+        Derivations {
+            notation,
+            later: Vec::new(),
+            passed: Vec::new(),
+            open: vec![Derivation { expects: &[Part(Formula)], later: NONE, passed: NONE }],
+            waiting: Vec::new(),
+            finished: None,
+        }
+    }
+
     fn take(&mut self, byte: u8) {
         let taking = self.waiting.drain(..);
         let taking = taking.filter(|(symbol, _)| takes(*symbol, byte));
@@ -203,7 +260,7 @@ impl Derivations {
                 }
             }
             Part(rule) => {
-                for alternative in alternatives(rule) {
+                for alternative in alternatives(self.notation, rule) {
                     self.enter(alternative, passes);
                 }
             }
@@ -241,8 +298,20 @@ impl Derivations {
 mod tests {
     use super::*;
 
-    fn beginning(text: &str) -> usize {
-        derive(text.as_bytes()).expect_err("not in the grammar")
+    const BOTH: [Notation; 2] = [Notation::Base, Notation::Typed];
+
+    fn beginning(notation: Notation, text: &str) -> usize {
+        derive(notation, text.as_bytes()).expect_err(text)
+    }
+
+    fn is_in_both(text: &str) -> bool {
+        BOTH.iter().all(|&notation| derive(notation, text.as_bytes()).is_ok())
+    }
+
+    fn marks(text: &str) -> Vec<Mark> {
+        let marks = derive(Notation::Typed, text.as_bytes()).expect(text);
+        let marks = marks.into_iter().map(|(mark, _)| mark);
+        marks.filter(|mark| !matches!(mark, Mark::TermBegins | Mark::Brackets)).collect()
     }
 
     #[test]
@@ -318,15 +387,134 @@ mod tests {
             ("EX?", 2),
             ("EX[a]?", 5),
         ] {
-            assert_eq!(beginning(text), figure, "{text:?}");
+            for notation in BOTH {
+                assert_eq!(beginning(notation, text), figure, "{notation:?} {text:?}");
+            }
+        }
+    }
+
+    #[test]
+    fn the_longest_beginning_counts_short_forms_as_typed() {
+        for (text, figure) in [
+            ("D", 1),
+            ("DI", 2),
+            ("DIA", 3),
+            ("DIAT", 3),
+            ("DIA T", 4),
+            ("DIA[", 4),
+            ("DIA[.", 4),
+            ("DIA[ .", 5),
+            ("DIA[]", 4),
+            ("DIA[a;b] T", 5),
+            ("DIA[a|.] T", 6),
+            ("DIA[a] ", 7),
+            ("D IA[a] T", 1),
+            ("DA", 1),
+            ("DIX", 2),
+            ("DIDIA[a] T", 2),
+            ("B", 1),
+            ("BO", 2),
+            ("BO[", 2),
+            ("BOX", 3),
+            ("BOX[", 4),
+            ("BOX[.] T", 4),
+            ("BOX[req;", 7),
+            ("BOX(T)", 3),
+            ("BOXT", 3),
+            ("BX", 1),
+            ("EF", 2),
+            ("EF ", 3),
+            ("EF[req] T", 2),
+            ("EF|T", 2),
+            ("EFF", 2),
+            ("AG", 2),
+            ("AG ", 3),
+            ("AG [req]", 3),
+            ("AG&T", 2),
+            ("AGG", 2),
+            ("T&", 2),
+            ("T & ", 4),
+            ("T&&T", 2),
+            ("T &&", 3),
+            ("T&|T", 2),
+            ("T|&T", 2),
+            ("T&)", 2),
+            ("(T&", 3),
+            ("(T&)", 3),
+            ("(&T)", 1),
+            ("&", 0),
+            ("& T", 0),
+            ("~&T", 1),
+            ("EX[req]&T", 7),
+            ("EX[req&ack", 6),
+            ("EX[req &", 7),
+            ("EX[&", 3),
+            ("EX[~&", 4),
+            ("EX[(req&", 7),
+            ("EX[.&.] T", 4),
+            ("EU[a;b&c] T", 6),
+            ("EX[EF", 3),
+            ("EX[AG", 3),
+            ("EX[DIA", 3),
+            ("EX[BOX", 3),
+            ("EG T", 1),
+            ("AF T", 1),
+            ("AU[a] T", 1),
+            ("E F T", 1),
+            ("A G T", 1),
+            ("ef T", 0),
+            ("dia[a] T", 0),
+            ("T EF T", 2),
+            ("TAGT", 1),
+        ] {
+            assert_eq!(beginning(Notation::Typed, text), figure, "{text:?}");
+        }
+    }
+
+    #[test]
+    fn the_base_notation_has_no_short_form() {
+        for (text, figure) in [
+            ("T&T", 1),
+            ("T & T", 2),
+            ("(T&T)", 2),
+            ("EF T", 1),
+            ("AG T", 1),
+            ("DIA[a] T", 0),
+            ("BOX[a] T", 0),
+            ("~DIA[a] T", 1),
+            ("EX[a]AGT", 6),
+        ] {
+            assert_eq!(beginning(Notation::Base, text), figure, "{text:?}");
+            assert!(derive(Notation::Typed, text.as_bytes()).is_ok(), "{text:?}");
+        }
+    }
+
+    #[test]
+    fn a_keyword_needs_no_blank_behind_it() {
+        for text in [
+            "AGT",
+            "EFT",
+            "EFEX[a]T",
+            "DIA[a]T",
+            "BOX[a]T",
+            "AGAGEFEFDIA[a]BOX[b]T",
+            "AG(T)",
+            "EF~T",
+            "AG  EF  DIA  [  a  |  ?  ]  BOX  [  ~  *  ]  T  &  T",
+            "EFT&AGT|DIA[*]T&(T|T)",
+        ] {
+            assert!(derive(Notation::Typed, text.as_bytes()).is_ok(), "{text}");
         }
     }
 
     #[test]
     fn a_beginning_ends_before_the_thirteenth_byte_of_a_name() {
-        assert!(derive(b"EX[abcdefghijkl] T").is_ok());
-        assert_eq!(beginning("EX[abcdefghijklm] T"), 15);
-        assert_eq!(beginning("EX[a12345678901_] T"), 15);
+        assert!(is_in_both("EX[abcdefghijkl] T"));
+        for notation in BOTH {
+            assert_eq!(beginning(notation, "EX[abcdefghijklm] T"), 15);
+            assert_eq!(beginning(notation, "EX[a12345678901_] T"), 15);
+        }
+        assert_eq!(beginning(Notation::Typed, "BOX[abcdefghijklm] T"), 16);
     }
 
     #[test]
@@ -339,7 +527,7 @@ mod tests {
             "EU[a?;b!] T",
             "EU[a? ; b! ] T",
         ] {
-            assert!(derive(text.as_bytes()).is_ok(), "{text}");
+            assert!(is_in_both(text), "{text}");
         }
     }
 
@@ -348,28 +536,38 @@ mod tests {
         for text in
             ["EX[?] T", "AX[!] T", "EU[?;!] T", "EX[~?] T", "EX[~ ~ ( ! | a | ? )] T", "EU[?|?] T"]
         {
-            assert!(derive(text.as_bytes()).is_ok(), "{text}");
+            assert!(is_in_both(text), "{text}");
         }
     }
 
     #[test]
     fn blanks_stand_between_any_two_tokens() {
-        assert!(derive(b"~  EX  [  ~  (  a  |  *  )  ]  (  T  |  T  )").is_ok());
-        assert!(derive(b"EU [ a ; b ] T").is_ok());
-        assert!(derive(b"EX [ . ] T").is_ok());
+        assert!(is_in_both("~  EX  [  ~  (  a  |  *  )  ]  (  T  |  T  )"));
+        assert!(is_in_both("EU [ a ; b ] T"));
+        assert!(is_in_both("EX [ . ] T"));
     }
 
     #[test]
-    fn terms_are_grouped_from_the_left() {
-        let marks = derive(b"T|T|T").expect("in the grammar");
-        let marks: Vec<Mark> = marks.into_iter().map(|(mark, _)| mark).collect();
-        use Mark::{Or, True};
-        assert_eq!(marks, [True, True, Or, True, Or]);
+    fn terms_are_grouped_from_the_left_and_conjunctions_first() {
+        use Mark::{Always, And, Not, Or, True};
+        assert_eq!(marks("T|T|T"), [True, True, Or, True, Or]);
+        assert_eq!(marks("T&T&T"), [True, True, And, True, And]);
+        assert_eq!(marks("T|T&T"), [True, True, True, And, Or]);
+        assert_eq!(marks("T&T|T"), [True, True, And, True, Or]);
+        assert_eq!(marks("(T|T)&T"), [True, True, Or, True, And]);
+        assert_eq!(marks("~T&T"), [True, Not, True, And]);
+        assert_eq!(marks("AG T & T"), [True, Always, True, And]);
+        assert_eq!(marks("AG (T & T)"), [True, True, And, Always]);
     }
 
     #[test]
     fn a_beginning_may_be_longer_than_any_accepted_formula() {
-        let deep = "(".repeat(5_000);
-        assert_eq!(beginning(&deep), 5_000);
+        for deep in ["(", "~", "EX[*]"].map(|unit| unit.repeat(5_000)) {
+            assert_eq!(beginning(Notation::Base, &deep), deep.len());
+            assert_eq!(beginning(Notation::Typed, &deep), deep.len());
+        }
+        for deep in ["AG", "DIA[*]", "T&"].map(|unit| unit.repeat(5_000)) {
+            assert_eq!(beginning(Notation::Typed, &deep), deep.len());
+        }
     }
 }

@@ -8,6 +8,7 @@ pub mod compare;
 pub mod corpus;
 pub mod digests;
 pub mod entries;
+pub mod expansion;
 pub mod formula;
 pub mod fuzz;
 pub mod grammar;

@@ -17,10 +17,10 @@ const SHOWN: usize = 2_000;
 const PART: &str = "folder";
 
 /// With so many folders every expected number and every way to make one occurs.
-pub const ENOUGH: u64 = 2_000;
+pub const ENOUGH: u64 = 2_500;
 
 /// An expected number is answered at least once in so many folders.
-const ONCE_IN: u64 = 150;
+const ONCE_IN: u64 = 200;
 
 const NUMBERS: [u32; 12] = [0, 1, 2, 3, 4, 5, 6, 7, 8, 9, 11, 12];
 

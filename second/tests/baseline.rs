@@ -6,7 +6,6 @@ use second::baseline::BASELINE;
 use second::compare::{self, Lent};
 use second::compare::{Case, disagreement};
 use second::entries::SECOND;
-use second::formula::MAX_BYTES;
 use second::fuzz;
 use second::inputs::questions;
 use second::inputs::rng::Rng;
@@ -49,13 +48,27 @@ fn the_longest_listings_agree() {
     }
 }
 
-/// Every text of four telling bytes, after beginnings that lead into each part of the grammar.
-#[test]
-fn short_texts_agree_after_every_kind_of_beginning() {
+/// Every text of four of these bytes behind each beginning.
+fn texts_agree(bytes: &[u8], beginnings: &[&str]) {
     let text = b"     1     3     0     0\n     1 a\n     2 a?\n     3 aa!\n";
     let table = second::table::Table::read(text);
     let table = prepared::table_bytes(&table.expect("a table"));
-    let bytes = b"T~|()[];.*a?!EX U1";
+    for beginning in beginnings {
+        for index in 0..bytes.len().pow(4) {
+            let digit = |place: u32| bytes[index / bytes.len().pow(place) % bytes.len()];
+            let text = [beginning.as_bytes(), &[0, 1, 2, 3].map(digit)].concat();
+            let lent = &mut [[0; FORMULA_LENGTH]; 2];
+            let second = second::entries::read_formula(&table, &text, &mut lent[0]);
+            let baseline = second::baseline::read_formula(&table, &text, &mut lent[1]);
+            assert_eq!(second, baseline, "{}", text.escape_ascii());
+            assert!(lent[0] == lent[1], "{}", text.escape_ascii());
+        }
+    }
+}
+
+/// The beginnings lead into each part of the grammar.
+#[test]
+fn short_texts_agree_after_every_kind_of_beginning() {
     let beginnings = [
         "",
         "(T",
@@ -69,17 +82,18 @@ fn short_texts_agree_after_every_kind_of_beginning() {
         "T|EX[a]",
         "~(~",
     ];
-    for beginning in beginnings {
-        for index in 0..bytes.len().pow(4) {
-            let digit = |place: u32| bytes[index / bytes.len().pow(place) % bytes.len()];
-            let text = [beginning.as_bytes(), &[0, 1, 2, 3].map(digit)].concat();
-            let lent = &mut [0; FORMULA_LENGTH];
-            let second = second::entries::read_formula(&table, &text, lent);
-            let baseline = second::baseline::read_formula(&table, &text, lent);
-            assert_eq!(second, baseline, "{}", text.escape_ascii());
-        }
-    }
-    assert!(bytes.len() < MAX_BYTES);
+    texts_agree(b"T~|()[];.*a?!EX U1", &beginnings);
+}
+
+/// The beginnings lead to each border of a short form.
+#[test]
+fn short_texts_agree_about_short_forms() {
+    let beginnings = [
+        "", "T&", "~T|", "(~T&", "~T&~T", "D", "DIA", "BO", "BOX[", "DIA[a", "BOX[a]", "E", "A",
+        "AG", "EF", "AG~T",
+    ];
+    texts_agree(b"T~|&()[].;aAGEF ", &beginnings[..]);
+    texts_agree(b"TIAOX[]a& ", &beginnings[..]);
 }
 
 fn agree<C: Case>(case: &C) {

@@ -7,26 +7,23 @@ use std::fmt::Write;
 use common::{LOOPS, M, ONE_STATE, question};
 use second::print;
 
+type Words = &'static [&'static [u8]];
+
 struct Line {
     name: &'static str,
     table: &'static str,
     formula: String,
-    words: &'static [&'static [u8]],
+    words: Words,
 }
 
-fn line(
-    name: &'static str,
-    table: &'static str,
-    formula: &str,
-    words: &'static [&'static [u8]],
-) -> Line {
+fn line(name: &'static str, table: &'static str, formula: &str, words: Words) -> Line {
     Line { name, table, formula: formula.into(), words }
 }
 
 fn sheet() -> Vec<Line> {
     let m = |formula: &str, words| line("M", M, formula, words);
     let one_state = |formula, words| line("one state", ONE_STATE, formula, words);
-    vec![
+    let mut sheet = vec![
         m("T", &[&[], &[1]]),
         m("~T", &[&[], &[1]]),
         m("AX[req] T", &[&[], &[1]]),
@@ -51,8 +48,53 @@ fn sheet() -> Vec<Line> {
             "EX[b] T | EX[c] T | EX[a] EX[b] T",
             &[&[2], &[3], &[1, 2], &[1, 3], &[], &[1], &[2, 2]],
         ),
-    ]
+    ];
+    sheet.extend(short_forms());
+    sheet.extend(REFUSED.map(|formula| m(formula, &[])));
+    sheet
 }
+
+/// Lines of request 2, each accepted one beside its expansion.
+fn short_forms() -> impl Iterator<Item = Line> {
+    let lines: [(&str, &str, Words); 4] = [
+        ("AG ~EX[ack] T", "(~EU[*] ~~EX[ack] T)", &[&[1, 2], &[], &[2], &[1, 2, 1, 2]]),
+        ("BOX[req] ~EX[ack] T", "(~EX[req] ~~EX[ack] T)", &[&[1, 2], &[1], &[]]),
+        ("EF DIA[ack] T", "(EU[*] (EX[ack] T))", &[&[1, 2], &[1, 2, 1, 2], &[]]),
+        ("AX[req] T & ~EX[ack] T", "(~(~AX[req] T | ~~EX[ack] T))", &[&[], &[1], &[2]]),
+    ];
+    lines.into_iter().flat_map(|(typed, expansion, words)| {
+        [typed, expansion].map(|formula| line("M", M, formula, words))
+    })
+}
+
+const REFUSED: [&str; 26] = [
+    "T & T",
+    "AG T",
+    "BOX[req] T",
+    "AG EF T",
+    "T | ~T & ~T",
+    "(T | ~T) & ~T",
+    "DI",
+    "BO",
+    "EF",
+    "T&",
+    "T & ",
+    "DIAT",
+    "DIA T",
+    "DIA[.",
+    "BOX[req;",
+    "EF[req] T",
+    "AG [req]",
+    "T&&T",
+    "&",
+    "EX[req]&T",
+    "EX[req&ack",
+    "EG T",
+    "AF T",
+    "E F T",
+    "AG ~EX[a] T",
+    "T&T&T&T&T&T&T&T&T",
+];
 
 fn printed(line: &Line) -> String {
     let listing = print::explain(line.table.as_bytes(), line.formula.as_bytes());

@@ -5,16 +5,17 @@ use std::collections::BTreeSet;
 use std::path::PathBuf;
 
 use second::digests::answers::Explainer;
-use second::digests::{self, BASE, Corpus, MARKS, difference};
+use second::digests::{self, BASE, Corpus, MARKS, SHORT, difference};
 use second::entries::{self, Entries, SECOND};
 use second::reply::Reply;
 
 /// Each corpus and its stored lines.
-fn stored() -> [(Corpus, Vec<&'static str>); 2] {
+fn stored() -> [(Corpus, Vec<&'static str>); 3] {
     let lines = |file: &'static str| file.lines().filter(|line| !line.starts_with('#')).collect();
     let base = lines(include_str!("../corpus/base.txt"));
     let marks = lines(include_str!("../corpus/marks.txt"));
-    [(BASE, base), (MARKS, marks)]
+    let short = lines(include_str!("../corpus/short.txt"));
+    [(BASE, base), (MARKS, marks), (SHORT, short)]
 }
 
 fn explainer(entries: Entries) -> Explainer {
@@ -65,7 +66,7 @@ fn every_kind_has_a_stored_line_and_no_line_is_without_a_kind() {
 
 #[test]
 fn every_refusal_of_every_entry_is_among_the_answers() {
-    let [(_, base), (_, marks)] = stored();
+    let [(_, base), (_, marks), (_, short)] = stored();
     all_are_among(
         &base,
         &[
@@ -87,6 +88,10 @@ fn every_refusal_of_every_entry_is_among_the_answers() {
             ("accepts", &[0, 10]),
             ("program", &[0, 1, 6, 7]),
         ],
+    );
+    all_are_among(
+        &short,
+        &[("read_formula", &[0, 5, 6, 7, 8, 9]), ("texts", &[0]), ("program", &[0, 5, 6, 7, 8, 9])],
     );
 }
 
@@ -192,7 +197,7 @@ fn an_entry_or_a_program_that_is_missing_is_not_passed_over() {
 
 #[test]
 fn a_changed_missing_or_surplus_line_is_told() {
-    let [(_, base), _] = stored();
+    let [(_, base), ..] = stored();
     let (first, second) = (base[1], base[2]);
     let changed = first.replace("0:", "1:");
     let both = format!("# any comment\n{first}\n{second}\n");

@@ -1,30 +1,44 @@
-//! The grammar held against all short texts that 01's rules generate.
+//! The grammar held against all short texts that the rules of 01, and with them those of 02, generate.
 
 use std::collections::HashSet;
 
-use second::grammar::derive;
+use second::grammar::{Notation, derive};
 
-const LONGEST: usize = 10;
+/// A beginning of three bytes, such as `((E`, needs seven more at most; `((B` and `((D` need eight.
+fn longest(notation: Notation) -> usize {
+    match notation {
+        Notation::Base => 10,
+        Notation::Typed => 11,
+    }
+}
 
 /// All texts of each kind, of at most so many bytes.
 #[derive(Default)]
 struct Generated {
     formulas: Vec<String>,
+    conjunctions: Vec<String>,
     terms: Vec<String>,
     sets: Vec<String>,
     operands: Vec<String>,
 }
 
-fn generate() -> Generated {
+fn generate(notation: Notation) -> Generated {
     let mut shorter = Generated::default();
-    for length in 1..=LONGEST {
+    for length in 1..=longest(notation) {
         let operands = shorter.operands_of(length);
-        let sets = joined(&shorter.sets, &shorter.operands, length);
-        let terms = shorter.terms_of(length);
-        let formulas = joined(&shorter.formulas, &shorter.terms, length);
+        let sets = joined(&shorter.sets, "|", &shorter.operands, length);
+        let mut terms = shorter.terms_of(length);
+        let mut conjunctions = Vec::new();
+        if notation == Notation::Typed {
+            terms.extend(shorter.short_forms_of(length));
+            conjunctions = joined(&shorter.conjunctions, "&", &shorter.terms, length);
+        }
+        conjunctions.extend(terms.clone());
+        let formulas = joined(&shorter.formulas, "|", &shorter.conjunctions, length);
         shorter.sets.extend(sets.into_iter().chain(operands.clone()));
         shorter.operands.extend(operands);
-        shorter.formulas.extend(formulas.into_iter().chain(terms.clone()));
+        shorter.formulas.extend(formulas.into_iter().chain(conjunctions.clone()));
+        shorter.conjunctions.extend(conjunctions);
         shorter.terms.extend(terms);
     }
     shorter
@@ -61,10 +75,10 @@ fn pairs<'a>(
         .flat_map(move |left| within(right, room - left.len()).map(move |right| (left, right)))
 }
 
-/// Texts, `|` and one more part.
-fn joined(texts: &[String], parts: &[String], length: usize) -> Vec<String> {
+/// Texts, a joint and one more part.
+fn joined(texts: &[String], joint: &str, parts: &[String], length: usize) -> Vec<String> {
     pairs(texts, parts, length - 1)
-        .flat_map(|(text, part)| spaced(&[text, "|", part], length))
+        .flat_map(|(text, part)| spaced(&[text, joint, part], length))
         .collect()
 }
 
@@ -105,29 +119,48 @@ impl Generated {
         }
         terms
     }
+
+    fn short_forms_of(&self, length: usize) -> Vec<String> {
+        let mut terms = Vec::new();
+        for term in &self.terms {
+            terms.extend(spaced(&["EF", term], length));
+            terms.extend(spaced(&["AG", term], length));
+        }
+        for (set, term) in pairs(&self.sets, &self.terms, length.saturating_sub(5)) {
+            terms.extend(spaced(&["DIA", "[", set, "]", term], length));
+            terms.extend(spaced(&["BOX", "[", set, "]", term], length));
+        }
+        terms
+    }
 }
 
-#[test]
-fn the_rules_generate_each_text_once_and_each_is_in_the_grammar() {
-    let formulas = generate().formulas;
+fn all_are_in_the_grammar(notation: Notation) {
+    let formulas = generate(notation).formulas;
     assert!(formulas.len() > 10_000, "{} texts are too few to tell", formulas.len());
     for text in &formulas {
-        assert!(derive(text.as_bytes()).is_ok(), "{text:?}");
+        assert!(derive(notation, text.as_bytes()).is_ok(), "{text:?}");
     }
     let different: HashSet<&String> = formulas.iter().collect();
     assert_eq!(different.len(), formulas.len());
 }
 
 #[test]
-fn figure_6_is_the_longest_beginning_that_a_generated_text_has() {
-    let formulas = generate().formulas;
-    let texts: HashSet<&str> = formulas.iter().map(String::as_str).collect();
+fn the_rules_generate_each_text_once_and_each_is_in_the_grammar() {
+    all_are_in_the_grammar(Notation::Base);
+    all_are_in_the_grammar(Notation::Typed);
+}
+
+const TRIED: usize = 3;
+
+fn figures_are_those_of_beginnings(notation: Notation) {
+    let formulas = generate(notation).formulas;
+    let texts: HashSet<&str> = within(&formulas, TRIED).collect();
+    let ends = |text: &str| 0..=text.len().min(TRIED);
     let beginnings: HashSet<&str> =
-        texts.iter().flat_map(|text| (0..=text.len()).map(|end| &text[..end])).collect();
-    // A beginning of three bytes, such as `((E`, needs seven more at most.
-    for text in all_texts(3) {
+        formulas.iter().flat_map(|text| ends(text).map(|end| &text[..end])).collect();
+    for text in all_texts(TRIED) {
         let known = (0..=text.len()).rev().find(|&end| beginnings.contains(&text[..end]));
-        match derive(text.as_bytes()) {
+        match derive(notation, text.as_bytes()) {
             Ok(_) => assert!(texts.contains(&*text), "{text:?}"),
             Err(figure) => {
                 assert!(!texts.contains(&*text), "{text:?}");
@@ -137,11 +170,17 @@ fn figure_6_is_the_longest_beginning_that_a_generated_text_has() {
     }
 }
 
+#[test]
+fn figure_6_is_the_longest_beginning_that_a_generated_text_has() {
+    figures_are_those_of_beginnings(Notation::Base);
+    figures_are_those_of_beginnings(Notation::Typed);
+}
+
 fn all_texts(longest: usize) -> Vec<String> {
     let mut texts = vec![String::new()];
     let mut extended = 0;
     while texts[extended].len() < longest {
-        for byte in "T~|()[];.*?!aEAXU _0\n".chars() {
+        for byte in "T~|&()[];.*?!aEAXUFGDIBO _0\n".chars() {
             let longer = format!("{}{byte}", texts[extended]);
             texts.push(longer);
         }

@@ -1,14 +1,17 @@
 //! Explainers that are wrong where few inputs look: in long words, in one byte of prepared bytes, at
-//! all limits together, in the marks of names, in the figure of a rare refusal. The gate's inputs find
-//! each of them.
+//! all limits together, in the marks of names, in short forms, in the figure of a rare refusal. The
+//! gate's inputs find each of them.
+
+mod common;
 
 use std::fs;
 use std::path::Path;
 use std::process::{ExitStatus, Output};
 
+use common::line::{Fault, Line};
 use second::baseline::{BASELINE, accepts, build, read_formula, read_table, verdict};
 use second::entries::{EDGE_PLACE, Entries, NONE, ROW_PLACE, SECOND};
-use second::formula::MAX_BYTES;
+use second::formula::{Formula, MAX_BYTES, MAX_NODES};
 use second::prepared::{
     self, FORMULA_LENGTH, NAME_SLOT, NAMES, NODE_SLOT, TABLE_LENGTH, TRANSITION_SLOT, TRANSITIONS,
 };
@@ -691,6 +694,260 @@ fn faults_in_the_marks_of_formulas_are_found() {
     ]);
 }
 
+/// A line that is grammatical, with the names of the table, is read as it is written out with a fault.
+fn read_with(fault: Fault, table: &[u8], text: &[u8], formula: &mut [u8]) -> Reply {
+    let reply = read_formula(table, text, &mut formula.to_vec());
+    if !matches!(reply.number, 0 | 8 | 9) {
+        return reply;
+    }
+    let table = prepared::table_of(table).expect("a table");
+    match Formula::read_base(&table, Line::read(text).written_out(fault).as_bytes()) {
+        Ok(read) => {
+            formula[..FORMULA_LENGTH].copy_from_slice(&prepared::formula_bytes(&read));
+            Reply::accepted(0)
+        }
+        Err(refusal) => refusal.into(),
+    }
+}
+
+/// Whatever is refused by the grammar is typed otherwise and read again, as long as it can be.
+fn read_retyped(
+    table: &[u8],
+    text: &[u8],
+    formula: &mut [u8],
+    retyped: fn(&[u8], usize) -> Option<Vec<u8>>,
+) -> Reply {
+    let mut text = text.to_vec();
+    loop {
+        let reply = read_formula(table, &text, formula);
+        let Reply { number: 6, figure } = reply else {
+            return reply;
+        };
+        match retyped(&text, figure as usize) {
+            Some(other) => text = other,
+            None => return reply,
+        }
+    }
+}
+
+/// The keyword before the square bracket that this byte stands in, if it is one of three bytes.
+fn keyword(text: &[u8], at: usize) -> Option<usize> {
+    let bracket = text[..at].iter().rposition(|&byte| matches!(byte, b'[' | b']'))?;
+    let end = text[..bracket].iter().rposition(|&byte| byte != b' ')? + 1;
+    let is_keyword =
+        text[bracket] == b'[' && (text[..end].ends_with(b"DIA") || text[..end].ends_with(b"BOX"));
+    is_keyword.then(|| end - 3)
+}
+
+/// The text with this keyword of three bytes become another, if the byte is this one.
+fn with_keyword(text: &[u8], at: usize, byte: u8, other: &[u8; 3]) -> Option<Vec<u8>> {
+    let keyword = keyword(text, at).filter(|_| text.get(at) == Some(&byte))?;
+    let mut text = text.to_vec();
+    text[keyword..keyword + 3].copy_from_slice(other);
+    Some(text)
+}
+
+/// With `|` in place of an `&` in a set.
+fn with_union(text: &[u8], at: usize) -> Option<Vec<u8>> {
+    let bracket = text[..at].iter().rposition(|&byte| matches!(byte, b'[' | b']'))?;
+    let mut text = text.to_vec();
+    let is_and = text[bracket] == b'[' && text.get(at) == Some(&b'&');
+    is_and.then(|| {
+        text[at] = b'|';
+        text
+    })
+}
+
+#[test]
+fn faults_in_the_expansion_of_short_forms_are_found() {
+    all_are_found(&[
+        (
+            "`|` binds tighter than `&`",
+            Entries {
+                read_formula: Some(|table, text, formula| {
+                    read_with(Fault::OrBindsTighter, table, text, formula)
+                }),
+                ..NONE
+            },
+        ),
+        (
+            "`&` and `|` bind alike",
+            Entries {
+                read_formula: Some(|table, text, formula| {
+                    read_with(Fault::AndBindsAsOr, table, text, formula)
+                }),
+                ..NONE
+            },
+        ),
+        (
+            "`&` is grouped from the right",
+            Entries {
+                read_formula: Some(|table, text, formula| {
+                    read_with(Fault::GroupedFromTheRight, table, text, formula)
+                }),
+                ..NONE
+            },
+        ),
+        (
+            "AG without its inner `~`",
+            Entries {
+                read_formula: Some(|table, text, formula| {
+                    read_with(Fault::AlwaysWithoutInnerNot, table, text, formula)
+                }),
+                ..NONE
+            },
+        ),
+        (
+            "BOX is DIA",
+            Entries {
+                read_formula: Some(|table, text, formula| {
+                    read_with(Fault::BoxAsDiamond, table, text, formula)
+                }),
+                ..NONE
+            },
+        ),
+        (
+            "EF goes on by silent steps only",
+            Entries {
+                read_formula: Some(|table, text, formula| {
+                    read_with(Fault::EventuallyBySilentSteps, table, text, formula)
+                }),
+                ..NONE
+            },
+        ),
+        (
+            "a double negation is simplified",
+            Entries {
+                read_formula: Some(|table, text, formula| {
+                    read_with(Fault::DoubleNegationSimplified, table, text, formula)
+                }),
+                ..NONE
+            },
+        ),
+        (
+            "`AG T` and `BOX[A] T` have a class",
+            Entries {
+                read_formula: Some(|table, text, formula| {
+                    read_with(Fault::AlwaysOfTrue, table, text, formula)
+                }),
+                ..NONE
+            },
+        ),
+    ]);
+}
+
+#[test]
+fn faults_in_what_is_measured_of_a_line_are_found() {
+    all_are_found(&[
+        (
+            "8 counts the nodes of the line as typed",
+            Entries {
+                read_formula: Some(|table, text, formula| {
+                    match read_formula(table, text, formula) {
+                        Reply { number: 8, .. } => match Line::read(text).nodes() {
+                            0..=MAX_NODES => Reply::accepted(0),
+                            nodes => Reply { number: 8, figure: nodes as u64 },
+                        },
+                        reply => reply,
+                    }
+                }),
+                ..NONE
+            },
+        ),
+        (
+            "7 is the offset in what is written out",
+            Entries {
+                read_formula: Some(|table, text, formula| {
+                    match read_formula(table, text, formula) {
+                        Reply { number: 7, .. } => {
+                            let table = prepared::table_of(table).expect("a table");
+                            let text = Line::read(text).written_out(Fault::None);
+                            let refused = Formula::read_base(&table, text.as_bytes());
+                            refused.expect_err("a name that the table lacks").into()
+                        }
+                        reply => reply,
+                    }
+                }),
+                ..NONE
+            },
+        ),
+        (
+            "5 measures what is written out",
+            Entries {
+                read_formula: Some(|table, text, formula| {
+                    let reply = read_formula(table, text, &mut formula.to_vec());
+                    let length = match reply.number {
+                        0 | 7 | 8 | 9 => Line::read(text).written_out(Fault::None).len(),
+                        _ => 0,
+                    };
+                    match length > MAX_BYTES {
+                        true => Reply { number: 5, figure: length as u64 },
+                        false => read_formula(table, text, formula),
+                    }
+                }),
+                ..NONE
+            },
+        ),
+    ]);
+}
+
+#[test]
+fn faults_in_the_borders_of_short_forms_are_found() {
+    all_are_found(&[
+        (
+            "`.` is taken in DIA and BOX",
+            Entries {
+                read_formula: Some(|table, text, formula| {
+                    read_retyped(table, text, formula, |text, at| {
+                        with_keyword(text, at, b'.', b"EX ")
+                    })
+                }),
+                ..NONE
+            },
+        ),
+        (
+            "`;` is taken in DIA and BOX",
+            Entries {
+                read_formula: Some(|table, text, formula| {
+                    read_retyped(table, text, formula, |text, at| {
+                        with_keyword(text, at, b';', b"EU ")
+                    })
+                }),
+                ..NONE
+            },
+        ),
+        (
+            "`&` is taken in a set",
+            Entries {
+                read_formula: Some(|table, text, formula| {
+                    read_retyped(table, text, formula, with_union)
+                }),
+                ..NONE
+            },
+        ),
+        (
+            "EF and AG need a blank behind them",
+            Entries {
+                read_formula: Some(|table, text, formula| {
+                    let reply = read_formula(table, text, &mut formula.to_vec());
+                    let viable = match reply.number {
+                        6 => reply.figure as usize,
+                        0 | 7 | 8 | 9 => text.len(),
+                        _ => return reply,
+                    };
+                    let is_keyword = |at: &usize| matches!(&text[at - 2..*at], b"EF" | b"AG");
+                    let is_without = |at: &usize| is_keyword(at) && text[*at] != b' ';
+                    match (2..viable).find(is_without) {
+                        Some(at) => Reply { number: 6, figure: at as u64 },
+                        None => read_formula(table, text, formula),
+                    }
+                }),
+                ..NONE
+            },
+        ),
+    ]);
+}
+
 /// The program whose refusals print another figure, if one is given.
 fn first_folder_found(name: &str, figure: fn(u64, u64) -> u64) -> Option<u64> {
     let place = std::env::temp_dir().join(format!("second-mutants-{}-{name}", std::process::id()));
@@ -753,6 +1010,11 @@ fn wrong_figures_of_the_programs_rare_refusals_are_found() {
 }
 
 #[test]
-fn the_explainer_under_the_mutants_agrees() {
+fn the_explainers_under_the_mutants_agree() {
     assert_eq!(fuzz::run(&SECOND, &BASELINE, SEED, 2_000, |_| ()), Ok(()));
+    let written_out = Entries {
+        read_formula: Some(|table, text, formula| read_with(Fault::None, table, text, formula)),
+        ..NONE
+    };
+    assert_eq!(fuzz::run(&SECOND, &written_out, SEED, 20_000, |_| ()), Ok(()));
 }

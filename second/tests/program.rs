@@ -11,7 +11,7 @@ use second::program;
 
 const SEED: u64 = 11;
 /// Enough for every kind to have several turns.
-const COUNT: u64 = 600;
+const COUNT: u64 = 900;
 
 fn place(test: &str) -> PathBuf {
     std::env::temp_dir().join(format!("second-program-{}-{test}", std::process::id()))

@@ -45,7 +45,8 @@ fn the_example_shows_the_changer_and_its_listing_byte_for_byte() {
     let table = read("samples/changer/table.txt");
     let formula = read("samples/changer/formula.txt");
     let directions = read("samples/directions/formula.txt");
-    assert_eq!(shown, [table, formula, listing("samples/changer"), directions]);
+    let short_forms = read("samples/short_forms/formula.txt");
+    assert_eq!(shown, [table, formula, listing("samples/changer"), directions, short_forms]);
 }
 
 #[test]
@@ -104,6 +105,35 @@ fn after_some_command_the_changer_receives_nothing_and_comes_to_wait() {
         assert!(ways.accepts(&word), "{word:?}");
         assert!(!ways.accepts(&word[1..]), "{word:?}");
         assert!(!ways.accepts(&word[..word.len() - 1]), "{word:?}");
+    }
+}
+
+#[test]
+fn the_listing_with_short_forms_is_as_the_example_tells() {
+    let (example, listing) = (read("docs/EXAMPLE.md"), listing("samples/short_forms"));
+    assert!(listing.starts_with("     0     2     9    11\n"));
+    assert!(example.contains("with 9 rows and 11 edges"));
+    for edge in ["2 5 4", "4 6 2", "2 5 5", "3 5 5", "5 0 7"] {
+        assert!(example.contains(&format!("`{edge}`")), "{edge}");
+        assert!(has_line(&listing, edge), "{edge}");
+    }
+}
+
+/// After each drop a retry, and after each acknowledgement the end: the second holds, and the ways in
+/// which the first is broken are those into the wait.
+#[test]
+fn a_drop_is_not_always_answered_by_a_retry() {
+    let table = read("samples/short_forms/table.txt");
+    assert_eq!(table, read("samples/changer/table.txt"));
+    let formula = read("samples/short_forms/formula.txt");
+    assert_eq!(formula, "AG (BOX[drop] AX[retry] T & BOX[ack] AX[done] T)\n");
+    let always = question(&table, formula.trim_end());
+    assert_eq!((always.verdict(), always.class()), (0, 2));
+    assert_eq!(question(&table, "AG BOX[ack] AX[done] T").verdict(), 1);
+    let into_the_wait = question(&table, read("samples/changer/formula.txt").trim_end());
+    assert_eq!(always.words(4), into_the_wait.words(4));
+    for word in [vec![1, 2, 5, 0], vec![1, 2, 3, 5, 0], vec![1, 2, 5, 6, 5, 0]] {
+        assert!(always.accepts(&word) && into_the_wait.accepts(&word), "{word:?}");
     }
 }
 

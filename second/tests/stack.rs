@@ -38,10 +38,13 @@ fn small_table() -> Table {
     Table::read(common::M.as_bytes()).expect("a table")
 }
 
-/// Brackets and heads within each other, as deep as 512 bytes allow, over table M.
+/// Brackets, heads and short forms within each other, as deep as 512 bytes allow, over table M.
 fn deep_texts() -> Vec<Vec<u8>> {
     let mut texts = Vec::new();
-    for unit in ["(", "~", "EX[.]", "EU[*]", "~(", "EX[*](", "T|("] {
+    for unit in [
+        "(", "~", "EX[.]", "EU[*]", "~(", "EX[*](", "T|(", "AG", "EF", "DIA[*]", "BOX[*]", "AG(",
+        "EF(", "BOX[*](", "T&", "T&(", "AGT&(", "T|T&(",
+    ] {
         texts.push(unit.repeat(MAX_BYTES / unit.len()));
         for end in [
             "T",
@@ -52,6 +55,9 @@ fn deep_texts() -> Vec<Vec<u8>> {
             "EX[nothere] T",
             "EX[~(req!|?)] T",
             "EU[?|!;~?] T",
+            "BOX[~(req|ack)] T",
+            "DIA[.",
+            "T&T",
             ")",
         ] {
             texts.push(unit.repeat((MAX_BYTES - end.len()) / unit.len()) + end);
@@ -60,7 +66,7 @@ fn deep_texts() -> Vec<Vec<u8>> {
             texts.push(closed + &")".repeat(brackets));
         }
     }
-    for head in ["EX[", "AX[", "EU[", "EU[*;"] {
+    for head in ["EX[", "AX[", "EU[", "EU[*;", "DIA[", "BOX["] {
         for outside in [0, 64, 128, 256, 384, 448, 500] {
             for unit in ["(", "~", "~(", "*|(", "?|(", "?|"] {
                 let begin = "(".repeat(outside) + head;
@@ -76,7 +82,8 @@ fn deep_texts() -> Vec<Vec<u8>> {
 fn large_questions() -> Vec<Question> {
     let mut questions = vec![longest_listing(&mut Rng::new(3))];
     let sides = ["EX[*] T"; 13].join(" | ");
-    for text in ["~".repeat(39) + "T", "EX[.]".repeat(39) + "T", sides] {
+    let boxes = "BOX[*]".repeat(12) + "~~~T";
+    for text in ["~".repeat(39) + "T", "EX[.]".repeat(39) + "T", boxes, sides] {
         let table = longest_table(&mut Rng::new(4));
         let formula = Formula::read(&table, text.as_bytes()).expect("a formula");
         questions.push(Question { table, formula });

@@ -1,4 +1,4 @@
-// The scope's bench sheet, run: for each line the table's name and the formula, the listing or the refusal, and the answers for some words.
+// The scope's bench sheet and the lines of later requests, run: for each line the table's name and the formula, the listing or the refusal, and the answers for some words.
 pub mod asking;
 pub mod sheet;
 pub mod writing;
@@ -9,4 +9,9 @@ fn main() {
     sheet::negations_on_m();
     sheet::on_one_state();
     sheet::on_loops();
+    sheet::short_forms_on_m();
+    sheet::short_forms_without_class_on_m();
+    sheet::short_forms_cut_on_m();
+    sheet::short_forms_spoilt_on_m();
+    sheet::short_forms_refused_on_m();
 }

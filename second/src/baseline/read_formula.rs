@@ -39,6 +39,7 @@ fn read(table: &Table, text: &[u8]) -> Result<[u8; FORMULA_LENGTH], Refusal> {
         unknown: None,
         going: None,
         nodes: Vec::with_capacity(MAX_NODES),
+        surplus: 0,
     };
     let whole = parser.formula();
     if whole.is_none() || parser.at < text.len() {
@@ -48,8 +49,8 @@ fn read(table: &Table, text: &[u8]) -> Result<[u8; FORMULA_LENGTH], Refusal> {
         return Err(Refusal::UnknownName(offset));
     }
     let mut nodes = parser.nodes;
-    if nodes.len() > MAX_NODES {
-        return Err(Refusal::NodeCount(nodes.len()));
+    if parser.surplus > 0 {
+        return Err(Refusal::NodeCount(nodes.len() + parser.surplus));
     }
     complete(&mut nodes).map_err(Refusal::NoClass)?;
     Ok(form(&nodes))
@@ -67,7 +68,11 @@ fn form(nodes: &[Node]) -> [u8; FORMULA_LENGTH] {
     form
 }
 
-/// Reading fails with `at` where the longest viable beginning ends.
+/// Neither `|` nor `&`.
+const NO_JOINT: u8 = 0;
+
+/// Reading fails with `at` where the longest viable beginning ends. What only short forms need is not
+/// inlined, so that the frame of a term stays small.
 struct Parser<'a> {
     table: &'a Table<'a>,
     text: &'a [u8],
@@ -75,7 +80,10 @@ struct Parser<'a> {
     unknown: Option<usize>,
     /// The received labels and the sent ones, from the first operand that asks for them.
     going: Option<[u64; 2]>,
+    /// Of the written-out text, in order, as long as there are not too many.
     nodes: Vec<Node>,
+    /// So many more there are.
+    surplus: usize,
 }
 
 impl Parser<'_> {
@@ -101,18 +109,41 @@ impl Parser<'_> {
     fn formula(&mut self) -> Option<()> {
         let first = self.nodes.len();
         self.term()?;
-        loop {
-            let end = self.at;
-            if self.mark(b'|').is_none() {
-                // Blanks behind the last token of a bracket are its own; at the end they are viable
-                // and no more.
-                return (self.at < self.text.len() || self.at == end).then_some(());
+        match self.joint()? {
+            NO_JOINT => Some(()),
+            joint => self.joined(first, joint),
+        }
+    }
+
+    /// The `|` or `&` that follows. Blanks behind the last token of a bracket are its own; at the end
+    /// they are viable and no more.
+    fn joint(&mut self) -> Option<u8> {
+        let end = self.at;
+        self.blanks();
+        match self.next() {
+            Some(joint @ (b'|' | b'&')) => Some(joint),
+            next => (next.is_some() || self.at == end).then_some(NO_JOINT),
+        }
+    }
+
+    /// Behind the first term, whose first node has this number.
+    #[inline(never)]
+    fn joined(&mut self, first: usize, mut joint: u8) -> Option<()> {
+        let mut conjunction = first;
+        while joint != NO_JOINT {
+            self.at += 1;
+            if joint == b'|' {
+                self.insert(first, &[OR]);
+                conjunction = self.nodes.len();
+            } else {
+                self.insert(conjunction, &[NOT, OR, NOT]);
+                self.push(NOT, 0, 0);
             }
             self.blanks();
             self.term()?;
-            let or = Node { kind: OR, ..Node::default() };
-            self.nodes.insert(first, or);
+            joint = self.joint()?;
         }
+        Some(())
     }
 
     fn term(&mut self) -> Option<()> {
@@ -139,6 +170,7 @@ impl Parser<'_> {
                 match self.next()? {
                     b'X' => self.next_step(NEXT_SILENT, NEXT),
                     b'U' => self.until(),
+                    b'F' => self.eventually(),
                     _ => None,
                 }
             }
@@ -146,15 +178,34 @@ impl Parser<'_> {
                 self.at += 1;
                 match self.next()? {
                     b'X' => self.next_step(ALL_NEXT_SILENT, ALL_NEXT),
+                    b'G' => self.always(),
                     _ => None,
                 }
             }
+            b'D' => self.diamond(),
+            b'B' => self.box_form(),
             _ => None,
         }
     }
 
     fn push(&mut self, kind: u8, first: u64, then: u64) {
-        self.nodes.push(Node { kind, first, then, ..Node::default() });
+        match self.nodes.len() < MAX_NODES {
+            true => self.nodes.push(Node { kind, first, then, ..Node::default() }),
+            false => self.surplus += 1,
+        }
+    }
+
+    fn insert(&mut self, at: usize, kinds: &[u8]) {
+        let count = self.nodes.len();
+        if count + kinds.len() > MAX_NODES {
+            self.surplus += kinds.len();
+            return;
+        }
+        self.nodes.resize(count + kinds.len(), Node::default());
+        self.nodes.copy_within(at..count, at + kinds.len());
+        for (node, &kind) in self.nodes[at..].iter_mut().zip(kinds) {
+            *node = Node { kind, ..Node::default() };
+        }
     }
 
     fn next_step(&mut self, silent: u8, among: u8) -> Option<()> {
@@ -187,6 +238,51 @@ impl Parser<'_> {
         self.mark(b']')?;
         self.blanks();
         self.term()
+    }
+
+    #[inline(never)]
+    fn eventually(&mut self) -> Option<()> {
+        self.at += 1;
+        self.push(UNTIL, self.all(), 0);
+        self.blanks();
+        self.term()
+    }
+
+    #[inline(never)]
+    fn always(&mut self) -> Option<()> {
+        self.at += 1;
+        self.push(NOT, 0, 0);
+        self.push(UNTIL, self.all(), 0);
+        self.push(NOT, 0, 0);
+        self.blanks();
+        self.term()
+    }
+
+    #[inline(never)]
+    fn diamond(&mut self) -> Option<()> {
+        b"DIA".iter().try_for_each(|&byte| self.byte(byte))?;
+        let set = self.bracketed_set()?;
+        self.push(NEXT, set, 0);
+        self.term()
+    }
+
+    #[inline(never)]
+    fn box_form(&mut self) -> Option<()> {
+        b"BOX".iter().try_for_each(|&byte| self.byte(byte))?;
+        let set = self.bracketed_set()?;
+        self.push(NOT, 0, 0);
+        self.push(NEXT, set, 0);
+        self.push(NOT, 0, 0);
+        self.term()
+    }
+
+    fn bracketed_set(&mut self) -> Option<u64> {
+        self.mark(b'[')?;
+        self.blanks();
+        let set = self.set()?;
+        self.mark(b']')?;
+        self.blanks();
+        Some(set)
     }
 
     fn all(&self) -> u64 {

@@ -1,6 +1,6 @@
 //! The corpus `base`, whose answers `corpus/base.txt` holds. This generator is left alone and uses
 //! nothing else of the crate, so that its inputs stay what they are, byte for byte; new kinds of
-//! input get a new corpus beside it, as in `marks`.
+//! input get a new corpus beside it, as in `marks` and `short`.
 
 mod calls;
 mod damage;
@@ -11,6 +11,7 @@ mod questions;
 mod read_formula;
 mod read_table;
 mod rng;
+pub mod short;
 mod tables;
 
 pub use folders::File;

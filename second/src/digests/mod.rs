@@ -28,7 +28,13 @@ pub const MARKS: Corpus = Corpus {
     kinds: || corpus::marks::kinds().collect(),
 };
 
-pub const CORPORA: [Corpus; 2] = [BASE, MARKS];
+pub const SHORT: Corpus = Corpus {
+    name: "short",
+    generator: "second/src/corpus/short.rs",
+    kinds: || corpus::short::kinds().collect(),
+};
+
+pub const CORPORA: [Corpus; 3] = [BASE, MARKS, SHORT];
 
 impl Corpus {
     pub fn kinds(&self) -> Vec<Kind> {

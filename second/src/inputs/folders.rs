@@ -5,7 +5,7 @@ use super::edits::{self, Edit};
 use super::kinds::{Kinds, pick};
 use super::questions::{Question, question};
 use super::rng::Rng;
-use super::{formulas, marks, tables};
+use super::{formulas, marks, short, tables};
 use crate::formula::{MAX_BYTES, MAX_NODES};
 use crate::table::{MAX_STATES, MAX_TRANSITIONS, Step, Table};
 
@@ -43,7 +43,7 @@ const fn way(name: &'static str, numbers: &'static [u32], files: fn(&mut Rng) ->
     Way { name, numbers, files }
 }
 
-pub const WAYS: [Way; 60] = [
+pub const WAYS: [Way; 74] = [
     way("whole texts", &[0], |rng| whole(rng).files()),
     way("table of any text", &[0, 1], |rng| with_table(rng, any_table_text)),
     way("formula of any text", &[0, 6], |rng| over(rng, small_table).files()),
@@ -88,6 +88,33 @@ pub const WAYS: [Way; 60] = [
         with_formula(rng, |rng, table| marks::in_formula(rng, table, marks::exchange))
     }),
     way("formula: a mark added", &[6, 7], |rng| with_formula(rng, marks::added_in_formula)),
+    way("short forms", &[0], |rng| {
+        with_formula(rng, |rng, table| {
+            let tokens = short::tokens(rng, table);
+            formulas::spaced(rng, &tokens)
+        })
+    }),
+    way("short forms of 39 to 41 nodes", &[0, 8], |rng| {
+        with_formula(rng, short::about_forty_nodes)
+    }),
+    way("short forms in 511 to 513 bytes", &[0, 5], |rng| {
+        with_formula(rng, short::about_512_bytes)
+    }),
+    way("short forms of up to 1,277 nodes", &[8], |rng| {
+        with_formula(rng, |rng, _| short::most_nodes(rng))
+    }),
+    way("short forms without class", &[9], |rng| with_formula(rng, short::without_class)),
+    way("`&` beside `|`", &[9], |rng| with_formula(rng, short::beside_or)),
+    way("name that the table lacks behind a short form", &[7], |rng| {
+        with_formula(rng, short::lacking_name)
+    }),
+    way("formula: a short form cut off", &[6], |rng| with_formula(rng, short::cut_off)),
+    way("formula: a part of a keyword", &[6], |rng| with_formula(rng, short::keyword_in_part)),
+    way("formula: a set behind EF or AG", &[6], |rng| with_formula(rng, short::needless_set)),
+    way("formula: no set behind DIA or BOX", &[6], |rng| with_formula(rng, short::missing_set)),
+    way("formula: `.` or `;` in DIA or BOX", &[6], |rng| with_formula(rng, short::no_set)),
+    way("formula: `&` without a side", &[6], |rng| with_formula(rng, short::missing_side)),
+    way("formula: `&` in a set", &[6], |rng| with_formula(rng, short::in_a_set)),
     way("over 40 nodes", &[8], |rng| with_formula(rng, formulas::over_forty_nodes)),
     way("node without class", &[9], |rng| with_formula(rng, formulas::without_class)),
     way("formula of about 40 nodes", &[0, 8], |rng| {

@@ -4,7 +4,7 @@
 use super::kinds::{Way, pick, way};
 use super::rng::Rng;
 use super::tables::name;
-use super::{damage, damage_an_end, marks, random_bytes};
+use super::{damage, damage_an_end, marks, random_bytes, short};
 use crate::formula::{Class, Condition, Formula, MAX_BYTES, MAX_NODES, Node, Set};
 use crate::prepared::{FORMULA_LENGTH, NODE_SLOT, NODES};
 use crate::table::{Direction, MAX_STEM, Table};
@@ -27,7 +27,22 @@ pub fn class(rng: &mut Rng, nodes: usize) -> Class {
 
 /// A formula of exactly so many nodes, of the class or, without one, of whatever form.
 pub fn formula(rng: &mut Rng, class: Option<Class>, nodes: usize, table: &Table) -> Formula {
-    let mut growth = Growth { rng, sets: Sets::over(table), nodes: Vec::with_capacity(nodes) };
+    grown(rng, Forms::All, class, nodes, table)
+}
+
+/// The same, of short forms as far as they fit.
+pub fn of_short_forms(rng: &mut Rng, class: Option<Class>, nodes: usize, table: &Table) -> Formula {
+    grown(rng, Forms::Short, class, nodes, table)
+}
+
+fn grown(
+    rng: &mut Rng,
+    forms: Forms,
+    class: Option<Class>,
+    nodes: usize,
+    table: &Table,
+) -> Formula {
+    let mut growth = Growth::new(rng, forms, table);
     growth.grow(class, nodes);
     Formula { nodes: growth.nodes }
 }
@@ -35,11 +50,10 @@ pub fn formula(rng: &mut Rng, class: Option<Class>, nodes: usize, table: &Table)
 /// Of so many nodes, three or more: an until as its root (class 1), or below a `~` (class 2).
 pub fn until(rng: &mut Rng, nodes: usize, table: &Table) -> Formula {
     let sets = Sets::over(table);
-    let mut growth = Growth { rng, sets, nodes: Vec::with_capacity(nodes) };
+    let mut growth = Growth::new(rng, Forms::All, table);
     let negations = growth.rng.pick(&[0, 0, 0, 1]);
     growth.nodes.extend((0..negations).map(|number| Node::Not(number + 1)));
-    let root = growth.nodes.len();
-    growth.nodes.push(Node::True);
+    let root = growth.reserve();
     let set = match growth.rng.one_in(2) {
         true => sets.all(),
         false => sets.any(growth.rng),
@@ -53,16 +67,35 @@ pub fn until(rng: &mut Rng, nodes: usize, table: &Table) -> Formula {
     Formula { nodes: growth.nodes }
 }
 
+/// The forms to choose from.
+#[derive(Clone, Copy, PartialEq, Eq)]
+enum Forms {
+    All,
+    Short,
+}
+
 struct Growth<'a> {
     rng: &'a mut Rng,
+    forms: Forms,
     sets: Sets,
     nodes: Vec<Node>,
 }
 
+impl<'a> Growth<'a> {
+    fn new(rng: &'a mut Rng, forms: Forms, table: &Table) -> Growth<'a> {
+        Growth { rng, forms, sets: Sets::over(table), nodes: Vec::new() }
+    }
+}
+
 impl Growth<'_> {
-    fn grow(&mut self, class: Option<Class>, count: usize) -> usize {
-        let number = self.nodes.len();
+    /// The number of a node that is set later.
+    fn reserve(&mut self) -> usize {
         self.nodes.push(Node::True);
+        self.nodes.len() - 1
+    }
+
+    fn grow(&mut self, class: Option<Class>, count: usize) -> usize {
+        let number = self.reserve();
         if count > 1 {
             self.nodes[number] = match class {
                 Some(Class::Witnesses) => self.witnessed(count),
@@ -78,6 +111,7 @@ impl Growth<'_> {
         // The smallest formula of the other class has two nodes.
         let forms = if count > 2 { 12 } else { 6 };
         match self.rng.below(forms) {
+            0..6 if self.forms == Forms::Short => self.short(witnesses, count),
             0 | 1 => Node::Next(self.condition(), self.grow(witnesses, count - 1)),
             2 | 3 => Node::Until(self.sets.any(self.rng), self.grow(witnesses, count - 1)),
             4 | 5 => self.until_then(witnesses, count),
@@ -91,22 +125,68 @@ impl Growth<'_> {
             2 => Class::Witnesses,
             _ => Class::Counterexamples,
         };
-        match self.rng.below(3) {
-            0 => Node::Not(self.grow(Some(Class::Witnesses), count - 1)),
+        let forms = if self.forms == Forms::Short { 8 } else { 16 };
+        match self.rng.below(forms) {
+            0..3 if count >= 8 => self.and(Some(Class::Counterexamples), count),
+            3..6 if count >= 5 => self.always(Some(Class::Counterexamples), count),
+            6..10 => Node::Not(self.grow(Some(Class::Witnesses), count - 1)),
             _ => Node::AllNext(self.condition(), self.grow(Some(arm), count - 1)),
         }
     }
 
     fn any(&mut self, count: usize) -> Node {
-        let forms = if count > 2 { 6 } else { 5 };
+        let forms = if count > 2 { 8 } else { 5 };
         match self.rng.below(forms) {
             0 => Node::Not(self.grow(None, count - 1)),
+            1 | 2 if self.forms == Forms::Short => self.short(None, count),
             1 => Node::Next(self.condition(), self.grow(None, count - 1)),
             2 => Node::AllNext(self.condition(), self.grow(None, count - 1)),
             3 => Node::Until(self.sets.any(self.rng), self.grow(None, count - 1)),
             4 => self.until_then(None, count),
+            5 if count >= 6 => self.and(None, count),
+            6 if count >= 4 => self.always(None, count),
             _ => self.or(None, count),
         }
+    }
+
+    /// `EF x` or `DIA[A] x` written out.
+    fn short(&mut self, class: Option<Class>, count: usize) -> Node {
+        match self.rng.one_in(2) {
+            true => Node::Until(self.sets.all(), self.grow(class, count - 1)),
+            false => {
+                let set = self.sets.any(self.rng);
+                Node::Next(Condition::Among(set), self.grow(class, count - 1))
+            }
+        }
+    }
+
+    /// `AG x` or `BOX[A] x` written out.
+    fn always(&mut self, class: Option<Class>, count: usize) -> Node {
+        let number = self.reserve();
+        let set = self.sets.any(self.rng);
+        let arm = self.not(class, count - 3);
+        self.nodes[number] = match self.rng.one_in(2) {
+            true => Node::Until(self.sets.all(), arm),
+            false => Node::Next(Condition::Among(set), arm),
+        };
+        Node::Not(number)
+    }
+
+    /// `x & y` written out.
+    fn and(&mut self, class: Option<Class>, count: usize) -> Node {
+        let least = if class.is_none() { 1 } else { 2 };
+        let left = self.rng.between(least, count - 4 - least);
+        let number = self.reserve();
+        let arms = [left, count - 4 - left].map(|nodes| self.not(class, nodes));
+        self.nodes[number] = Node::Or(arms[0], arms[1]);
+        Node::Not(number)
+    }
+
+    /// `~` before a formula of so many nodes.
+    fn not(&mut self, class: Option<Class>, count: usize) -> usize {
+        let number = self.reserve();
+        self.nodes[number] = Node::Not(self.grow(class, count));
+        number
     }
 
     fn until_then(&mut self, class: Option<Class>, count: usize) -> Node {
@@ -180,7 +260,7 @@ impl Sets {
 }
 
 /// Texts to read, of a formula over the table or near it.
-pub const TEXTS: [Way<Table, Vec<u8>>; 20] = [
+pub const TEXTS: [Way<Table, Vec<u8>>; 36] = [
     way("as written", 44, &[0, 5], |rng, table| {
         let tokens = some_tokens(rng, table);
         spaced(rng, &tokens)
@@ -222,6 +302,25 @@ pub const TEXTS: [Way<Table, Vec<u8>>; 20] = [
     way("another mark", 2, &[7], |rng, table| marks::in_formula(rng, table, marks::exchange)),
     way("a mark dropped", 2, &[7], |rng, table| marks::in_formula(rng, table, marks::remove)),
     way("a mark added", 3, &[6, 7], marks::added_in_formula),
+    way("short forms", 16, &[0], |rng, table| {
+        let tokens = short::tokens(rng, table);
+        spaced(rng, &tokens)
+    }),
+    way("short forms of 39 to 41 nodes", 4, &[0, 8], short::about_forty_nodes),
+    way("short forms in 511 to 513 bytes", 4, &[0, 5], short::about_512_bytes),
+    way("short forms of up to 1,277 nodes", 2, &[8], |rng, _| short::most_nodes(rng)),
+    way("short forms without class", 3, &[9], short::without_class),
+    way("`&` beside `|`", 3, &[9], short::beside_or),
+    way("name that the table lacks behind a short form", 3, &[7], short::lacking_name),
+    way("a short form cut off", 2, &[6], short::cut_off),
+    way("a part of a keyword", 2, &[6], short::keyword_in_part),
+    way("a blank in a keyword", 1, &[6], short::keyword_with_blank),
+    way("another keyword", 1, &[6], short::other_keyword),
+    way("a set behind EF or AG", 2, &[6], short::needless_set),
+    way("no set behind DIA or BOX", 1, &[6], short::missing_set),
+    way("`.` or `;` in DIA or BOX", 2, &[6], short::no_set),
+    way("`&` without a side", 2, &[6], short::missing_side),
+    way("`&` in a set", 2, &[6], short::in_a_set),
     way("over 40 nodes", 5, &[8], over_forty_nodes),
     way("node without class", 6, &[9], without_class),
     way("deep", 4, &[0, 6, 8], |rng, _| deep_text(rng)),
@@ -314,11 +413,56 @@ pub fn without_class(rng: &mut Rng, table: &Table) -> Vec<u8> {
     }
 }
 
-/// The tokens of some text of this formula.
+/// A short form that a node may be written as, with what it is written of.
+#[derive(Clone, Copy)]
+enum Short {
+    And(usize, usize),
+    Eventually(usize),
+    Always(usize),
+    Diamond(Set, usize),
+    Box(Set, usize),
+}
+
+impl Short {
+    fn of(formula: &Formula, node: usize, all: Set) -> Option<Short> {
+        let below_not = |number: usize| match formula.nodes[number] {
+            Node::Not(arm) => Some(arm),
+            _ => None,
+        };
+        match formula.nodes[node] {
+            Node::Until(set, arm) if set == all => Some(Short::Eventually(arm)),
+            Node::Next(Condition::Among(set), arm) => Some(Short::Diamond(set, arm)),
+            Node::Not(number) => match formula.nodes[number] {
+                Node::Until(set, arm) if set == all => below_not(arm).map(Short::Always),
+                Node::Next(Condition::Among(set), arm) => {
+                    below_not(arm).map(|arm| Short::Box(set, arm))
+                }
+                Node::Or(left, right) => Some(Short::And(below_not(left)?, below_not(right)?)),
+                _ => None,
+            },
+            _ => None,
+        }
+    }
+}
+
+/// The tokens of some text of this formula, which may have short forms.
 pub fn tokens(rng: &mut Rng, formula: &Formula, table: &Table) -> Vec<Vec<u8>> {
+    let in_four = rng.pick(&[0, 1, 3, 4]);
+    written(rng, formula, table, in_four)
+}
+
+/// With a short form wherever there can be one.
+pub fn short_tokens(rng: &mut Rng, formula: &Formula, table: &Table) -> Vec<Vec<u8>> {
+    written(rng, formula, table, 4)
+}
+
+/// So many in four nodes that can be short forms are.
+fn written(rng: &mut Rng, formula: &Formula, table: &Table, in_four: usize) -> Vec<Vec<u8>> {
     let brackets = rng.pick(&[2, 8, 1_000]);
     let sets = Sets::over(table);
-    let mut writer = Writer { rng, formula, table, sets, brackets, tokens: Vec::new() };
+    let short = |node| Short::of(formula, node, sets.all()).filter(|_| rng.below(4) < in_four);
+    let short = (0..formula.nodes.len()).map(short).collect();
+    let mut writer = Writer { rng, formula, short, table, sets, brackets, tokens: Vec::new() };
     writer.formula(0);
     writer.tokens
 }
@@ -326,6 +470,8 @@ pub fn tokens(rng: &mut Rng, formula: &Formula, table: &Table) -> Vec<Vec<u8>> {
 struct Writer<'a> {
     rng: &'a mut Rng,
     formula: &'a Formula,
+    /// What each node is written as, if it is a short form.
+    short: Vec<Option<Short>>,
     table: &'a Table,
     sets: Sets,
     /// One in so many terms stands in brackets that it does not need.
@@ -343,6 +489,17 @@ impl Writer<'_> {
             Node::Or(left, right) => {
                 self.formula(left);
                 self.put(b"|");
+                self.conjunction(right);
+            }
+            _ => self.conjunction(node),
+        }
+    }
+
+    fn conjunction(&mut self, node: usize) {
+        match self.short[node] {
+            Some(Short::And(left, right)) => {
+                self.conjunction(left);
+                self.put(b"&");
                 self.term(right);
             }
             _ => self.term(node),
@@ -350,13 +507,44 @@ impl Writer<'_> {
     }
 
     fn term(&mut self, node: usize) {
-        let needed = matches!(self.formula.nodes[node], Node::Or(..));
+        let needed = matches!(self.formula.nodes[node], Node::Or(..))
+            || matches!(self.short[node], Some(Short::And(..)));
         if needed || self.rng.one_in(self.brackets) {
             self.put(b"(");
             self.formula(node);
             self.put(b")");
             return;
         }
+        match self.short[node] {
+            Some(short) => self.short_form(short),
+            None => self.base_form(node),
+        }
+    }
+
+    fn short_form(&mut self, short: Short) {
+        let arm = match short {
+            Short::Eventually(arm) => {
+                self.put(b"EF");
+                arm
+            }
+            Short::Always(arm) => {
+                self.put(b"AG");
+                arm
+            }
+            Short::Diamond(set, arm) => {
+                self.head(b"DIA", Condition::Among(set), None);
+                arm
+            }
+            Short::Box(set, arm) => {
+                self.head(b"BOX", Condition::Among(set), None);
+                arm
+            }
+            Short::And(..) => unreachable!("a term that is no bracket"),
+        };
+        self.term(arm);
+    }
+
+    fn base_form(&mut self, node: usize) {
         match self.formula.nodes[node] {
             Node::True => self.put(b"T"),
             Node::Not(_) => self.put(b"~"),
@@ -469,9 +657,9 @@ impl Writer<'_> {
 
 /// Tokens lost, repeated, exchanged, or replaced, by a name that no table has among others.
 fn faulty_token(rng: &mut Rng, tokens: &mut Vec<Vec<u8>>) {
-    const MARKS: [&[u8]; 16] = [
-        b"T", b"~", b"|", b"EX", b"AX", b"EU", b"[", b"]", b"(", b")", b";", b".", b"*", b"?",
-        b"!", b"E",
+    const MARKS: [&[u8]; 21] = [
+        b"T", b"~", b"|", b"&", b"EX", b"AX", b"EU", b"EF", b"AG", b"DIA", b"BOX", b"[", b"]",
+        b"(", b")", b";", b".", b"*", b"?", b"!", b"E",
     ];
     let at = rng.below(tokens.len() + 1);
     let names: Vec<usize> = (0..tokens.len()).filter(|&at| is_name(&tokens[at])).collect();
@@ -502,15 +690,20 @@ pub fn absent_name(rng: &mut Rng) -> Vec<u8> {
 /// With blanks between tokens: none, some, or as many as lead to a length at the limit.
 pub fn spaced(rng: &mut Rng, tokens: &[Vec<u8>]) -> Vec<u8> {
     let bytes: usize = tokens.iter().map(Vec::len).sum();
-    let gaps = tokens.len().saturating_sub(1);
-    let mut blanks = vec![0; gaps + 2];
     let added = match rng.below(32) {
         0 => rng.between(MAX_BYTES - 1, MAX_BYTES + 1).saturating_sub(bytes),
         1 => MAX_BYTES.saturating_sub(bytes),
         2..12 => 0,
-        _ => rng.below(gaps + 1),
+        _ => rng.below(tokens.len().max(1)),
     };
-    for _ in 0..added {
+    with_blanks(rng, tokens, added)
+}
+
+/// So many blanks between tokens.
+pub fn with_blanks(rng: &mut Rng, tokens: &[Vec<u8>], count: usize) -> Vec<u8> {
+    let gaps = tokens.len().saturating_sub(1);
+    let mut blanks = vec![0; gaps + 2];
+    for _ in 0..count {
         let faulty = gaps == 0 || rng.one_in(2_000);
         let gap = if faulty { rng.below(gaps + 2) } else { rng.between(1, gaps) };
         blanks[gap] += 1;
@@ -523,7 +716,7 @@ pub fn spaced(rng: &mut Rng, tokens: &[Vec<u8>]) -> Vec<u8> {
     text
 }
 
-/// Brackets and negations as deep as the length allows, of terms or of operands.
+/// Brackets, negations and short forms as deep as the length allows, of terms or of operands.
 fn deep_text(rng: &mut Rng) -> Vec<u8> {
     let depth = rng.pick(&[20, 39, 100, 250, 255, 256, 511]);
     let (before, inner, after) = match rng.below(4) {
@@ -531,7 +724,10 @@ fn deep_text(rng: &mut Rng) -> Vec<u8> {
         1 => ("EU[*;", rng.pick(&["*", "?", "!"]), "]T"),
         _ => ("", "T", ""),
     };
-    let opening = rng.pick(&["(", "~", "(~", "~("]);
+    let opening = match before {
+        "" => rng.pick(&["(", "~", "(~", "~(", "AG", "EF", "DIA[*]", "BOX[*]", "AG(", "~T&("]),
+        _ => rng.pick(&["(", "~", "(~", "~("]),
+    };
     let closing = if opening.contains('(') { ")" } else { "" };
     let open = depth / opening.len();
     let close = open + rng.pick(&[0, 0, 0, 1]) - rng.pick(&[0, 0, 0, 1]);

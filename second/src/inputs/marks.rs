@@ -52,7 +52,7 @@ fn has_mark(name: &[u8]) -> bool {
 }
 
 /// One of so many for which this is so, if there is any.
-fn some(rng: &mut Rng, count: usize, is_fit: impl Fn(usize) -> bool) -> Option<usize> {
+pub fn some(rng: &mut Rng, count: usize, is_fit: impl Fn(usize) -> bool) -> Option<usize> {
     let fit: Vec<usize> = (0..count).filter(|&at| is_fit(at)).collect();
     (!fit.is_empty()).then(|| rng.pick(&fit))
 }

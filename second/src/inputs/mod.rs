@@ -8,13 +8,14 @@ pub mod lending;
 pub mod marks;
 pub mod questions;
 pub mod rng;
+pub mod short;
 pub mod tables;
 pub mod words;
 
 use rng::Rng;
 
 /// Bytes that mean something in a table or a formula, and some that never do.
-const TELLING: &[u8] = b" \n0123456789abz_?!AEUTX~|()[];.*\r\t\0-+/:@`{\x7f\x80\xb1\xff";
+const TELLING: &[u8] = b" \n0123456789abz_?!ABDEFGIOTUX~|&()[];.*\r\t\0-+/:@`{\x7f\x80\xb1\xff";
 
 pub fn random_bytes(rng: &mut Rng, length: usize) -> Vec<u8> {
     let telling = rng.one_in(2);

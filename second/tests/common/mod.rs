@@ -2,6 +2,7 @@
 #![allow(dead_code)]
 
 pub mod header;
+pub mod line;
 
 use second::entries::{self, EDGE_PLACE, ROW_PLACE};
 use second::formula::Formula;

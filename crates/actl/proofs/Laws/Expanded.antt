@@ -15,7 +15,7 @@ use Rattle.actl.specs.Reading.{onTree, onResult, readUnlimited, readForm
 use Rattle.actl.specs.Expansion.{expansion, SameAnswer, same, lacking}
 use Rattle.actl.proofs.Marks.{formula-fits}
 use Rattle.actl.proofs.Grammar.{read-text, one-tree}
-use Rattle.actl.proofs.Expansion.{expands, own-expansion}
+use Rattle.actl.proofs.Expansion.{typed-written, expands, own-expansion}
 
 module _ (names : List (List ℕ)) where
   pub line-read : (s : List ℕ) (f : Disjunction) → length s ≤ longestText → Text marked s f → readFormula names s ≡ onTree names f
@@ -39,3 +39,6 @@ base-line s g f b p =
     let (q, _, e) = own-expansion marked s g b in
     let d = one-tree marked s f (typed g) p q in
     (d, ap expansion d ∙ e)
+
+pub one-base-tree : (s : List ℕ) (g h : Base) → BaseText marked s g → BaseText marked s h → g ≡ h
+one-base-tree s g h b c = sym (typed-written g) ∙ (ap writtenOut (sym (base-line s g (typed h) b (own-expansion marked s h c .0) .0)) ∙ typed-written h)
