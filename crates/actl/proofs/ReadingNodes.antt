@@ -12,7 +12,7 @@ use Rattle.actl.specs.Sizes.{mostNodes, nodeSlotLength, formulaLength}
 use Rattle.lts.proofs.Lists.{bind-append}
 use Rattle.actl.specs.Formulas.{Formula, size, nodes}
 use Rattle.actl.specs.Prepared.{Slot, slot, slotOf, slotBytes}
-use Rattle.actl.specs.Readers.{bytesOfNodes, putAt, NodesWritten, NodesEnclosed, orBytes, notBytes, andBytes}
+use Rattle.actl.specs.NodeBytes.{bytesOfNodes, putAt, NodesWritten, NodesEnclosed, orBytes, notBytes, andBytes}
 use Rattle.actl.proofs.Nodes.{length-nodes}
 use Rattle.actl.proofs.Laws.Widths.{length-parts}
 use Rattle.actl.proofs.ReadingBytes.{pasted-none, pasted-then, pasted-over}

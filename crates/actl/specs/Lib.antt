@@ -12,6 +12,7 @@ pub mod HoldsFormula
 pub mod InPrepared
 pub mod Meaning
 pub mod Mentions
+pub mod NodeBytes
 pub mod Prepared
 pub mod Reader
 pub mod Readers

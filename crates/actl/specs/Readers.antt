@@ -6,21 +6,20 @@ use mathlib.Core.List.{List, [], _∷_, _++_}
 use mathlib.Core.Option.{Option, none, some}
 use Prim.Native.Nat.{ℕ, zero, suc, _+_, _*_, _-_, _≤_, _<_}
 use lib.ListN.{length, take, drop}
-use Rattle.actl.specs.Sizes.{longestText, mostNodes, nodeSlotLength, formulaLength}
+use Rattle.actl.specs.Sizes.{longestText, mostNodes}
 use Rattle.columns.specs.Write.{pasted}
-use Rattle.lts.specs.Lists.{bind}
 use Rattle.lts.specs.Names.{lookup}
 use Rattle.lts.specs.Prepared.{tableIn}
 use Rattle.lts.specs.HoldsTable.{HoldsTable}
 use Rattle.actl.specs.Actions.{Action, Mask, Cond}
-use Rattle.actl.specs.Formulas.{Formula, size, nodes}
-use Rattle.actl.specs.Grammar.{gap, Set, Operand, Condition, Quantifier, existential, universal, Head, next, until, untilThen, reach, labelled, Disjunction, Conjunction, Term, showS, showO, showC, showH, showF, showT}
-use Rattle.actl.specs.WrittenOut.{writtenOut, writtenOutConjunction, writtenOutTerm}
+use Rattle.actl.specs.Formulas.{size}
+use Rattle.actl.specs.Grammar.{gap, Set, Operand, Condition, Quantifier, existential, universal, Head, next, until, untilThen, reach, labelled, Disjunction, Term, showS, showO, showC, showH, showF, showT}
 use Rattle.actl.specs.Reader.{oFirst, InTerm, tFirst, tModal, termAt, afterNext, afterUntil, afterFirst, second, third, operandAt, afterSet, afterDisjunction, plugO, plugT, read, whole, refused}
 use Rattle.actl.specs.Mentions.{Mention, namesS, namesO, namesC, namesH, namesF, namesT}
-use Rattle.actl.specs.Meaning.{labelsOf, actionOfOperand, maskIn, condOf, formulaOf, formulaOfTerm}
+use Rattle.actl.specs.Meaning.{labelsOf, actionOfOperand, maskIn, condOf, formulaF, formulaT}
 use Rattle.actl.specs.Reading.{unknownAt, firstUnknown}
-use Rattle.actl.specs.Prepared.{Slot, slot, nextSlot, slotOf, slotBytes}
+use Rattle.actl.specs.Prepared.{Slot, slot, nextSlot}
+use Rattle.actl.specs.NodeBytes.{bytesOfNodes, NodesWritten}
 use Rattle.actl.specs.Cursor.{peek, Token, Moves, Marked}
 
 -- The label names of the table in prepared bytes.
@@ -86,16 +85,6 @@ pub record NextRead (N : List (List ℕ)) (s : List ℕ) (at lost to : ℕ) (met
   pub means : condOf N condition ≡ met
   pub lacks : left ≡ earlier lost (unknownIn N (length s) (namesC condition (gap behind (93 ∷ drop to s))))
 
--- The formula of a part of the text, written out.
-abbrev pub formulaF : List (List ℕ) → Disjunction → Formula
-formulaF N f = formulaOf N (writtenOut f)
-
-abbrev pub formulaA : List (List ℕ) → Conjunction → Formula
-formulaA N c = formulaOfTerm N (writtenOutConjunction c)
-
-abbrev pub formulaT : List (List ℕ) → Term → Formula
-formulaT N t = formulaOfTerm N (writtenOutTerm t)
-
 -- The node between two `~`, where every path or step is meant.
 abbrev pub dualSlots : Quantifier → Slot → List Slot
 dualSlots existential v = v ∷ []
@@ -155,49 +144,6 @@ pub record NoLong (s : List ℕ) (at : ℕ) : Type 0 where
 -- How far a text without keyword there can go on: past an E or an A.
 abbrev pub NoKeyword : List ℕ → ℕ → ℕ → Type 0
 NoKeyword s at to = Marked s at 69 to ⊎ (Marked s at 65 to ⊎ ((peek s at ≡ 69 → ⊥) × (peek s at ≡ 65 → ⊥) × (to ≡ at)))
-
--- The nodes of a formula as prepared bytes hold them.
-abbrev pub bytesOfNodes : Formula → List ℕ
-bytesOfNodes F = bind (λ f. slotBytes (slotOf f)) (nodes F)
-
--- Bytes with node k written anew.
-abbrev pub putAt : ℕ → Slot → List ℕ → List ℕ
-putAt k node b = pasted b (1 + k * nodeSlotLength) (slotBytes node)
-
--- The bytes x are the bytes e with l written from node n on, up to node m. Of a text of more than 40 nodes the nodes are counted alone.
-pub record NodesWritten (n m : ℕ) (e x l : List ℕ) : Type 0 where
-  pub ends : 1 + m * nodeSlotLength ≡ 1 + n * nodeSlotLength + length l
-  pub long : length x ≡ length e
-  pub made : m ≤ mostNodes → x ≡ pasted e (1 + n * nodeSlotLength) l
-
--- The nodes from `start` up to n moved up by w in the bytes x: whatever is put into their place stands before them.
-pub record NodesMoved (start n w : ℕ) (e x : List ℕ) : Type 0 where
-  pub long : length x ≡ length e
-  pub made : n + w ≤ mostNodes → (l : List ℕ) → length l ≡ w * nodeSlotLength → pasted x (1 + start * nodeSlotLength) l ≡ pasted e (1 + start * nodeSlotLength) (l ++ drop (1 + start * nodeSlotLength) (take (1 + n * nodeSlotLength) e))
-
--- The nodes from `start` up to n stand between two lists of nodes, of w nodes together, in the bytes x.
-pub record NodesEnclosed (start n w : ℕ) (before behind e x : List ℕ) : Type 0 where
-  pub long : length x ≡ length e
-  pub made : n + w ≤ mostNodes → x ≡ pasted e (1 + start * nodeSlotLength) (before ++ (drop (1 + start * nodeSlotLength) (take (1 + n * nodeSlotLength) e) ++ behind))
-
--- `~`, `|` and `~`, which stand before the left side of `&`, and the `~` before its right side.
-abbrev pub orBytes : List ℕ
-orBytes = slotBytes (slot 3 0 0)
-
-abbrev pub notBytes : List ℕ
-notBytes = slotBytes (slot 2 0 0)
-
-abbrev pub andBytes : List ℕ
-andBytes = notBytes ++ (orBytes ++ notBytes)
-
--- A byte of the text makes at most four nodes.
-abbrev pub mostCounted : ℕ
-mostCounted = 4 * longestText
-
--- Bytes for 40 nodes; n are counted up to a place.
-pub record NodeRoom (e : List ℕ) (at n : ℕ) : Type 0 where
-  pub below : n ≤ 4 * at
-  pub long : length e ≡ formulaLength
 
 pub record TermRead (N : List (List ℕ)) (s : List ℕ) (at n lost : ℕ) (e : List ℕ) (to m left : ℕ) (x : List ℕ) : Type 0 where
   pub value : Term

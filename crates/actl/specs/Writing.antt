@@ -7,7 +7,8 @@ use lib.ListN.{take, drop, replicate}
 use Rattle.columns.specs.Write.{pasted}
 use Rattle.actl.specs.Sizes.{mostNodes, formulaLength}
 use Rattle.actl.specs.Formulas.{Formula, size}
-use Rattle.actl.specs.Readers.{earlier, bytesOfNodes}
+use Rattle.actl.specs.Readers.{earlier}
+use Rattle.actl.specs.NodeBytes.{bytesOfNodes}
 
 -- The prepared bytes of n nodes: their count, and the slots of the bytes b.
 abbrev pub preparedBytes : List ℕ → ℕ → List ℕ

@@ -10,7 +10,8 @@ use Rattle.actl.specs.Grammar.{gap, showF}
 use Rattle.actl.specs.Reader.{fTop, tFirst, termAt, afterDisjunction, stop, readByte, finishDisjunction, proceed, run, start, read, refused}
 use Rattle.actl.specs.Mentions.{namesF}
 use Rattle.actl.specs.Cursor.{peek, Token, Marked, Fails}
-use Rattle.actl.specs.Readers.{unknownIn, earlier, formulaF, FormulaRead, WholeRead, RefusedAt}
+use Rattle.actl.specs.Readers.{unknownIn, earlier, FormulaRead, WholeRead, RefusedAt}
+use Rattle.actl.specs.Meaning.{formulaF}
 use Rattle.formula_cursor.proofs.ReadingPlaces.{run-stop}
 use Rattle.formula_cursor.proofs.ReadingMoves.{on-other}
 use Rattle.actl.proofs.ReadingLabels.{first-unknown}

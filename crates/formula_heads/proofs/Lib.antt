@@ -1,1 +1,2 @@
 pub mod ReadingHeads
+pub mod ReadingLabelled

@@ -7,7 +7,7 @@ use lib.ListN.{length, take, drop, length-append, length-drop}
 use lib.Seq.{length-take-le}
 use Rattle.columns.specs.Write.{pasted}
 use Rattle.actl.specs.Sizes.{mostNodes, nodeSlotLength, formulaLength}
-use Rattle.actl.specs.Readers.{NodesWritten, NodesMoved, NodesEnclosed}
+use Rattle.actl.specs.NodeBytes.{NodesWritten, NodesMoved, NodesEnclosed}
 use Rattle.actl.proofs.ReadingBytes.{pasted-then}
 
 -- The same place, counted in another way.

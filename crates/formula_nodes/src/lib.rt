@@ -8,7 +8,7 @@ ghost use Prim.Native.Nat.{_+_, _≤_};
 ghost use lib.ListN.{length};
 ghost use Rattle.actl.specs.Sizes.{formulaLength};
 ghost use Rattle.actl.specs.Prepared.{slotBytes};
-ghost use Rattle.actl.specs.Readers.{NodesWritten, NodesMoved, NodesEnclosed, mostCounted, orBytes, notBytes, andBytes};
+ghost use Rattle.actl.specs.NodeBytes.{NodesWritten, NodesMoved, NodesEnclosed, mostCounted, orBytes, notBytes, andBytes};
 ghost use Rattle.formulas.specs.Access.{slotOfNode};
 use formulas::node::Node;
 use formulas::node::put_node;

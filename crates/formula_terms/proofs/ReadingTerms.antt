@@ -12,7 +12,9 @@ use Rattle.actl.specs.Reader.{fParen, tFirst, tNot, tModal, termAt, afterDisjun
 use Rattle.actl.specs.Mentions.{namesF, namesT, namesH}
 use Rattle.actl.specs.Prepared.{Slot, slot, slotBytes}
 use Rattle.actl.specs.Cursor.{peek, Skipped, Moves, Fails, Marked, Tokened}
-use Rattle.actl.specs.Readers.{unknownIn, earlier, formulaT, headSlots, HeadRead, bytesOfNodes, mostCounted, NodesWritten, NodeRoom, TermRead, BracketRead, Unbracketed}
+use Rattle.actl.specs.Readers.{unknownIn, earlier, headSlots, HeadRead, TermRead, BracketRead, Unbracketed}
+use Rattle.actl.specs.NodeBytes.{bytesOfNodes, mostCounted, NodesWritten, NodeRoom}
+use Rattle.actl.specs.Meaning.{formulaT}
 use Rattle.formula_terms.specs.TermReplies.{TermAnswer, BracketAnswer}
 use Rattle.formula_terms.specs.declared.Nodes.{Nodes}
 use Rattle.formula_terms.specs.declared.Nodes.the-variants.{Read, Refused}

@@ -17,7 +17,7 @@ use Rattle.lts.specs.Reply.{accepted, refusal, unless, leftIn, answers}
 use Rattle.actl.specs.Formulas.{Formula, tru, size, nodes, highestWithoutClass}
 use Rattle.actl.specs.Prepared.{formulaBytes}
 use Rattle.actl.specs.Reading.{unlessFound, withClasses}
-use Rattle.actl.specs.Readers.{bytesOfNodes}
+use Rattle.actl.specs.NodeBytes.{bytesOfNodes}
 use Rattle.actl.specs.Walk.{kindOf, kindsOf, kindsIn}
 use Rattle.actl.specs.Writing.{preparedBytes, NodesHeld}
 use Rattle.formula_text.specs.FormulaAnswers.{FormulaAnswered}

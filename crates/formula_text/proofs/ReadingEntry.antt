@@ -23,7 +23,8 @@ use Rattle.actl.specs.Reading.{firstUnknown, onResult, readFormula}
 use Rattle.actl.specs.Prepared.{formulaBytes}
 use Rattle.formula_text.specs.Replies.{formulaReply}
 use Rattle.actl.specs.FormulaReading.{formulaReading, withTable}
-use Rattle.actl.specs.Readers.{namesIn, formulaF, WholeRead, RefusedAt}
+use Rattle.actl.specs.Readers.{namesIn, WholeRead, RefusedAt}
+use Rattle.actl.specs.Meaning.{formulaF}
 use Rattle.formula_text.specs.FormulaAnswers.{FormulaAnswered, FormulaAnsweredWith}
 use Rattle.formula_text.specs.declared.FormulaReply.{FormulaReply}
 use Rattle.formula_text.specs.declared.FormulaReply.the-variants.{TooLong, NotGrammatical, TableForeign, BufferShort}

@@ -12,7 +12,7 @@ use Rattle.actl.specs.Actions.{Cond, silent, labels}
 use Rattle.actl.specs.Formulas.{Formula, tru, not, or, ex, ax, eu, euThen}
 use Rattle.actl.specs.Prepared.{Slot, slotOf, slotBytes, slotAt}
 use Rattle.actl.specs.Shaped.{shaped}
-use Rattle.actl.specs.Readers.{putAt}
+use Rattle.actl.specs.NodeBytes.{putAt}
 use Rattle.actl.proofs.Laws.Slots.{slot-by-parts}
 use Rattle.actl.proofs.Laws.Forms.{slotFrom, slot-from, StandsFor, slot-front}
 use Rattle.formulas.specs.Access.{condIn, slotOfNode}

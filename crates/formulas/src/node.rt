@@ -8,7 +8,7 @@ ghost use Rattle.columns.specs.Bytes.{lowFirst};
 ghost use Rattle.columns.specs.Write.{pasted};
 ghost use Rattle.actl.specs.Sizes.{mostNodes, nodeSlotLength, formulaLength};
 ghost use Rattle.actl.specs.Prepared.{number, slot, slotAt};
-ghost use Rattle.actl.specs.Readers.{putAt};
+ghost use Rattle.actl.specs.NodeBytes.{putAt};
 ghost use Rattle.formulas.specs.Access.{slotOfNode};
 ghost use Rattle.actl.specs.Shaped.{shaped};
 

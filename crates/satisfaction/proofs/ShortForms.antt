@@ -17,8 +17,7 @@ use Rattle.lts.proofs.Laws.Texts.{text-of-read}
 use Rattle.actl.specs.Actions.{Action, Mask, meets, passes}
 use Rattle.actl.specs.Formulas.{Formula, not}
 use Rattle.actl.specs.Grammar.{Set, existential, universal, reach, labelled, Conjunction, and, Term, modal}
-use Rattle.actl.specs.Meaning.{maskIn}
-use Rattle.actl.specs.Readers.{formulaA, formulaT}
+use Rattle.actl.specs.Meaning.{maskIn, formulaA, formulaT}
 use Rattle.actl.proofs.Laws.Masks.{mask-satisfied}
 use Rattle.satisfaction.specs.Satisfaction.{Sat}
 use Rattle.satisfaction.specs.ShortForms.{allLabels, both, somewhere, everywhere, afterSome, afterEvery, HoldsSomewhere, HoldsEverywhere, HoldsAfterSome, HoldsAfterEvery}

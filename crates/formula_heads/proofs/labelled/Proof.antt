@@ -7,7 +7,7 @@ use Rattle.actl.specs.Cursor.{Marked}
 use Rattle.actl.specs.Readers.{namesIn}
 use Rattle.formula_cursor.specs.CursorReplies.{MarkAnswer, TokenAnswer}
 use Rattle.formula_sets.proofs.ReadingSets.{token-behind}
-use Rattle.formula_heads.proofs.ReadingHeads.{no-second, no-third, labelled-unopened, labelled-answers}
+use Rattle.formula_heads.proofs.ReadingLabelled.{no-second, no-third, labelled-unopened, labelled-answers}
 use Rattle.formula_heads.proofs.labelled.Statement.{statement}
 use Rattle.formula_heads.proofs.labelled.Tie as tie
 
