@@ -100,6 +100,24 @@ fn bracket(
     }
 }
 
+// A term of a formula. Of brackets in brackets each takes no frame of `term`.
+fn part(
+    table: &[u8],
+    text: &[u8],
+    nodes: &mut [u8; FORMULA_LENGTH],
+    c: Cursor,
+    n: usize,
+    lost: usize,
+) -> Nodes
+    requires { ⌜ ReaderStart (now table) (now text) (c .at) × NodeRoom (now nodes) (c .at) n ⌝ }
+    ensures { λ r. ⌜ TermAnswer (namesIn (now (table .entry))) (now (text .entry)) (c .at) n lost (now (nodes .entry)) (now (nodes .exit)) r ⌝ }
+{
+    if let Match::Past(d) = c.token(text, b'(') {
+        return bracket(table, text, nodes, d, n, lost);
+    }
+    term(table, text, nodes, c, n, lost)
+}
+
 // 01: "A formula is one or more terms joined by `|`, grouped from the left." 02: "`&` binds tighter than `|`; both group from the left": `&` joins
 // what stands from the first node of the last conjunction on, `|` all from the formula's. It is read with the blanks behind it.
 fn formula(
@@ -118,7 +136,7 @@ fn formula(
     let mut k = n;
     let mut lacks = lost;
     loop {
-        let x = term(table, text, nodes, d, k, lacks);
+        let x = part(table, text, nodes, d, k, lacks);
         match x {
             Nodes::Refused(e) => {
                 return Chain::Refused(e);

@@ -1,6 +1,6 @@
 -- What `term` shows at each of its places.
 use Rattle.formula_terms.proofs.term.Reads as term
-use Rattle.formula_terms.proofs.+bracket+formula+term.Lts-term as term-lts
+use Rattle.formula_terms.proofs.+bracket+formula+part+term.Lts-term as term-lts
 use mathlib.Core.Path.{subst}
 use Prim.Native.Nat.{ℕ}
 use native.Mathlib.Omega.{arith}
@@ -11,7 +11,7 @@ use Rattle.formula_heads.specs.HeadReplies.{HeadAnswer}
 use Rattle.formula_cursor.proofs.ReadingMoves.{skipped-token}
 use Rattle.formula_sets.proofs.ReadingSets.{token-behind}
 use Rattle.formula_terms.proofs.ReadingTerms.{counted, term-true, inner-room, arm-room, term-not, term-paren, head-up, term-modal}
-use Rattle.formula_terms.proofs.+bracket+formula+term.Proof.Measures.{term-at, term-claims}
+use Rattle.formula_terms.proofs.+bracket+formula+part+term.Proof.Measures.{term-at, term-claims}
 
 pub term-mark-requires : (t : ℕ) → term-lts.Need-mark-requires (term-claims t) (term-at t) term.Post
 term-mark-requires t c κs = tt

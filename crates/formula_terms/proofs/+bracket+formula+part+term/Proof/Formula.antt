@@ -1,6 +1,6 @@
 -- What `formula` shows at each of its places.
 use Rattle.formula_terms.proofs.formula.Reads as formula
-use Rattle.formula_terms.proofs.+bracket+formula+term.Lts-formula as formula-lts
+use Rattle.formula_terms.proofs.+bracket+formula+part+term.Lts-formula as formula-lts
 use mathlib.Core.Path.{subst, _∙_}
 use Prim.Native.Nat.{ℕ, _-_}
 use native.Mathlib.Omega.{arith}
@@ -10,7 +10,7 @@ use Rattle.formula_cursor.specs.CursorReplies.{TokenAnswer}
 use Rattle.actl.specs.Readers.{namesIn}
 use Rattle.formula_terms.specs.TermReplies.{TermAnswer}
 use Rattle.formula_terms.proofs.ReadingChains.{Awaiting, awaiting-first, await-room, formula-fails, formula-read, join-room, join-above, join-fits, awaiting-or, awaiting-and}
-use Rattle.formula_terms.proofs.+bracket+formula+term.Proof.Measures.{formula-at, formula-claims}
+use Rattle.formula_terms.proofs.+bracket+formula+part+term.Proof.Measures.{formula-at, formula-claims}
 
 abbrev pub formula-Inv-loop : formula-lts.InvT-loop
 formula-Inv-loop table text nodes₀ n lost d₀ start₀ k₀ lacks₀ nodes d start k lacks = Awaiting (namesIn table) text (d₀ .at) n lost nodes₀ (d .at) start k lacks nodes
@@ -24,8 +24,8 @@ formula-loop-holds t c =
     let pre = c .before .before .pre in
     awaiting-first (namesIn (a .table .now)) (a .text .now) (a .c .at) (a .n) (a .lost) (a .nodes .now) (pre .1 .0 .token) (pre .1 .1)
 
-pub formula-term-requires : (t : ℕ) → formula-lts.Need-term-requires (formula-claims t) (formula-at t) formula.Post formula-Inv-loop formula-μ-loop
-formula-term-requires t c κs =
+pub formula-part-requires : (t : ℕ) → formula-lts.Need-part-requires (formula-claims t) (formula-at t) formula.Post formula-Inv-loop formula-μ-loop
+formula-part-requires t c κs =
     let pre = c .before .before .before .before .pre in
     let j = c .before .loop .inv in
     (omega (arith, pre .0, j .moves .up), (record { table = pre .1 .0 .table; short = pre .1 .0 .short; token = j .token }, await-room j (pre .1 .1)))
@@ -40,8 +40,8 @@ formula-returns t c =
     let s = a .text .now in
     let pre = c .before .before .before .before .before .before .before .before .pre in
     let l = c .before .before .before .before .before .loop in
-    let y = c .before .before .before .term .last .1 .1 .0 in
-    let o = subst (TermAnswer N s (l .d .at) (l .k) (l .lacks) (l .nodes) y) (c .before .x .given .1) (c .before .before .before .term .ensures) in
+    let y = c .before .before .before .part .last .1 .1 .0 in
+    let o = subst (TermAnswer N s (l .d .at) (l .k) (l .lacks) (l .nodes) y) (c .before .x .given .1) (c .before .before .before .part .ensures) in
     formula-fails (l .inv) (pre .1 .1) o
 
 pub formula-enum-known-x-2 : (t : ℕ) → formula-lts.Need-enum-known-x-2 (formula-claims t) (formula-at t) formula.Post formula-Inv-loop formula-μ-loop
@@ -53,8 +53,8 @@ formula-skip-blanks-requires t c κs =
     let N = namesIn (a .table .now) in
     let s = a .text .now in
     let l = c .before .before .before .before .before .loop in
-    let y = c .before .before .before .term .last .1 .1 .0 in
-    let o = subst (TermAnswer N s (l .d .at) (l .k) (l .lacks) (l .nodes) y) (c .before .x2 .given .1) (c .before .before .before .term .ensures) in
+    let y = c .before .before .before .part .last .1 .1 .0 in
+    let o = subst (TermAnswer N s (l .d .at) (l .k) (l .lacks) (l .nodes) y) (c .before .x2 .given .1) (c .before .before .before .part .ensures) in
     o .moves .within
 
 pub formula-token-requires : (t : ℕ) → formula-lts.Need-token-requires (formula-claims t) (formula-at t) formula.Post formula-Inv-loop formula-μ-loop
@@ -70,8 +70,8 @@ formula-conjoin-requires t c κs =
     let s = a .text .now in
     let pre = c .before .before .before .before .before .before .before .before .before .before .before .before .before .before .pre in
     let l = c .before .before .before .before .before .before .before .before .before .before .before .loop in
-    let y = c .before .before .before .before .before .before .before .before .before .term .last .1 .1 .0 in
-    let o = subst (TermAnswer N s (l .d .at) (l .k) (l .lacks) (l .nodes) y) (c .before .before .before .before .before .before .before .x2 .given .1) (c .before .before .before .before .before .before .before .before .before .term .ensures) in
+    let y = c .before .before .before .before .before .before .before .before .before .part .last .1 .1 .0 in
+    let o = subst (TermAnswer N s (l .d .at) (l .k) (l .lacks) (l .nodes) y) (c .before .before .before .before .before .before .before .x2 .given .1) (c .before .before .before .before .before .before .before .before .before .part .ensures) in
     let b = c .before .before .before .before .before .skip-blanks .ensures in
     let f = c .before .before .before .before .before .skip-blanks .result .at in
     let g = subst (TokenAnswer s f 38) (c .before .before .g .given .1) (c .before .before .before .before .token .ensures) in
@@ -85,8 +85,8 @@ formula-add-k t c =
     let s = a .text .now in
     let pre = c .before .before .before .before .before .before .before .before .before .before .before .before .before .before .before .pre in
     let l = c .before .before .before .before .before .before .before .before .before .before .before .before .loop in
-    let y = c .before .before .before .before .before .before .before .before .before .before .term .last .1 .1 .0 in
-    let o = subst (TermAnswer N s (l .d .at) (l .k) (l .lacks) (l .nodes) y) (c .before .before .before .before .before .before .before .before .x2 .given .1) (c .before .before .before .before .before .before .before .before .before .before .term .ensures) in
+    let y = c .before .before .before .before .before .before .before .before .before .before .part .last .1 .1 .0 in
+    let o = subst (TermAnswer N s (l .d .at) (l .k) (l .lacks) (l .nodes) y) (c .before .before .before .before .before .before .before .before .x2 .given .1) (c .before .before .before .before .before .before .before .before .before .before .part .ensures) in
     let b = c .before .before .before .before .before .before .skip-blanks .ensures in
     let f = c .before .before .before .before .before .before .skip-blanks .result .at in
     let g = subst (TokenAnswer s f 38) (c .before .before .before .g .given .1) (c .before .before .before .before .before .token .ensures) in
@@ -99,8 +99,8 @@ formula-loop-less t c =
     let s = a .text .now in
     let pre = c .before .before .before .before .before .before .before .before .before .before .before .before .before .before .before .pre in
     let l = c .before .before .before .before .before .before .before .before .before .before .before .before .loop in
-    let y = c .before .before .before .before .before .before .before .before .before .before .term .last .1 .1 .0 in
-    let o = subst (TermAnswer N s (l .d .at) (l .k) (l .lacks) (l .nodes) y) (c .before .before .before .before .before .before .before .before .x2 .given .1) (c .before .before .before .before .before .before .before .before .before .before .term .ensures) in
+    let y = c .before .before .before .before .before .before .before .before .before .before .part .last .1 .1 .0 in
+    let o = subst (TermAnswer N s (l .d .at) (l .k) (l .lacks) (l .nodes) y) (c .before .before .before .before .before .before .before .before .x2 .given .1) (c .before .before .before .before .before .before .before .before .before .before .part .ensures) in
     let b = c .before .before .before .before .before .before .skip-blanks .ensures in
     let f = c .before .before .before .before .before .before .skip-blanks .result .at in
     let g = subst (TokenAnswer s f 38) (c .before .before .before .g .given .1) (c .before .before .before .before .before .token .ensures) in
@@ -113,8 +113,8 @@ formula-loop-again t c =
     let s = a .text .now in
     let pre = c .before .before .before .before .before .before .before .before .before .before .before .before .before .before .before .pre in
     let l = c .before .before .before .before .before .before .before .before .before .before .before .before .loop in
-    let y = c .before .before .before .before .before .before .before .before .before .before .term .last .1 .1 .0 in
-    let o = subst (TermAnswer N s (l .d .at) (l .k) (l .lacks) (l .nodes) y) (c .before .before .before .before .before .before .before .before .x2 .given .1) (c .before .before .before .before .before .before .before .before .before .before .term .ensures) in
+    let y = c .before .before .before .before .before .before .before .before .before .before .part .last .1 .1 .0 in
+    let o = subst (TermAnswer N s (l .d .at) (l .k) (l .lacks) (l .nodes) y) (c .before .before .before .before .before .before .before .before .x2 .given .1) (c .before .before .before .before .before .before .before .before .before .before .part .ensures) in
     let b = c .before .before .before .before .before .before .skip-blanks .ensures in
     let f = c .before .before .before .before .before .before .skip-blanks .result .at in
     let g = subst (TokenAnswer s f 38) (c .before .before .before .g .given .1) (c .before .before .before .before .before .token .ensures) in
@@ -139,8 +139,8 @@ formula-returns-2 t c =
     let s = a .text .now in
     let pre = c .before .before .before .before .before .before .before .before .before .before .before .before .before .before .before .pre in
     let l = c .before .before .before .before .before .before .before .before .before .before .before .before .loop in
-    let y = c .before .before .before .before .before .before .before .before .before .before .term .last .1 .1 .0 in
-    let o = subst (TermAnswer N s (l .d .at) (l .k) (l .lacks) (l .nodes) y) (c .before .before .before .before .before .before .before .before .x2 .given .1) (c .before .before .before .before .before .before .before .before .before .before .term .ensures) in
+    let y = c .before .before .before .before .before .before .before .before .before .before .part .last .1 .1 .0 in
+    let o = subst (TermAnswer N s (l .d .at) (l .k) (l .lacks) (l .nodes) y) (c .before .before .before .before .before .before .before .before .x2 .given .1) (c .before .before .before .before .before .before .before .before .before .before .part .ensures) in
     let b = c .before .before .before .before .before .before .skip-blanks .ensures in
     let f = c .before .before .before .before .before .before .skip-blanks .result .at in
     let n = subst (TokenAnswer s f 38) (c .before .before .before .enum-told .given .1) (c .before .before .before .before .before .token .ensures) in
@@ -153,8 +153,8 @@ formula-disjoin-requires t c κs =
     let s = a .text .now in
     let pre = c .before .before .before .before .before .before .before .before .before .before .before .before .before .before .before .before .before .pre in
     let l = c .before .before .before .before .before .before .before .before .before .before .before .before .before .before .loop in
-    let y = c .before .before .before .before .before .before .before .before .before .before .before .before .term .last .1 .1 .0 in
-    let o = subst (TermAnswer N s (l .d .at) (l .k) (l .lacks) (l .nodes) y) (c .before .before .before .before .before .before .before .before .before .before .x2 .given .1) (c .before .before .before .before .before .before .before .before .before .before .before .before .term .ensures) in
+    let y = c .before .before .before .before .before .before .before .before .before .before .before .before .part .last .1 .1 .0 in
+    let o = subst (TermAnswer N s (l .d .at) (l .k) (l .lacks) (l .nodes) y) (c .before .before .before .before .before .before .before .before .before .before .x2 .given .1) (c .before .before .before .before .before .before .before .before .before .before .before .before .part .ensures) in
     let b = c .before .before .before .before .before .before .before .before .skip-blanks .ensures in
     let f = c .before .before .before .before .before .before .before .before .skip-blanks .result .at in
     let g = subst (TokenAnswer s f 124) (c .before .before .g2 .given .1) (c .before .before .before .before .token2 .ensures) in
@@ -168,8 +168,8 @@ formula-add-start t c =
     let s = a .text .now in
     let pre = c .before .before .before .before .before .before .before .before .before .before .before .before .before .before .before .before .before .before .pre in
     let l = c .before .before .before .before .before .before .before .before .before .before .before .before .before .before .before .loop in
-    let y = c .before .before .before .before .before .before .before .before .before .before .before .before .before .term .last .1 .1 .0 in
-    let o = subst (TermAnswer N s (l .d .at) (l .k) (l .lacks) (l .nodes) y) (c .before .before .before .before .before .before .before .before .before .before .before .x2 .given .1) (c .before .before .before .before .before .before .before .before .before .before .before .before .before .term .ensures) in
+    let y = c .before .before .before .before .before .before .before .before .before .before .before .before .before .part .last .1 .1 .0 in
+    let o = subst (TermAnswer N s (l .d .at) (l .k) (l .lacks) (l .nodes) y) (c .before .before .before .before .before .before .before .before .before .before .before .x2 .given .1) (c .before .before .before .before .before .before .before .before .before .before .before .before .before .part .ensures) in
     let b = c .before .before .before .before .before .before .before .before .before .skip-blanks .ensures in
     let f = c .before .before .before .before .before .before .before .before .before .skip-blanks .result .at in
     let g = subst (TokenAnswer s f 124) (c .before .before .before .g2 .given .1) (c .before .before .before .before .before .token2 .ensures) in
@@ -182,8 +182,8 @@ formula-add-k-2 t c =
     let s = a .text .now in
     let pre = c .before .before .before .before .before .before .before .before .before .before .before .before .before .before .before .before .before .before .pre in
     let l = c .before .before .before .before .before .before .before .before .before .before .before .before .before .before .before .loop in
-    let y = c .before .before .before .before .before .before .before .before .before .before .before .before .before .term .last .1 .1 .0 in
-    let o = subst (TermAnswer N s (l .d .at) (l .k) (l .lacks) (l .nodes) y) (c .before .before .before .before .before .before .before .before .before .before .before .x2 .given .1) (c .before .before .before .before .before .before .before .before .before .before .before .before .before .term .ensures) in
+    let y = c .before .before .before .before .before .before .before .before .before .before .before .before .before .part .last .1 .1 .0 in
+    let o = subst (TermAnswer N s (l .d .at) (l .k) (l .lacks) (l .nodes) y) (c .before .before .before .before .before .before .before .before .before .before .before .x2 .given .1) (c .before .before .before .before .before .before .before .before .before .before .before .before .before .part .ensures) in
     let b = c .before .before .before .before .before .before .before .before .before .skip-blanks .ensures in
     let f = c .before .before .before .before .before .before .before .before .before .skip-blanks .result .at in
     let g = subst (TokenAnswer s f 124) (c .before .before .before .g2 .given .1) (c .before .before .before .before .before .token2 .ensures) in
@@ -196,8 +196,8 @@ formula-loop-less-2 t c =
     let s = a .text .now in
     let pre = c .before .before .before .before .before .before .before .before .before .before .before .before .before .before .before .before .before .before .pre in
     let l = c .before .before .before .before .before .before .before .before .before .before .before .before .before .before .before .loop in
-    let y = c .before .before .before .before .before .before .before .before .before .before .before .before .before .term .last .1 .1 .0 in
-    let o = subst (TermAnswer N s (l .d .at) (l .k) (l .lacks) (l .nodes) y) (c .before .before .before .before .before .before .before .before .before .before .before .x2 .given .1) (c .before .before .before .before .before .before .before .before .before .before .before .before .before .term .ensures) in
+    let y = c .before .before .before .before .before .before .before .before .before .before .before .before .before .part .last .1 .1 .0 in
+    let o = subst (TermAnswer N s (l .d .at) (l .k) (l .lacks) (l .nodes) y) (c .before .before .before .before .before .before .before .before .before .before .before .x2 .given .1) (c .before .before .before .before .before .before .before .before .before .before .before .before .before .part .ensures) in
     let b = c .before .before .before .before .before .before .before .before .before .skip-blanks .ensures in
     let f = c .before .before .before .before .before .before .before .before .before .skip-blanks .result .at in
     let g = subst (TokenAnswer s f 124) (c .before .before .before .g2 .given .1) (c .before .before .before .before .before .token2 .ensures) in
@@ -210,8 +210,8 @@ formula-loop-again-2 t c =
     let s = a .text .now in
     let pre = c .before .before .before .before .before .before .before .before .before .before .before .before .before .before .before .before .before .before .pre in
     let l = c .before .before .before .before .before .before .before .before .before .before .before .before .before .before .before .loop in
-    let y = c .before .before .before .before .before .before .before .before .before .before .before .before .before .term .last .1 .1 .0 in
-    let o = subst (TermAnswer N s (l .d .at) (l .k) (l .lacks) (l .nodes) y) (c .before .before .before .before .before .before .before .before .before .before .before .x2 .given .1) (c .before .before .before .before .before .before .before .before .before .before .before .before .before .term .ensures) in
+    let y = c .before .before .before .before .before .before .before .before .before .before .before .before .before .part .last .1 .1 .0 in
+    let o = subst (TermAnswer N s (l .d .at) (l .k) (l .lacks) (l .nodes) y) (c .before .before .before .before .before .before .before .before .before .before .before .x2 .given .1) (c .before .before .before .before .before .before .before .before .before .before .before .before .before .part .ensures) in
     let b = c .before .before .before .before .before .before .before .before .before .skip-blanks .ensures in
     let f = c .before .before .before .before .before .before .before .before .before .skip-blanks .result .at in
     let g = subst (TokenAnswer s f 124) (c .before .before .before .g2 .given .1) (c .before .before .before .before .before .token2 .ensures) in

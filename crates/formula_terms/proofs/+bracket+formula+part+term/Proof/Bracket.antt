@@ -1,6 +1,6 @@
 -- What `bracket` shows at each of its places.
 use Rattle.formula_terms.proofs.bracket.Reads as bracket
-use Rattle.formula_terms.proofs.+bracket+formula+term.Lts-bracket as bracket-lts
+use Rattle.formula_terms.proofs.+bracket+formula+part+term.Lts-bracket as bracket-lts
 use mathlib.Core.Path.{subst}
 use mathlib.Core.Logic.{inl, inr}
 use Prim.Native.Nat.{ℕ}
@@ -9,7 +9,7 @@ use borrow.Author.Needs.{needs}
 use Rattle.formula_cursor.specs.CursorReplies.{MarkAnswer}
 use Rattle.actl.specs.Readers.{namesIn}
 use Rattle.formula_terms.specs.TermReplies.{FormulaAnswer}
-use Rattle.formula_terms.proofs.+bracket+formula+term.Proof.Measures.{bracket-at, bracket-claims}
+use Rattle.formula_terms.proofs.+bracket+formula+part+term.Proof.Measures.{bracket-at, bracket-claims}
 
 pub bracket-formula-requires : (t : ℕ) → bracket-lts.Need-formula-requires (bracket-claims t) (bracket-at t) bracket.Post
 bracket-formula-requires t c κs =
