@@ -758,80 +758,53 @@ fn with_union(text: &[u8], at: usize) -> Option<Vec<u8>> {
     })
 }
 
+/// Wrong in how it reads a formula.
+fn reading(read_formula: fn(&[u8], &[u8], &mut [u8]) -> Reply) -> Entries {
+    Entries { read_formula: Some(read_formula), ..NONE }
+}
+
 #[test]
 fn faults_in_the_expansion_of_short_forms_are_found() {
     all_are_found(&[
         (
             "`|` binds tighter than `&`",
-            Entries {
-                read_formula: Some(|table, text, formula| {
-                    read_with(Fault::OrBindsTighter, table, text, formula)
-                }),
-                ..NONE
-            },
+            reading(|table, text, formula| read_with(Fault::OrBindsTighter, table, text, formula)),
         ),
         (
             "`&` and `|` bind alike",
-            Entries {
-                read_formula: Some(|table, text, formula| {
-                    read_with(Fault::AndBindsAsOr, table, text, formula)
-                }),
-                ..NONE
-            },
+            reading(|table, text, formula| read_with(Fault::AndBindsAsOr, table, text, formula)),
         ),
         (
             "`&` is grouped from the right",
-            Entries {
-                read_formula: Some(|table, text, formula| {
-                    read_with(Fault::GroupedFromTheRight, table, text, formula)
-                }),
-                ..NONE
-            },
+            reading(|table, text, formula| {
+                read_with(Fault::GroupedFromTheRight, table, text, formula)
+            }),
         ),
         (
             "AG without its inner `~`",
-            Entries {
-                read_formula: Some(|table, text, formula| {
-                    read_with(Fault::AlwaysWithoutInnerNot, table, text, formula)
-                }),
-                ..NONE
-            },
+            reading(|table, text, formula| {
+                read_with(Fault::AlwaysWithoutInnerNot, table, text, formula)
+            }),
         ),
         (
             "BOX is DIA",
-            Entries {
-                read_formula: Some(|table, text, formula| {
-                    read_with(Fault::BoxAsDiamond, table, text, formula)
-                }),
-                ..NONE
-            },
+            reading(|table, text, formula| read_with(Fault::BoxAsDiamond, table, text, formula)),
         ),
         (
             "EF goes on by silent steps only",
-            Entries {
-                read_formula: Some(|table, text, formula| {
-                    read_with(Fault::EventuallyBySilentSteps, table, text, formula)
-                }),
-                ..NONE
-            },
+            reading(|table, text, formula| {
+                read_with(Fault::EventuallyBySilentSteps, table, text, formula)
+            }),
         ),
         (
             "a double negation is simplified",
-            Entries {
-                read_formula: Some(|table, text, formula| {
-                    read_with(Fault::DoubleNegationSimplified, table, text, formula)
-                }),
-                ..NONE
-            },
+            reading(|table, text, formula| {
+                read_with(Fault::DoubleNegationSimplified, table, text, formula)
+            }),
         ),
         (
             "`AG T` and `BOX[A] T` have a class",
-            Entries {
-                read_formula: Some(|table, text, formula| {
-                    read_with(Fault::AlwaysOfTrue, table, text, formula)
-                }),
-                ..NONE
-            },
+            reading(|table, text, formula| read_with(Fault::AlwaysOfTrue, table, text, formula)),
         ),
     ]);
 }
@@ -841,52 +814,39 @@ fn faults_in_what_is_measured_of_a_line_are_found() {
     all_are_found(&[
         (
             "8 counts the nodes of the line as typed",
-            Entries {
-                read_formula: Some(|table, text, formula| {
-                    match read_formula(table, text, formula) {
-                        Reply { number: 8, .. } => match Line::read(text).nodes() {
-                            0..=MAX_NODES => Reply::accepted(0),
-                            nodes => Reply { number: 8, figure: nodes as u64 },
-                        },
-                        reply => reply,
-                    }
-                }),
-                ..NONE
-            },
+            reading(|table, text, formula| match read_formula(table, text, formula) {
+                Reply { number: 8, .. } => match Line::read(text).nodes() {
+                    0..=MAX_NODES => Reply::accepted(0),
+                    nodes => Reply { number: 8, figure: nodes as u64 },
+                },
+                reply => reply,
+            }),
         ),
         (
             "7 is the offset in what is written out",
-            Entries {
-                read_formula: Some(|table, text, formula| {
-                    match read_formula(table, text, formula) {
-                        Reply { number: 7, .. } => {
-                            let table = prepared::table_of(table).expect("a table");
-                            let text = Line::read(text).written_out(Fault::None);
-                            let refused = Formula::read_base(&table, text.as_bytes());
-                            refused.expect_err("a name that the table lacks").into()
-                        }
-                        reply => reply,
-                    }
-                }),
-                ..NONE
-            },
+            reading(|table, text, formula| match read_formula(table, text, formula) {
+                Reply { number: 7, .. } => {
+                    let table = prepared::table_of(table).expect("a table");
+                    let text = Line::read(text).written_out(Fault::None);
+                    let refused = Formula::read_base(&table, text.as_bytes());
+                    refused.expect_err("a name that the table lacks").into()
+                }
+                reply => reply,
+            }),
         ),
         (
             "5 measures what is written out",
-            Entries {
-                read_formula: Some(|table, text, formula| {
-                    let reply = read_formula(table, text, &mut formula.to_vec());
-                    let length = match reply.number {
-                        0 | 7 | 8 | 9 => Line::read(text).written_out(Fault::None).len(),
-                        _ => 0,
-                    };
-                    match length > MAX_BYTES {
-                        true => Reply { number: 5, figure: length as u64 },
-                        false => read_formula(table, text, formula),
-                    }
-                }),
-                ..NONE
-            },
+            reading(|table, text, formula| {
+                let reply = read_formula(table, text, &mut formula.to_vec());
+                let length = match reply.number {
+                    0 | 7 | 8 | 9 => Line::read(text).written_out(Fault::None).len(),
+                    _ => 0,
+                };
+                match length > MAX_BYTES {
+                    true => Reply { number: 5, figure: length as u64 },
+                    false => read_formula(table, text, formula),
+                }
+            }),
         ),
     ]);
 }
@@ -896,54 +856,36 @@ fn faults_in_the_borders_of_short_forms_are_found() {
     all_are_found(&[
         (
             "`.` is taken in DIA and BOX",
-            Entries {
-                read_formula: Some(|table, text, formula| {
-                    read_retyped(table, text, formula, |text, at| {
-                        with_keyword(text, at, b'.', b"EX ")
-                    })
-                }),
-                ..NONE
-            },
+            reading(|table, text, formula| {
+                read_retyped(table, text, formula, |text, at| with_keyword(text, at, b'.', b"EX "))
+            }),
         ),
         (
             "`;` is taken in DIA and BOX",
-            Entries {
-                read_formula: Some(|table, text, formula| {
-                    read_retyped(table, text, formula, |text, at| {
-                        with_keyword(text, at, b';', b"EU ")
-                    })
-                }),
-                ..NONE
-            },
+            reading(|table, text, formula| {
+                read_retyped(table, text, formula, |text, at| with_keyword(text, at, b';', b"EU "))
+            }),
         ),
         (
             "`&` is taken in a set",
-            Entries {
-                read_formula: Some(|table, text, formula| {
-                    read_retyped(table, text, formula, with_union)
-                }),
-                ..NONE
-            },
+            reading(|table, text, formula| read_retyped(table, text, formula, with_union)),
         ),
         (
             "EF and AG need a blank behind them",
-            Entries {
-                read_formula: Some(|table, text, formula| {
-                    let reply = read_formula(table, text, &mut formula.to_vec());
-                    let viable = match reply.number {
-                        6 => reply.figure as usize,
-                        0 | 7 | 8 | 9 => text.len(),
-                        _ => return reply,
-                    };
-                    let is_keyword = |at: &usize| matches!(&text[at - 2..*at], b"EF" | b"AG");
-                    let is_without = |at: &usize| is_keyword(at) && text[*at] != b' ';
-                    match (2..viable).find(is_without) {
-                        Some(at) => Reply { number: 6, figure: at as u64 },
-                        None => read_formula(table, text, formula),
-                    }
-                }),
-                ..NONE
-            },
+            reading(|table, text, formula| {
+                let reply = read_formula(table, text, &mut formula.to_vec());
+                let viable = match reply.number {
+                    6 => reply.figure as usize,
+                    0 | 7 | 8 | 9 => text.len(),
+                    _ => return reply,
+                };
+                let is_keyword = |at: &usize| matches!(&text[at - 2..*at], b"EF" | b"AG");
+                let is_without = |at: &usize| is_keyword(at) && text[*at] != b' ';
+                match (2..viable).find(is_without) {
+                    Some(at) => Reply { number: 6, figure: at as u64 },
+                    None => read_formula(table, text, formula),
+                }
+            }),
         ),
     ]);
 }

@@ -167,7 +167,7 @@ fn short_form(table: &[u8], text: &[u8], c: Cursor, lost: usize) -> Heading
     Heading::Refused(no_keyword(text, c))
 }
 
-// A keyword with its square bracket.
+// A keyword, with its square bracket if it has one.
 pub fn head(table: &[u8], text: &[u8], c: Cursor, lost: usize) -> Heading
     requires { ⌜ ReaderStart (now table) (now text) (c .at) × NoMark (now text) (c .at) ⌝ }
     ensures { λ r. ⌜ HeadAnswer (namesIn (now (table .entry))) (now (text .entry)) (c .at) lost r ⌝ }

@@ -347,13 +347,6 @@ mod tests {
     use super::*;
 
     #[test]
-    fn no_two_kinds_of_an_entry_have_one_name() {
-        let mut names: Vec<_> = kinds().map(|kind| (kind.entry, kind.name)).collect();
-        names.sort_unstable();
-        assert!(names.windows(2).all(|pair| pair[0] != pair[1]));
-    }
-
-    #[test]
     fn a_largest_table_has_20321_bytes() {
         let rng = &Rng::of("read_table", "largest", 0);
         assert_eq!(largest(rng, Any).text().len(), 20_321);

@@ -191,10 +191,16 @@ mod tests {
         }
     }
 
-    #[test]
-    fn no_two_kinds_of_an_entry_have_one_name() {
-        let mut names: Vec<_> = kinds().map(|kind| (kind.entry, kind.name)).collect();
+    fn no_two_have_one_name(kinds: impl Iterator<Item = Kind>) {
+        let mut names: Vec<_> = kinds.map(|kind| (kind.entry, kind.name)).collect();
         names.sort_unstable();
         assert!(names.windows(2).all(|pair| pair[0] != pair[1]));
+    }
+
+    #[test]
+    fn no_two_kinds_of_an_entry_have_one_name_in_a_corpus() {
+        no_two_have_one_name(kinds());
+        no_two_have_one_name(marks::kinds());
+        no_two_have_one_name(short::kinds());
     }
 }

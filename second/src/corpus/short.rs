@@ -438,13 +438,6 @@ mod tests {
     use super::*;
 
     #[test]
-    fn no_two_kinds_of_an_entry_have_one_name() {
-        let mut names: Vec<_> = kinds().map(|kind| (kind.entry, kind.name)).collect();
-        names.sort_unstable();
-        assert!(names.windows(2).all(|pair| pair[0] != pair[1]));
-    }
-
-    #[test]
     fn most_inputs_have_a_short_form() {
         let has_short = |text: &[u8]| {
             text.contains(&b'&')
