@@ -28,31 +28,37 @@ module _ (t : ℕ) where
   Term-read = formula-lts.After-x2 (formula-claims t) (formula-at t) formula.Post formula-Inv-loop formula-μ-loop
 
   module _ (c : Term-read) where
+    abbrev turn : formula-lts.At-loop (formula-claims t) (formula-at t) formula.Post formula-Inv-loop formula-μ-loop
+    turn = c .before .before .before .before
+
+    abbrev entry : formula-lts.Start (formula-claims t) (formula-at t) formula.Post formula-Inv-loop formula-μ-loop
+    entry = turn .before .before .before
+
     abbrev names : List (List ℕ)
-    names = namesIn (c .before .before .before .before .before .before .before .args .table .now)
+    names = namesIn (entry .args .table .now)
 
     abbrev text : List ℕ
-    text = c .before .before .before .before .before .before .before .args .text .now
+    text = entry .args .text .now
 
     abbrev first-nodes : List ℕ
-    first-nodes = c .before .before .before .before .before .before .before .args .nodes .now
+    first-nodes = entry .args .nodes .now
 
     abbrev end : ℕ
     end = c .x2 .given .0 .0 .at
 
-    room : NodeRoom first-nodes (c .before .before .before .before .before .before .before .args .c .at) (c .before .before .before .before .before .before .before .args .n)
-    room = c .before .before .before .before .before .before .before .pre .1 .1
+    room : NodeRoom first-nodes (entry .args .c .at) (entry .args .n)
+    room = entry .pre .1 .1
 
     short : length text ≤ longestText
-    short = c .before .before .before .before .before .before .before .pre .1 .0 .short
+    short = entry .pre .1 .0 .short
 
-    before-it : Awaiting names text (c .before .before .before .before .before .before .before .args .c .at) (c .before .before .before .before .before .before .before .args .n) (c .before .before .before .before .before .before .before .args .lost) first-nodes
-        (c .before .before .before .before .loop .d .at) (c .before .before .before .before .loop .start) (c .before .before .before .before .loop .k) (c .before .before .before .before .loop .lacks) (c .before .before .before .before .loop .nodes)
-    before-it = c .before .before .before .before .loop .inv
+    before-it : Awaiting names text (entry .args .c .at) (entry .args .n) (entry .args .lost) first-nodes
+        (turn .loop .d .at) (turn .loop .start) (turn .loop .k) (turn .loop .lacks) (turn .loop .nodes)
+    before-it = turn .loop .inv
 
-    term-read : TermRead names text (c .before .before .before .before .loop .d .at) (c .before .before .before .before .loop .k) (c .before .before .before .before .loop .lacks) (c .before .before .before .before .loop .nodes)
+    term-read : TermRead names text (turn .loop .d .at) (turn .loop .k) (turn .loop .lacks) (turn .loop .nodes)
         end (c .x2 .given .0 .1 .0) (c .x2 .given .0 .1 .1 .0) (c .before .before .part .last .1 .1 .0)
-    term-read = subst (TermAnswer names text (c .before .before .before .before .loop .d .at) (c .before .before .before .before .loop .k) (c .before .before .before .before .loop .lacks) (c .before .before .before .before .loop .nodes) (c .before .before .part .last .1 .1 .0)) (c .x2 .given .1) (c .before .before .part .ensures)
+    term-read = subst (TermAnswer names text (turn .loop .d .at) (turn .loop .k) (turn .loop .lacks) (turn .loop .nodes) (c .before .before .part .last .1 .1 .0)) (c .x2 .given .1) (c .before .before .part .ensures)
 
   -- And `&` behind it.
   abbrev And-read : Type 0
