@@ -2,12 +2,12 @@
 use crate::node::Condition;
 use tables::steps::is_silent;
 ghost use mathlib.Core.Path.{_≡_};
-ghost use Prim.Native.Nat.{_<_};
+ghost use Rattle.lts.specs.Steps.{Carried};
 ghost use Rattle.actl.specs.Actions as actions;
 ghost use Rattle.formulas.specs.Access.{condIn};
 
 pub fn in_set(set: u64, label: usize) -> bool
-    requires { ⌜ label < 64 ⌝ }
+    requires { ⌜ Carried label ⌝ }
     ensures { λ r. ⌜ r ≡ actions.inSet set label ⌝ }
 {
     if is_silent(label) {
@@ -18,7 +18,7 @@ pub fn in_set(set: u64, label: usize) -> bool
 }
 
 pub fn meets(condition: Condition, label: usize) -> bool
-    requires { ⌜ label < 64 ⌝ }
+    requires { ⌜ Carried label ⌝ }
     ensures { λ r. ⌜ r ≡ actions.meets (condIn condition) label ⌝ }
 {
     match condition {
@@ -28,7 +28,7 @@ pub fn meets(condition: Condition, label: usize) -> bool
 }
 
 pub fn passes(set: u64, label: usize) -> bool
-    requires { ⌜ label < 64 ⌝ }
+    requires { ⌜ Carried label ⌝ }
     ensures { λ r. ⌜ r ≡ actions.passes set label ⌝ }
 {
     if is_silent(label) {

@@ -8,9 +8,9 @@ use lib.Bits.{bitOr}
 use lib.Dec.{eqb}
 use lib.ListN.{length, getD}
 use Rattle.automaton.specs.Sizes.{placeCount, columnCount}
-use Rattle.lts.specs.Sizes.{mostStates, mostLabels}
+use Rattle.lts.specs.Sizes.{mostStates}
 use Rattle.lts.specs.Lists.{upFrom, anyOf as any}
-use Rattle.lts.specs.Steps.{Step, labels}
+use Rattle.lts.specs.Steps.{Step, labels, Carried}
 use Rattle.lts.specs.Prepared.{tableIn}
 use Rattle.actl.specs.Formulas.{Formula}
 use Rattle.actl.specs.Prepared.{preparedFormula}
@@ -63,7 +63,7 @@ someFinal finals places = any (finalPlace finals places) (upFrom 0 placeCount)
 
 -- Letters that have a mask.
 pub record Letters (w : List ℕ) : Type 0 where
-  pub few : (i : ℕ) → i < length w → getD w i 0 ≤ mostLabels
+  pub carried : (i : ℕ) → i < length w → Carried (getD w i 0)
 
 -- The answer for the table and the formula in bytes.
 pub record AcceptsAnswer (table formula w : List ℕ) (r : Bool) : Type 0 where

@@ -1,4 +1,5 @@
 pub mod Examples
 pub mod Laws
 pub mod Lists
+pub mod Silence
 pub mod StepsFrom

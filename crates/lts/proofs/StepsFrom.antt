@@ -2,14 +2,33 @@
 -- states and the table's labels.
 use mathlib.Core.Path.{_≡_, refl, sym, ap, _∙_, subst}
 use mathlib.Core.Logic.{_⊎_, inl, inr, _↔_}
-use mathlib.Core.List.{List, [], _∷_, List·Memᴰ, List·Memᴰ·head, List·Memᴰ·tail, List·Memᴰ·not-nil, List·Memᴰ·eq-of-singleton}
-use Prim.Native.Nat.{ℕ, _≤_, _<_}
+use mathlib.Core.List.{List, [], _∷_, List·Memᴰ, List·Memᴰ·head, List·Memᴰ·tail, List·Memᴰ·not-nil, List·Memᴰ·eq-of-singleton, Memᴰ·append-left, Memᴰ·append-right}
+use Prim.Native.Nat.{ℕ, suc, _≤_, _<_}
+use native.Mathlib.Decide.{decLe, ℕ-discrete}
 use native.Mathlib.Omega.{arith}
 use borrow.Author.Tests.{eqb-true, eq-eqb}
-use Rattle.lts.specs.Lists.{keep, orElse}
-use Rattle.lts.specs.Steps.{Step, Table, labels, IsStep, Exitless, idleAt, leaves, stepsFrom}
+use Rattle.lts.specs.Sizes.{mostLabels}
+use Rattle.lts.specs.Lists.{upFrom, keep, orElse, Rising}
+use Rattle.lts.specs.Steps.{Step, Table, labels, idleLabel, IsStep, Exitless, Carried, idleAt, leaves, stepsFrom, alphabet}
 use Rattle.lts.specs.Range.{InRange}
-use Rattle.lts.proofs.Lists.{keep-of, keep-to}
+use Rattle.lts.proofs.Lists.{keep-of, keep-to, upFrom-of, upFrom-to, upFrom-rising, rising-append}
+
+pub carried-within : {n l : ℕ} → n ≤ mostLabels → (l ≤ n) ⊎ (l ≡ idleLabel) → Carried l
+carried-within h (inl x) = inl (omega arith)
+carried-within h (inr e) = inr e
+
+-- 99 is the highest.
+pub carried-most : {l : ℕ} → Carried l → l ≤ idleLabel
+carried-most (inl h) = omega arith
+carried-most (inr e) = omega arith
+
+pub carried-decided : (l : ℕ) → Dec (Carried l)
+carried-decided l = case (decLe l mostLabels) (ℕ-discrete l idleLabel)
+  where
+    case : Dec (l ≤ mostLabels) → Dec (l ≡ idleLabel) → Dec (Carried l)
+    case (yes h) d = yes (inl h)
+    case (no h) (yes e) = yes (inr e)
+    case (no h) (no e) = no (λ c. elim c [ inl x ↦ h x | inr x ↦ e x ])
 
 -- A step that leaves s.
 abbrev pub From : Table → ℕ → Type 0
@@ -64,6 +83,26 @@ module _ (t : Table) (r : InRange t) where
       go e (inl n) = omega (arith, r .few-states, r .steps-in-range st n .enters)
       go e (inr (d, n)) = omega (arith, ap (λ (x : Step). x .to) d, e)
 
-  pub step-labelled : {st : Step} → IsStep t st → st .label ≤ labels t
-  step-labelled {st} (inl n) = r .steps-in-range st n .labelled
-  step-labelled (inr (d, n)) = omega (arith, ap (λ (x : Step). x .label) d)
+  pub step-labelled : {st : Step} → IsStep t st → (st .label ≤ labels t) ⊎ (st .label ≡ idleLabel)
+  step-labelled {st} (inl n) = inl (r .steps-in-range st n .labelled)
+  step-labelled (inr (d, n)) = inr (ap (λ (x : Step). x .label) d)
+
+  pub step-carried : {st : Step} → IsStep t st → Carried (st .label)
+  step-carried i = carried-within (r .few-labels) (step-labelled i)
+
+  -- A step is labelled 99 exactly if it leaves a state without exits; a written silent loop is not.
+  pub idle-exactly : {st : Step} → IsStep t st → (st .label ≡ idleLabel) ↔ Exitless t (st .from)
+  idle-exactly {st} (inl n) = (λ e. absurd (omega (arith, r .steps-in-range st n .labelled, r .few-labels)), λ x. absurd (x st n refl))
+  idle-exactly (inr (d, n)) = (λ e. n, λ x. ap (λ (y : Step). y .label) d)
+
+  -- The alphabet has the label of every step, and rises.
+  pub step-in-alphabet : {st : Step} → IsStep t st → List·Memᴰ (st .label) (alphabet t)
+  step-in-alphabet {st} i = elim (step-labelled i) [
+    | inl h ↦ Memᴰ·append-left (idleLabel ∷ []) (upFrom-to 0 (suc (labels t)) (st .label) (omega arith) (omega arith))
+    | inr e ↦ Memᴰ·append-right (upFrom 0 (suc (labels t))) (List·Memᴰ·head e)
+  ]
+
+  pub alphabet-rising : Rising _<_ (alphabet t)
+  alphabet-rising =
+      rising-append _<_ (upFrom 0 (suc (labels t))) (idleLabel ∷ []) (upFrom-rising 0 (suc (labels t))) (λ y m. absurd (List·Memᴰ·not-nil m), tt)
+      (λ x y m n. omega (arith, upFrom-of 0 (suc (labels t)) m .1, List·Memᴰ·eq-of-singleton n, r .few-labels))

@@ -1,5 +1,6 @@
 pub mod Count
 pub mod Examples
+pub mod IdleLabels
 pub mod Leads
 pub mod Refusals
 pub mod Runs

@@ -1,17 +1,17 @@
 -- The short forms of Definition 3 mean what they should, for every formula and state: `∧`, ⟨χ⟩ and [χ] over every table, ∃F and ∀G over every
 -- table in range, as every read table is.
-use mathlib.Core.Path.{_≡_, refl, sym, subst}
-use mathlib.Core.Logic.{inl, inr, _↔_}
+use mathlib.Core.Path.{_≡_, refl, sym, ap, subst}
+use mathlib.Core.Logic.{_⊎_, inl, inr, _↔_}
 use mathlib.Core.Bool.{true}
 use mathlib.Core.List.{List}
 use Prim.Native.Nat.{ℕ, zero, suc, _≤_}
 use native.Mathlib.Omega.{arith}
 use Rattle.lts.specs.Reply.{accepted}
 use Rattle.lts.specs.Directions.{labelDirection}
-use Rattle.lts.specs.Steps.{Step, Table, labels, silent, IsStep}
+use Rattle.lts.specs.Steps.{Step, Table, labels, idleLabel, silent, IsStep}
 use Rattle.lts.specs.Range.{InRange}
 use Rattle.lts.specs.Reading.{readTable}
-use Rattle.lts.proofs.Lists.{or-true-right}
+use Rattle.lts.proofs.Lists.{or-true-left, or-true-right}
 use Rattle.lts.proofs.StepsFrom.{step-labelled}
 use Rattle.lts.proofs.Laws.Texts.{text-of-read}
 use Rattle.actl.specs.Actions.{Action, Mask, meets, passes}
@@ -49,13 +49,15 @@ module _ (t : Table) where
         λ h z. let (st, d, i, e, w) = k .0 z in w (h st d i e),
       )
 
-  -- A label of the table, and the silent one, pass the set of all labels.
-  label-passes : (a : ℕ) → a ≤ labels t → passes (allLabels t) a ≡ true
-  unfolding passes silent
-  label-passes zero h = refl
-  label-passes (suc n) h = or-true-right (silent (suc n)) _ (mask-satisfied (labelDirection (t .names)) (labels t) Action.any (suc n) (omega arith) h)
-
   module _ (r : InRange t) where
+    -- A label of the table, and a silent one, pass the set of all labels.
+    label-passes : (a : ℕ) → (a ≤ labels t) ⊎ (a ≡ idleLabel) → passes (allLabels t) a ≡ true
+    unfolding passes silent
+    label-passes zero h = refl
+    label-passes (suc n) (inl h) =
+        or-true-right (silent (suc n)) _ (mask-satisfied (labelDirection (t .names)) (labels t) Action.any (suc n) (omega arith) h (r .few-labels))
+    label-passes (suc n) (inr e) = or-true-left (silent (suc n)) _ (ap silent e)
+
     step-passes : {st : Step} → IsStep t st → passes (allLabels t) (st .label) ≡ true
     step-passes {st} i = label-passes (st .label) (step-labelled t r i)
 

@@ -3,24 +3,27 @@ use mathlib.Core.Path.{_≡_}
 use mathlib.Core.Logic.{_⊎_}
 use mathlib.Core.Bool.{true}
 use Prim.Native.Nat.{ℕ, _<_}
-use Rattle.lts.specs.Steps.{Table}
+use Rattle.lts.specs.Steps.{Table, idleLabel}
 use Rattle.actl.specs.Actions.{inSet, meets, passes}
 use Rattle.actl.specs.Formulas.{Formula, tru, not, or, ex, ax, eu, euThen}
-use Rattle.satisfaction.specs.Runs.{Run}
+use Rattle.satisfaction.specs.Runs.{RunWith}
 
--- s ⊨ f. The first arm of document 000's until is "true" in 01's fragment and says nothing.
-abbrev pub Sat : Table → Formula → ℕ → Type 0
+-- s ⊨ f, if idle steps carry label i. The first arm of document 000's until is "true" in 01's fragment and says nothing.
+abbrev pub SatWith : ℕ → Table → Formula → ℕ → Type 0
 -- s ⊨ true: always
-Sat t tru s = Unit {0}
+SatWith i t tru s = Unit {0}
 -- s ⊨ ¬f iff not s ⊨ f
-Sat t (not f) s = Sat t f s → ⊥
+SatWith i t (not f) s = SatWith i t f s → ⊥
 -- s ⊨ f ∨ g iff s ⊨ f or s ⊨ g
-Sat t (or f g) s = Sat t f s ⊎ Sat t g s
+SatWith i t (or f g) s = SatWith i t f s ⊎ SatWith i t g s
 -- s ⊨ ∃X_χ f, ∃X_τ f: for some path from s, its first step is in κ(χ), or silent, and leads to f
-Sat t (ex c f) s = (p : Run t s) × (meets c (p .step 0 .label) ≡ true) × Sat t f (p .step 0 .to)
+SatWith i t (ex c f) s = (p : RunWith i t s) × (meets c (p .step 0 .label) ≡ true) × SatWith i t f (p .step 0 .to)
 -- s ⊨ ∀X_χ f, ∀X_τ f: the same for all paths from s
-Sat t (ax c f) s = (p : Run t s) → (meets c (p .step 0 .label) ≡ true) × Sat t f (p .step 0 .to)
--- s ⊨ ∃(true_χ U f): for some path from s and some i, π(i) ⊨ f, and each step before is silent or in κ(χ)
-Sat t (eu a f) s = (p : Run t s) × (i : ℕ) × ((j : ℕ) → j < i → passes a (p .step j .label) ≡ true) × Sat t f (p .step i .from)
+SatWith i t (ax c f) s = (p : RunWith i t s) → (meets c (p .step 0 .label) ≡ true) × SatWith i t f (p .step 0 .to)
+-- s ⊨ ∃(true_χ U f): for some path from s and some n, π(n) ⊨ f, and each step before is silent or in κ(χ)
+SatWith i t (eu a f) s = (p : RunWith i t s) × (n : ℕ) × ((j : ℕ) → j < n → passes a (p .step j .label) ≡ true) × SatWith i t f (p .step n .from)
 -- s ⊨ ∃(true_χ U_χ' f): the same, and then one step in κ(χ') that leads to f
-Sat t (euThen a b f) s = (p : Run t s) × (i : ℕ) × ((j : ℕ) → j < i → passes a (p .step j .label) ≡ true) × (inSet b (p .step i .label) ≡ true) × Sat t f (p .step i .to)
+SatWith i t (euThen a b f) s = (p : RunWith i t s) × (n : ℕ) × ((j : ℕ) → j < n → passes a (p .step j .label) ≡ true) × (inSet b (p .step n .label) ≡ true) × SatWith i t f (p .step n .to)
+
+abbrev pub Sat : Table → Formula → ℕ → Type 0
+Sat t f s = SatWith idleLabel t f s

@@ -5,9 +5,9 @@ use mathlib.Core.List.{List, [], _∷_, _++_, map}
 use Prim.Native.Nat.{ℕ, suc, _+_, _-_, _*_, _/_, _%_, _≤_, _<_}
 use lib.Dec.{ltb}
 use lib.ListN.{length, getD, take}
-use Rattle.lts.specs.Sizes.{mostStates, mostLabels, mostSteps}
+use Rattle.lts.specs.Sizes.{mostStates, mostSteps}
 use Rattle.lts.specs.Lists.{upFrom}
-use Rattle.lts.specs.Steps.{Step, Table, stepsFrom}
+use Rattle.lts.specs.Steps.{Step, Table, Carried, stepsFrom}
 use Rattle.tables.specs.declared.steps.Span.{Span}
 
 abbrev pub stepCode : Step → ℕ
@@ -32,7 +32,7 @@ stepsIn steps firsts s = stepsBetween steps s (spanOf firsts s .from) (spanOf fi
 pub record StepsFit (steps firsts : List ℕ) : Type 0 where
   pub ordered : (s : ℕ) → s < mostStates → spanOf firsts s .from ≤ spanOf firsts s .to
   pub few : (s : ℕ) → s < mostStates → spanOf firsts s .to ≤ mostSteps
-  pub labelled : (s j : ℕ) → s < mostStates → spanOf firsts s .from ≤ j → j < spanOf firsts s .to → stepAt steps s j .label ≤ mostLabels
+  pub labelled : (s j : ℕ) → s < mostStates → spanOf firsts s .from ≤ j → j < spanOf firsts s .to → Carried (stepAt steps s j .label)
 
 -- The arrays of a table: those that stand there for s are the steps that leave s, in the table's order.
 pub record StepsOf (t : Table) (steps firsts : List ℕ) : Type 0 where

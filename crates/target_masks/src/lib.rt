@@ -12,6 +12,7 @@ use formulas::conditions::passes;
 use formulas::node::Node;
 use formulas::node::node_at;
 use formulas::node::node_count;
+use tables::steps::is_silent;
 
 pub mod places;
 
@@ -21,7 +22,7 @@ ghost use lib.Dec.{eqb};
 ghost use lib.ListN.{length, getD};
 ghost use Rattle.actl.specs.Sizes.{mostNodes, formulaLength};
 ghost use Rattle.automaton.specs.Sizes.{placeCount, columnCount};
-ghost use Rattle.lts.specs.Sizes.{mostLabels};
+ghost use Rattle.lts.specs.Steps.{Carried};
 ghost use Rattle.actl.specs.Formulas.{Formula};
 ghost use Rattle.actl.specs.Prepared.{slotAt};
 ghost use Rattle.target_masks.specs.Masks.{bitIf, columnOf, maskOn, maskOfNode, finalOfNode, Spells, MasksFit, MasksOf, MasksOn, FinalsOf};
@@ -44,7 +45,7 @@ fn node_mask(
     arm: u64,
     other: u64,
 ) -> u64
-    requires { ⌜ (k < mostNodes) × ((end ≤ mostNodes) × (label ≤ mostLabels)) ⌝ }
+    requires { ⌜ (k < mostNodes) × ((end ≤ mostNodes) × Carried label) ⌝ }
     ensures { λ r. ⌜ r ≡ maskOfNode node end k label last arm other ⌝ }
 {
     match node {
@@ -101,17 +102,17 @@ fn is_true(formula: &[u8], k: usize) -> bool
     }
 }
 
-// The column of a label among the masks of a place.
+// The column of a label among the masks of a place. The idle step reads the silent one.
 pub fn column(label: usize) -> usize
-    requires { ⌜ label ≤ mostLabels ⌝ }
+    requires { ⌜ Carried label ⌝ }
     ensures { λ r. ⌜ (r ≡ columnOf label) × (r < columnCount) ⌝ }
 {
-    label
+    if is_silent(label) { 0 } else { label }
 }
 
 // The target places of a place on a label.
 pub fn mask_on(masks: &[u64; MASKS_LENGTH], place: usize, label: usize) -> u64
-    requires { ⌜ (place ≤ mostNodes) × (label ≤ mostLabels) ⌝ }
+    requires { ⌜ (place ≤ mostNodes) × Carried label ⌝ }
     ensures { λ r. ⌜ r ≡ maskOn (now (masks .entry)) place label ⌝ }
 {
     masks[place * COLUMNS + column(label)]

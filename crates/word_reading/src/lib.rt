@@ -20,7 +20,8 @@ pub mod frontiers;
 
 ghost use mathlib.Core.Path.{_≡_};
 ghost use Prim.Native.Nat.{ℕ, _<_, _≤_};
-ghost use Rattle.lts.specs.Sizes.{mostStates, mostLabels, mostSteps};
+ghost use Rattle.lts.specs.Sizes.{mostStates, mostSteps};
+ghost use Rattle.lts.specs.Steps.{Carried};
 ghost use Rattle.tables.specs.StepArray.{stepAt, stepsIn, StepsFit};
 ghost use Rattle.frontier.specs.Frontier.{nowhere, allPlaces};
 ghost use Rattle.frontier.specs.Reached.{targetsOf, stepTaken, stepsTaken, placesRead, letterRead, wordRead, rootReached, Letters};
@@ -33,7 +34,7 @@ pub fn wide(letter: u8) -> usize
 
 // The target places of a set of places on a label.
 fn targets_of(masks: &[u64; MASKS_LENGTH], places: u64, label: usize) -> u64
-    requires { ⌜ label ≤ mostLabels ⌝ }
+    requires { ⌜ Carried label ⌝ }
     ensures { λ r. ⌜ r ≡ targetsOf (now (masks .entry)) places label ⌝ }
 {
     let at = column(label);
@@ -92,7 +93,7 @@ fn read_places(
     next: &mut [u64; FRONTIER],
 )
     requires { ⌜ StepsFit (now steps) (now firsts) ⌝ }
-    requires { ⌜ (label ≤ mostLabels) × (s < mostStates) ⌝ }
+    requires { ⌜ Carried label × (s < mostStates) ⌝ }
     ensures { λ _. ⌜ now (next .exit) ≡ placesRead (stepsIn (now (steps .entry)) (now (firsts .entry)) s) (now (masks .entry)) places label (now (next .entry)) ⌝ }
 {
     let targets = targets_of(masks, places, label);
@@ -111,7 +112,7 @@ fn read_letter(
     next: &mut [u64; FRONTIER],
 )
     requires { ⌜ StepsFit (now steps) (now firsts) ⌝ }
-    requires { ⌜ letter ≤ mostLabels ⌝ }
+    requires { ⌜ Carried letter ⌝ }
     ensures { λ _. ⌜ now (next .exit) ≡ letterRead (stepsIn (now (steps .entry)) (now (firsts .entry))) (now (masks .entry)) letter (now (reached .entry)) (now (next .entry)) ⌝ }
 {
     let label = wide(letter);

@@ -8,6 +8,7 @@ use formula_classes::shape_of;
 use tables::names::Lookup;
 use tables::prepared::label_count;
 use tables::prepared::start_state;
+use tables::steps::is_silent;
 use tables::steps::steps_of;
 use target_masks::final_places;
 use target_masks::target_masks;
@@ -25,7 +26,7 @@ ghost use Rattle.lts.specs.HoldsTable.{HoldsTable};
 ghost use Rattle.actl.specs.HoldsFormula.{HoldsFormula};
 ghost use Rattle.automaton.specs.Bytes.{bitOf};
 ghost use Rattle.words.specs.Replies.{wordReply};
-ghost use Rattle.automaton.specs.WordAsked.{badLetter, wordReplied, WordAnswered};
+ghost use Rattle.automaton.specs.WordAsked.{isBad, badLetter, wordReplied, WordAnswered};
 ghost use Rattle.frontier.specs.Reached.{finalPlace, someFinal, Letters, AcceptsAnswer};
 ghost use Rattle.words.specs.Answered.{Answered};
 
@@ -37,6 +38,13 @@ pub enum WordReply {
     Refused(Unprepared),
 }
 
+// 01: "a word's label above the label count". 02: "A word may hold 99". No other silent letter is above the count.
+fn is_bad(labels: usize, letter: usize) -> bool
+    ensures { λ r. ⌜ r ≡ isBad labels letter ⌝ }
+{
+    labels < letter && !is_silent(letter)
+}
+
 // 01: "index of the first such label below 1,024, else 1,024"
 fn bad_letter(labels: usize, word: &[u8]) -> Lookup
     ensures { λ r. ⌜ foundIn r ≡ badLetter labels (now (word .entry)) ⌝ }
@@ -46,7 +54,7 @@ fn bad_letter(labels: usize, word: &[u8]) -> Lookup
         if i == LONGEST_WORD {
             return Lookup::At(LONGEST_WORD);
         }
-        if labels < wide(word[i]) {
+        if is_bad(labels, wide(word[i])) {
             return Lookup::At(i);
         }
         i += 1;

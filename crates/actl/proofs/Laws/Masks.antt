@@ -1,6 +1,6 @@
 -- Masks: the mask of an action formula over labels 1 to n has the bit of exactly the labels that satisfy it, and none above n.
 use mathlib.Core.Path.{_≡_, refl, sym, ap, _∙_}
-use mathlib.Core.Bool.{Bool, true, false, cond, _&&_, not}
+use mathlib.Core.Bool.{Bool, true, false, cond, _&&_, _||_, not}
 use Prim.Native.Nat.{ℕ, zero, suc, _+_, _-_, _*_, _/_, _%_, _^_, _≤_, _<_}
 use native.Mathlib.Nat.{add-zero, pow-succ', two-pow-succ, add-mul-div-right, div-eq-of-lt, add-div-right, lt-of-lt-of-le}
 use lib.Pow.{pow-add, pow-pos, pow-mono}
@@ -8,20 +8,22 @@ use native.Mathlib.Decide.{decLe}
 use native.Mathlib.Omega.{arith}
 use lib.Dec.{eqb, ltb}
 use borrow.Author.Tests.{eq-eqb, ne-eqb, lt-ltb, eqb-true, ltb-true}
-use Rattle.lts.specs.Steps.{silent}
+use Rattle.lts.specs.Sizes.{mostLabels}
+use Rattle.lts.specs.Steps.{silent as isSilent}
 use Rattle.lts.specs.Directions.{Direction}
 use Rattle.lts.proofs.Lists.{and-true-of, and-true-to}
-use Rattle.actl.specs.Actions.{Action, satisfies, Mask, inSet, maskOf}
+use Rattle.lts.proofs.Silence.{heard}
+use Rattle.actl.specs.Actions.{Action, satisfies, Mask, inSet, maskOf, Cond, silent, labels, meets, passes}
 use Rattle.actl.specs.Prepared.{maskWithin}
 
--- Label 1 or a higher one.
-in-set-bit : (m a : ℕ) → 1 ≤ a → inSet m a ≡ eqb (m / 2 ^ a % 2) 1
-unfolding inSet silent
-in-set-bit m a h = rw (ne-eqb a 0 (λ z. omega arith))
+-- A label that is not silent; and one that is.
+in-set-bit : (m a : ℕ) → isSilent a ≡ false → inSet m a ≡ eqb (m / 2 ^ a % 2) 1
+unfolding inSet
+in-set-bit m a h = rw h
 
-pub in-set-none : (m : ℕ) → inSet m 0 ≡ false
-unfolding inSet silent
-in-set-none m = refl
+pub in-set-none : (m a : ℕ) → isSilent a ≡ true → inSet m a ≡ false
+unfolding inSet
+in-set-none m a h = rw h
 
 -- A higher power of two leaves bit a as it is; the power itself is that bit.
 bit-kept : (m a n : ℕ) → a ≤ n → (m + 2 ^ suc n) / 2 ^ a % 2 ≡ m / 2 ^ a % 2
@@ -86,18 +88,36 @@ module _ (d : ℕ → Direction) where
       case (yes w) ih = ap (λ r. eqb r 1) (more-kept (maskOf d n x) a n t w) ∙ ih w
       case (no w) ih = let e : a ≡ suc n = omega arith in rw e (more-added (maskOf d n x) (suc n) t (mask-low n x))
 
-  -- Label a is in the mask exactly if it satisfies the formula; 0 and what lies above the labels never is.
-  pub mask-satisfied : (n : ℕ) (x : Action) (a : ℕ) → 1 ≤ a → a ≤ n → inSet (maskOf d n x) a ≡ satisfies d a x
-  mask-satisfied n x a l h = in-set-bit (maskOf d n x) a l ∙ bit-satisfied n x a h l
+  -- Label a is in the mask exactly if it satisfies the formula; the silent ones and what lies above the labels never are.
+  pub mask-satisfied : (n : ℕ) (x : Action) (a : ℕ) → 1 ≤ a → a ≤ n → n ≤ mostLabels → inSet (maskOf d n x) a ≡ satisfies d a x
+  mask-satisfied n x a l h few = in-set-bit (maskOf d n x) a (heard a l (omega arith)) ∙ bit-satisfied n x a h l
 
 pub within-low : (n : ℕ) (m : Mask) → maskWithin n m ≡ true → (m % 2 ≡ 0) × (m < 2 ^ suc n)
 within-low n m e = let (a, b) = and-true-of (eqb (m % 2) 0) (ltb m (2 ^ suc n)) e in (eqb-true (m % 2) 0 a, ltb-true m (2 ^ suc n) b)
 
 pub in-set-above : (n : ℕ) (m : Mask) → maskWithin n m ≡ true → (a : ℕ) → n < a → inSet m a ≡ false
-in-set-above n m e a h =
-    let low = within-low n m e .1 in
-    let z = bit-above m a (lt-of-lt-of-le low (pow-mono h)) in
-    in-set-bit m a (omega arith) ∙ ne-eqb (m / 2 ^ a % 2) 1 (λ d. omega arith)
+in-set-above n m e a h = case (isSilent a) refl
+  where
+    case : (b : Bool) → isSilent a ≡ b → inSet m a ≡ false
+    case true d = in-set-none m a d
+    case false d =
+        let low = within-low n m e .1 in
+        let z = bit-above m a (lt-of-lt-of-le low (pow-mono h)) in
+        in-set-bit m a d ∙ ne-eqb (m / 2 ^ a % 2) 1 (λ d. omega arith)
 
 pub mask-none : (d : ℕ → Direction) (n : ℕ) (x : Action) (a : ℕ) → n < a → inSet (maskOf d n x) a ≡ false
 mask-none d n x a h = in-set-above n (maskOf d n x) (mask-within d n x) a h
+
+-- Formulas do not tell silent labels apart.
+module _ (a b : ℕ) (h : isSilent a ≡ true) (k : isSilent b ≡ true) where
+  pub sets-alike : (m : Mask) → inSet m a ≡ inSet m b
+  sets-alike m = in-set-none m a h ∙ sym (in-set-none m b k)
+
+  pub meets-alike : (c : Cond) → meets c a ≡ meets c b
+  unfolding meets
+  meets-alike silent = h ∙ sym k
+  meets-alike (labels m) = sets-alike m
+
+  pub passes-alike : (m : Mask) → passes m a ≡ passes m b
+  unfolding passes
+  passes-alike m = λ i. (h ∙ sym k) i || sets-alike m i

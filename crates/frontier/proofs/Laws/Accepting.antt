@@ -10,7 +10,7 @@ use borrow.Author.Tests.{eqb-true, eq-eqb}
 use Rattle.automaton.specs.Sizes.{placeCount}
 use Rattle.frontier.specs.Sizes.{frontierLength}
 use Rattle.lts.specs.Lists.{upFrom}
-use Rattle.lts.specs.Steps.{Step, Table, stepsFrom}
+use Rattle.lts.specs.Steps.{Step, Table, Carried, stepsFrom}
 use Rattle.lts.specs.Range.{InRange}
 use Rattle.lts.proofs.Lists.{some-of, some-to, and-true-of, and-true-to, upFrom-of, upFrom-to}
 use Rattle.actl.specs.Formulas.{Formula, size}
@@ -46,11 +46,11 @@ module _ (from more : ℕ → List Step) (same : (s : ℕ) → s < 256 → from 
 abbrev Holds : List ℕ → Position → Type 0
 Holds reached p = reachedAt reached (p .state) (p .place) ≡ true
 
-letters-head : (l : ℕ) (v : List ℕ) → Letters (l ∷ v) → l ≤ 40
-letters-head l v h = h .few 0 (omega arith)
+letters-head : (l : ℕ) (v : List ℕ) → Letters (l ∷ v) → Carried l
+letters-head l v h = h .carried 0 (omega arith)
 
 letters-tail : (l : ℕ) (v : List ℕ) → Letters (l ∷ v) → Letters v
-letters-tail l v h = record { few = λ i b. h .few (suc i) (omega arith) }
+letters-tail l v h = record { carried = λ i b. h .carried (suc i) (omega arith) }
 
 module _ (t : Table) (w : InRange t) where
   start-few : t .start < 256
@@ -103,7 +103,7 @@ module _ (t : Table) (w : InRange t) where
     root-fits : Fits (rootReached (t .start)) nowhere
     root-fits = record { long = root-long; next-long = nowhere-long; within = λ s k h z. omega (arith, ap (λ (p : Position). p .place) (root-of (at k s) h z)) }
 
-    letter-fits : (l : ℕ) → l ≤ 40 → (reached next : List ℕ) → Fits reached next → Fits (letterRead (stepsFrom t) masks l reached next) reached
+    letter-fits : (l : ℕ) → Carried l → (reached next : List ℕ) → Fits reached next → Fits (letterRead (stepsFrom t) masks l reached next) reached
     letter-fits l h reached next f = record {
       long = length-letter t w masks l reached next (f .next-long);
       next-long = f .long;

@@ -1,20 +1,23 @@
 -- Loops over letters, steps and places, by what is left: a turn takes one away.
 use mathlib.Core.Path.{_≡_, refl, sym, ap, _∙_}
-use mathlib.Core.Bool.{Bool, true, false, cond, _||_}
+use mathlib.Core.Logic.{_⊎_, inl, inr}
+use mathlib.Core.Bool.{Bool, true, false, true≢false, cond, not as negate, _&&_, _||_}
 use mathlib.Core.List.{List, [], _∷_}
 use mathlib.Core.Option.{Option, none, some}
 use Prim.Native.Nat.{ℕ, zero, suc, _+_, _-_, _≤_, _<_}
 use native.Mathlib.Numerals.{add-one}
 use native.Mathlib.Omega.{arith}
-use lib.Dec.{ltb}
+use lib.Dec.{eqb, ltb}
 use lib.ListN.{length, getD, drop, length-drop}
 use lib.Seq.{drop-cons}
-use borrow.Author.Tests.{lt-ltb, le-ltb, ltb-false, eq-eqb, ne-eqb}
+use borrow.Author.Tests.{ltb-false, eqb-true, eq-eqb, ne-eqb}
 use Rattle.lts.specs.Lists.{upFrom, anyOf as any}
-use Rattle.lts.specs.Steps.{Step}
+use Rattle.lts.specs.Sizes.{mostLabels}
+use Rattle.lts.specs.Steps.{Step, idleLabel}
+use Rattle.lts.proofs.StepsFrom.{carried-within}
 use Rattle.tables.specs.StepArray.{stepAt, stepsBetween}
 use Rattle.tables.proofs.Laws.StepArray.{between-next, between-over}
-use Rattle.automaton.specs.WordAsked.{badFrom, badLetter}
+use Rattle.automaton.specs.WordAsked.{isBad, badFrom, badLetter}
 use Rattle.frontier.specs.Frontier.{brought}
 use Rattle.frontier.specs.Reached.{stepTaken, stepsTaken, letterRead, wordRead, Letters}
 
@@ -38,35 +41,42 @@ module _ (labels : ℕ) (w : List ℕ) (i : ℕ) where
       let none-left : 1024 - i ≡ 0 = omega arith in
       ap (badFrom (1024 - i) i labels) (drop-cons w i 0 h) ∙ (ap (λ n. badFrom n i labels (getD w i 0 ∷ drop (suc i) w)) none-left ∙ ap some e)
 
-  next-letter : i < 1024 → i < length w → badLeft labels w i ≡ cond (ltb labels (getD w i 0)) (some i) (badFrom (1024 - (i + 1)) (suc i) labels (drop (suc i) w))
+  next-letter : i < 1024 → i < length w → badLeft labels w i ≡ cond (isBad labels (getD w i 0)) (some i) (badFrom (1024 - (i + 1)) (suc i) labels (drop (suc i) w))
   next-letter few h =
       let more : 1024 - i ≡ suc (1024 - (i + 1)) = omega arith in
       ap (badFrom (1024 - i) i labels) (drop-cons w i 0 h) ∙ ap (λ n. badFrom n i labels (getD w i 0 ∷ drop (suc i) w)) more
 
-  pub bad-here : i < 1024 → i < length w → labels < getD w i 0 → badLeft labels w i ≡ some i
-  bad-here few h l =
-      next-letter few h ∙ ap (λ b. cond b (some i) (badFrom (1024 - (i + 1)) (suc i) labels (drop (suc i) w))) (lt-ltb labels (getD w i 0) l)
+  pub bad-here : i < 1024 → i < length w → isBad labels (getD w i 0) ≡ true → badLeft labels w i ≡ some i
+  bad-here few h e = next-letter few h ∙ ap (λ b. cond b (some i) (badFrom (1024 - (i + 1)) (suc i) labels (drop (suc i) w))) e
 
-  pub bad-later : i < 1024 → i < length w → getD w i 0 ≤ labels → badLeft labels w i ≡ badLeft labels w (i + 1)
-  bad-later few h l =
-      next-letter few h ∙ (ap (λ b. cond b (some i) (badFrom (1024 - (i + 1)) (suc i) labels (drop (suc i) w))) (le-ltb labels (getD w i 0) l)
+  pub bad-later : i < 1024 → i < length w → isBad labels (getD w i 0) ≡ false → badLeft labels w i ≡ badLeft labels w (i + 1)
+  bad-later few h e =
+      next-letter few h ∙ (ap (λ b. cond b (some i) (badFrom (1024 - (i + 1)) (suc i) labels (drop (suc i) w))) e
       ∙ ap (λ j. badFrom (1024 - (i + 1)) j labels (drop j w)) (sym (add-one i)))
 
--- A word without a bad letter has only letters of the table.
-none-bad : (n i labels : ℕ) (w : List ℕ) → badFrom n i labels w ≡ none → (j : ℕ) → j < length w → getD w j 0 ≤ labels
+-- A word without a bad letter has only letters that steps may carry.
+letter-within : (labels l : ℕ) → isBad labels l ≡ false → (l ≤ labels) ⊎ (l ≡ idleLabel)
+letter-within labels l = case (ltb labels l) (eqb l idleLabel) refl refl
+  where
+    case : (b c : Bool) → ltb labels l ≡ b → eqb l idleLabel ≡ c → (b && negate c) ≡ false → (l ≤ labels) ⊎ (l ≡ idleLabel)
+    case true true d e n = inr (eqb-true l idleLabel e)
+    case true false d e n = absurd (true≢false n)
+    case false c d e n = inl (ltb-false labels l d)
+
+none-bad : (n i labels : ℕ) (w : List ℕ) → badFrom n i labels w ≡ none → (j : ℕ) → j < length w → isBad labels (getD w j 0) ≡ false
 none-bad n i labels [] e j h = absurd (omega arith)
 none-bad zero i labels (l ∷ w) e j h = let z : _≡_ {A = ℕ} 0 1 = cc in absurd (omega arith)
-none-bad (suc n) i labels (l ∷ w) e j h = case (ltb labels l) refl e j h (none-bad n (suc i) labels w)
+none-bad (suc n) i labels (l ∷ w) e j h = case (isBad labels l) refl e j h (none-bad n (suc i) labels w)
   where
-    case : (b : Bool) → ltb labels l ≡ b → cond b (some i) (badFrom n (suc i) labels w) ≡ none → (j : ℕ) → j < suc (length w)
-        → (badFrom n (suc i) labels w ≡ none → (j : ℕ) → j < length w → getD w j 0 ≤ labels) → getD (l ∷ w) j 0 ≤ labels
+    case : (b : Bool) → isBad labels l ≡ b → cond b (some i) (badFrom n (suc i) labels w) ≡ none → (j : ℕ) → j < suc (length w)
+        → (badFrom n (suc i) labels w ≡ none → (j : ℕ) → j < length w → isBad labels (getD w j 0) ≡ false) → isBad labels (getD (l ∷ w) j 0) ≡ false
     case true d e j h more = let z : _≡_ {A = ℕ} 0 1 = cc in absurd (omega arith)
-    case false d e zero h more = ltb-false labels l d
+    case false d e zero h more = d
     case false d e (suc j) h more = more e j (omega arith)
 
-pub letters-few : (labels : ℕ) (w : List ℕ) → labels ≤ 40 → badLetter labels w ≡ none → Letters w
+pub letters-carried : (labels : ℕ) (w : List ℕ) → labels ≤ mostLabels → badLetter labels w ≡ none → Letters w
 unfolding badLetter
-letters-few labels w h e = record { few = λ i l. omega (arith, none-bad 1024 0 labels w e i l) }
+letters-carried labels w h e = record { carried = λ i l. carried-within h (letter-within labels (getD w i 0) (none-bad 1024 0 labels w e i l)) }
 
 -- A step with the label, and one without.
 module _ (l places : ℕ) (st : Step) (next : List ℕ) where

@@ -12,7 +12,7 @@ use borrow.Author.Tests.{eqb-true, eq-eqb}
 use Rattle.automaton.specs.Sizes.{placeCount}
 use Rattle.frontier.specs.Sizes.{frontierLength}
 use Rattle.lts.specs.Lists.{upFrom, anyOf}
-use Rattle.lts.specs.Steps.{Step, Table, IsStep, stepsFrom}
+use Rattle.lts.specs.Steps.{Step, Table, IsStep, Carried, stepsFrom}
 use Rattle.lts.specs.Range.{InRange}
 use Rattle.lts.proofs.Lists.{some-of, some-to, and-true-of, and-true-to, upFrom-of, upFrom-to}
 use Rattle.lts.proofs.StepsFrom.{steps-are}
@@ -21,6 +21,7 @@ use Rattle.automaton.specs.Listing.{leads, onLabel}
 use Rattle.target_masks.specs.Masks.{bitAt, MasksOf, maskOn}
 use Rattle.automaton.specs.Positions.{at, Joins}
 use Rattle.target_masks.proofs.Laws.MasksFound.{bit-or, bit-zero, target-bit}
+use Rattle.target_masks.proofs.Laws.Places.{mask-carried}
 use Rattle.automaton.proofs.Moves.{leaving}
 use Rattle.automaton.proofs.Tests.{leads-of, leads-to}
 use Rattle.frontier.specs.Frontier.{hasState, emptied, brought, placesAdded, allPlaces}
@@ -148,10 +149,10 @@ module _ (t : Table) (w : InRange t) (masks : List ℕ) (l : ℕ) where
         ∙ ap (λ b. b || anyOf (brings reached) (upFrom 0 256)) (emptied-reached next v q few)
 
     -- The same as moves of the automaton, where only places of F are reached.
-    module _ (F : Formula) (small : size F ≤ 40) (d : MasksOf F 0 masks) (few-labels : l ≤ 40) (reached next : List ℕ) (long : length next ≡ frontierLength)
+    module _ (F : Formula) (small : size F ≤ 40) (d : MasksOf F 0 masks) (carried : Carried l) (reached next : List ℕ) (long : length next ≡ frontierLength)
         (within : (s k : ℕ) → s < 256 → reachedAt reached s k ≡ true → k ≤ size F) where
       mask-leads : (k : ℕ) → k ≤ size F → bitAt (maskOn masks k l) q ≡ leads F k l q
-      mask-leads k h = ap (λ m. bitAt m q) (d .mask k l (omega arith) h few-labels) ∙ target-bit F k l q
+      mask-leads k h = ap (λ m. bitAt m q) (mask-carried d k l (omega arith) h carried) ∙ target-bit F k l q
 
       pub letter-of : reachedAt (letterRead (stepsFrom t) masks l reached next) v q ≡ true → (x : ℕ) × (x < 256) × ((j : ℕ) × (reachedAt reached x j ≡ true) × Joins t F (at j x) l (at q v))
       letter-of z =

@@ -8,13 +8,13 @@ use native.Mathlib.Decide.{decLt, ℕ-discrete}
 use native.Mathlib.Omega.{arith}
 use lib.ListN.{length, getD, set, take, length-set, length-map, length-append, List·getD-append}
 use lib.Seq.{slice, slice-cons, take-suc-set, length-slice, getD-set-same, getD-set-other, getD-append-add, getD-take}
-use Rattle.lts.specs.Sizes.{mostStates, mostLabels, mostSteps, firstsLength}
+use Rattle.lts.specs.Sizes.{mostStates, mostSteps, firstsLength}
 use Rattle.lts.specs.Lists.{upFrom, orElse, bind}
-use Rattle.lts.specs.Steps.{Step, Table, idleAt, stepsFrom}
+use Rattle.lts.specs.Steps.{Step, Table, Carried, idleAt, stepsFrom}
 use Rattle.lts.specs.Range.{InRange}
 use Rattle.tables.specs.StepArray.{stepCode, stepAt, stepsBetween, stepsIn, exitsBelow, PutBehind, StepsFit, StepsOf}
 use Rattle.lts.proofs.Lists.{upFrom-snoc, bind-append, map-append, getD-mem}
-use Rattle.lts.proofs.StepsFrom.{steps-are, step-below, step-labelled}
+use Rattle.lts.proofs.StepsFrom.{steps-are, step-below, step-carried}
 use Rattle.lts.proofs.Laws.Contents.{map-at}
 use Rattle.tables.proofs.Laws.Exits.{steps-slice, exits-at-most, exits-grow}
 
@@ -209,20 +209,20 @@ module _ (t : Table) (w : InRange t) (steps firsts : List ℕ) (h : AllDone t st
       let many : getD firsts (s + 1) 0 - from ≡ length S = omega (arith, next-is) in
       ap (λ n. map (stepAt steps s) (upFrom from n)) many ∙ map-upFrom-is (stepAt steps s) (idleAt 0) S from step-is
 
-  label-few : (j : ℕ) → from ≤ j → j < getD firsts (s + 1) 0 → stepAt steps s j .label ≤ mostLabels
-  label-few j x y =
+  label-carried : (j : ℕ) → from ≤ j → j < getD firsts (s + 1) 0 → Carried (stepAt steps s j .label)
+  label-carried j x y =
       let k : j - from < length S = omega (arith, next-is) in
       let z : from + (j - from) ≡ j = omega arith in
       let st = getD S (j - from) (idleAt 0) in
       let (e, i) = steps-are t s st .0 (getD-mem S (j - from) (idleAt 0) k) in
-      omega (arith, ap (λ n. stepAt steps s n .label) z, ap (λ (u : Step). u .label) (step-is (j - from) k), step-labelled t w i, w .few-labels)
+      subst Carried (sym (ap (λ (u : Step). u .label) (step-is (j - from) k)) ∙ ap (λ n. stepAt steps s n .label) z) (step-carried t w i)
 
 all-steps : (t : Table) → InRange t → (steps firsts : List ℕ) → AllDone t steps firsts → StepsOf t steps firsts
 all-steps t w steps firsts h = record {
   fit = record {
     ordered = λ s x. omega (arith, next-is t w steps firsts h s x);
     few = λ s x. omega (arith, next-is t w steps firsts h s x, inside t w steps firsts h s x, h .few);
-    labelled = λ s j x. label-few t w steps firsts h s x j;
+    labelled = λ s j x. label-carried t w steps firsts h s x j;
   };
   leaving = λ s x. leaving-is t w steps firsts h s x;
 }

@@ -1,6 +1,6 @@
 -- The masks and final places of a prepared formula, place by place from the last one: a store keeps the others and adds one.
 use mathlib.Core.Path.{_≡_, refl, sym, ap, _∙_, subst}
-use mathlib.Core.Bool.{Bool, true, false}
+use mathlib.Core.Bool.{Bool, true, false, cond}
 use mathlib.Core.List.{List, [], _∷_}
 use mathlib.Core.Option.{some}
 use Prim.Native.Nat.{ℕ, zero, suc, _+_, _-_, _*_, _^_, _<_, _≤_}
@@ -13,6 +13,8 @@ use lib.Seq.{getD-set-same, getD-set-other}
 use Rattle.actl.specs.Sizes.{mostNodes}
 use Rattle.automaton.specs.Sizes.{placeCount, columnCount, masksLength}
 use Rattle.lts.specs.Sizes.{mostLabels}
+use Rattle.lts.specs.Steps.{silent as isSilent, Carried}
+use Rattle.lts.proofs.Silence.{zero-silent, heard, carried-heard}
 use Rattle.actl.specs.Actions.{silent, labels}
 use Rattle.actl.specs.Formulas.{Formula, tru, not, or, ex, ax, eu, euThen, size, isT, At}
 use Rattle.actl.specs.Prepared.{slotOf, slotAt, preparedFormula}
@@ -26,8 +28,8 @@ use Rattle.actl.proofs.Nodes.{size-pos}
 use Rattle.actl.proofs.Laws.Slots.{node-shaped}
 use Rattle.actl.proofs.Laws.Prepared.{prepared-few, prepared-count, prepared-slot}
 use Rattle.automaton.specs.Listing.{nodeAt, final}
-use Rattle.target_masks.specs.Masks.{columnOf, targetMask, maskOfNode, finalOfNode, Spells, MasksFit, MasksOf, MasksOn, FinalsOf}
-use Rattle.target_masks.proofs.Laws.MasksFound.{mask-past, target-fits, node-mask-is, final-past, node-final-is}
+use Rattle.target_masks.specs.Masks.{columnOf, maskOn, targetMask, maskOfNode, finalOfNode, Spells, MasksFit, MasksOf, MasksOn, FinalsOf}
+use Rattle.target_masks.proofs.Laws.MasksFound.{masks-alike, mask-past, target-fits, node-mask-is, final-past, node-final-is}
 
 -- A prepared formula, with the shape that was found of it.
 pub spells : (n : ℕ) (b : List ℕ) {F : Formula} (e : preparedFormula n b ≡ some F) (s : Shape) → ShapeOf s F → Spells b (s .ends) F
@@ -43,6 +45,18 @@ T-by-kind (ax silent f) = refl
 T-by-kind (ax (labels m) f) = refl
 T-by-kind (eu a f) = refl
 T-by-kind (euThen a b f) = refl
+
+-- The column of a label: 0 of a silent one, and else its own.
+module _ (l : ℕ) where
+  pub silent-column : isSilent l ≡ true → columnOf l ≡ 0
+  silent-column e = ap (λ b. cond b 0 l) e
+
+  pub heard-column : isSilent l ≡ false → columnOf l ≡ l
+  heard-column e = ap (λ b. cond b 0 l) e
+
+own-column : (l : ℕ) → l ≤ mostLabels → columnOf l ≡ l
+own-column zero h = silent-column 0 zero-silent
+own-column (suc n) h = heard-column (suc n) (heard (suc n) (omega arith) (omega arith))
 
 -- A number stored in a list of numbers below a bound.
 set-below : (l : List ℕ) (n v m : ℕ) → v < m → ((i : ℕ) → getD l i 0 < m) → (i : ℕ) → getD (set l n v) i 0 < m
@@ -106,8 +120,9 @@ module _ {b ends : List ℕ} {F : Formula} (p : Spells b ends F) (k : ℕ) (h : 
       -- The same in the column that the code found.
       pub masks-turn-at : (at : ℕ) → at ≡ columnOf l → (v : ℕ) → v ≡ maskOfNode node end k l last (getD masks ((k + 1) * columnCount + at) 0) (getD masks (right * columnCount + at) 0)
           → MasksOn F k (l + 1) (set masks (k * columnCount + at) v)
-      masks-turn-at at c v =
-          subst (λ x. v ≡ maskOfNode node end k l last (getD masks ((k + 1) * columnCount + x) 0) (getD masks (right * columnCount + x) 0) → MasksOn F k (l + 1) (set masks (k * columnCount + x) v)) (sym c) (masks-turn v)
+      masks-turn-at at d v =
+          subst (λ x. v ≡ maskOfNode node end k l last (getD masks ((k + 1) * columnCount + x) 0) (getD masks (right * columnCount + x) 0) → MasksOn F k (l + 1) (set masks (k * columnCount + x) v))
+          (sym (d ∙ own-column l (omega arith))) (masks-turn v)
 
     -- The flag of place k, from those behind.
     module _ (finals : List Bool) (m : FinalsOf F (k + 1) finals) (node : Node) (s : slotOfNode node ≡ slotAt b k) where
@@ -134,6 +149,14 @@ masks-next {F} {k} {masks} m = record { mask = λ j l x y z. pick j l x y z (ℕ
     pick : (j l : ℕ) → k ≤ j → j ≤ size F → l ≤ mostLabels → Dec (j ≡ k) → getD masks (j * columnCount + l) 0 ≡ targetMask F j l
     pick j l x y z (yes d) = ap (λ n. getD masks (n * columnCount + l) 0) d ∙ (m .here l (omega arith) ∙ ap (λ n. targetMask F n l) (sym d))
     pick j l x y z (no d) = m .behind .mask j l (omega arith) y z
+
+-- The mask of every label that a step may carry.
+pub mask-carried : {F : Formula} {k : ℕ} {masks : List ℕ} → MasksOf F k masks → (j l : ℕ) → k ≤ j → j ≤ size F → Carried l → maskOn masks j l ≡ targetMask F j l
+mask-carried {F} {k} {masks} m j l x y c = case (isSilent l) refl
+  where
+    case : (b : Bool) → isSilent l ≡ b → maskOn masks j l ≡ targetMask F j l
+    case true e = ap (λ n. getD masks (j * columnCount + n) 0) (silent-column l e) ∙ (m .mask j 0 x y (omega arith) ∙ masks-alike 0 l zero-silent e F j)
+    case false e = ap (λ n. getD masks (j * columnCount + n) 0) (heard-column l e) ∙ m .mask j l x y (carried-heard c e)
 
 pub masks-before : {F : Formula} (k : ℕ) {masks : List ℕ} → length masks ≡ masksLength → MasksFit masks → MasksOf F (k + 1) masks → MasksOn F k 0 masks
 masks-before k e f m = record { long = e; behind = m; here = λ i x. absurd (omega arith); fit = f }

@@ -1,5 +1,6 @@
 -- `masks::mask_place` meets its contract: one label more has its mask each turn.
 use mathlib.Core.Path.{_≡_, refl, sym, ap, _∙_, subst}
+use mathlib.Core.Logic.{inl}
 use Prim.Native.Nat.{_+_, _-_, _≤_, _<_}
 use native.Mathlib.Omega.{arith}
 use Rattle.actl.specs.Sizes.{mostNodes}
@@ -45,7 +46,7 @@ loop-holds : tie.Need-loop-holds Inv-loop μ-loop
 loop-holds c = (omega arith, c .before .before .before .before .before .pre .1 .1)
 
 column-requires : tie.Need-column-requires Inv-loop μ-loop
-column-requires c κs = omega (arith, c .loop-test .taken)
+column-requires c κs = inl (omega (arith, c .loop-test .taken))
 
 add-arm : tie.Need-add-arm Inv-loop μ-loop
 add-arm c = omega (arith, few-here c)
@@ -79,7 +80,7 @@ node-mask-requires c κs =
     let counted = c .before .before .before .before .before .before .before .before in
     let start = counted .before .before in
     let spelled = start .pre .1 .0 .1 in
-    (few start, (omega (arith, counted .node-count .ensures, spelled .count, spelled .few), omega (arith, c .before .before .before .loop-test .taken)))
+    (few start, (omega (arith, counted .node-count .ensures, spelled .count, spelled .few), inl (omega (arith, c .before .before .before .loop-test .taken))))
 
 mul-masks : tie.Need-mul-masks Inv-loop μ-loop
 mul-masks c = omega (arith, few-here (c .before .before .before))

@@ -1,12 +1,12 @@
 -- `reading::read_letter` meets its contract: what the states from s on bring is left.
-use mathlib.Core.Path.{_≡_, sym, ap, _∙_}
+use mathlib.Core.Path.{_≡_, sym, ap, _∙_, subst}
 use mathlib.Core.Bool.{true, false, cond}
 use mathlib.Core.List.{List}
 use Prim.Native.Nat.{ℕ, _-_, _<_}
 use native.Mathlib.Omega.{arith}
 use lib.ListN.{getD}
 use borrow.Author.Needs.{needs}
-use Rattle.lts.specs.Steps.{Step}
+use Rattle.lts.specs.Steps.{Step, Carried}
 use Rattle.tables.specs.StepArray.{stepsIn}
 use Rattle.frontier.specs.Frontier.{hasState, emptied, through}
 use Rattle.frontier.specs.Reached.{placesRead, stateRead}
@@ -50,7 +50,7 @@ element-copy-out-read-places c = omega (arith, c .loop-test .taken)
 read-places-requires : tie.Need-read-places-requires Inv-loop μ-loop
 read-places-requires c κs =
     let start = c .before .before .before .before .before .before .before .before in
-    (start .pre .0, (omega (arith, start .pre .1, c .before .before .before .before .before .before .before .wide .ensures), c .before .before .loop-test .taken))
+    (start .pre .0, (subst Carried (sym (c .before .before .before .before .before .before .before .wide .ensures)) (start .pre .1), c .before .before .loop-test .taken))
 
 add-next-state : tie.Need-add-next-state Inv-loop μ-loop
 add-next-state c = omega (arith, c .before .before .before .loop-test .taken)

@@ -35,7 +35,7 @@ shared-slice-read-read-letter c = omega (arith, c .before .loop-test .taken)
 read-letter-requires : tie.Need-read-letter-requires Inv-loop μ-loop
 read-letter-requires c κs =
     let p = c .before .before .before .before .before .before .before .before .pre in
-    (p .0, p .1 .1 .few (c .before .before .before .before .loop .i) (omega (arith, c .before .before .before .loop-test .taken)))
+    (p .0, p .1 .1 .carried (c .before .before .before .before .loop .i) (omega (arith, c .before .before .before .loop-test .taken)))
 
 add-read-letter : tie.Need-add-read-letter Inv-loop μ-loop
 add-read-letter c = omega (arith, c .before .before .before .before .before .loop .inv .0)
@@ -46,7 +46,7 @@ shared-slice-read-read-letter-2 c = c .before .before .before .before .before .l
 read-letter-requires-2 : tie.Need-read-letter-requires-2 Inv-loop μ-loop
 read-letter-requires-2 c κs =
     let p = c .before .before .before .before .before .before .before .before .before .before .before .before .pre in
-    (p .0, p .1 .1 .few (c .before .before .before .before .before .before .before .before .loop .i + 1) (c .before .before .before .before .before .before .before .loop-test .taken))
+    (p .0, p .1 .1 .carried (c .before .before .before .before .before .before .before .before .loop .i + 1) (c .before .before .before .before .before .before .before .loop-test .taken))
 
 add-i : tie.Need-add-i Inv-loop μ-loop
 add-i c = omega (arith, c .before .before .before .before .before .before .before .before .loop-test .taken)
@@ -70,7 +70,7 @@ shared-slice-read-read-letter-3 c = c .before .if1 .taken
 read-letter-requires-3 : tie.Need-read-letter-requires-3 Inv-loop μ-loop
 read-letter-requires-3 c κs =
     let p = c .before .before .before .before .before .before .before .before .before .pre in
-    (p .0, p .1 .1 .few (c .before .before .before .before .before .loop .i) (c .before .before .before .if1 .taken))
+    (p .0, p .1 .1 .carried (c .before .before .before .before .before .loop .i) (c .before .before .before .if1 .taken))
 
 all-places-requires : tie.Need-all-places-requires Inv-loop μ-loop
 all-places-requires c κs = search needs

@@ -25,7 +25,7 @@ idle : (masks : List ℕ) (places label k found : ℕ) → bitAt places k ≡ fa
 idle masks places label k found e = ap (λ b. cond b (bitOr found (maskOn masks k label)) found) e
 
 column-requires : tie.Need-column-requires Inv-loop μ-loop
-column-requires c κs = omega (arith, c .pre)
+column-requires c κs = c .pre
 
 next-bit-requires : tie.Need-next-bit-requires Inv-loop μ-loop
 next-bit-requires c κs = omega arith

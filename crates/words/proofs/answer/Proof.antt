@@ -8,7 +8,7 @@ use Rattle.actl.specs.Reading.{unlessFound}
 use Rattle.automaton.specs.Bytes.{bitOf}
 use Rattle.automaton.specs.Words.{accepts}
 use Rattle.automaton.specs.WordAsked.{badLetter}
-use Rattle.frontier.proofs.Laws.Left.{letters-few}
+use Rattle.frontier.proofs.Laws.Left.{letters-carried}
 use borrow.Author.Needs.{needs}
 use Rattle.words.proofs.answer.Statement.{statement}
 use Rattle.words.proofs.answer.Tie as tie
@@ -32,7 +32,7 @@ enum-told c = search needs
 is-accepted-requires : tie.Need-is-accepted-requires
 is-accepted-requires c κs =
     let start = c .before .before .before .before .before .before .before in
-    (start .pre .0, (start .pre .1, letters-few (labels (tableIn (start .args .table .now))) (start .args .word .now) (start .pre .0 .in-range .few-labels) (known (c .before .before) ∙ ap foundIn (c .enum-told .given .1))))
+    (start .pre .0, (start .pre .1, letters-carried (labels (tableIn (start .args .table .now))) (start .args .word .now) (start .pre .0 .in-range .few-labels) (known (c .before .before) ∙ ap foundIn (c .enum-told .given .1))))
 
 answer-of-requires : tie.Need-answer-of-requires
 answer-of-requires c κs = search needs

@@ -1,10 +1,10 @@
 -- `bad_letter` meets its contract: the letters below i are labels.
-use mathlib.Core.Path.{_≡_, sym, _∙_}
+use mathlib.Core.Path.{_≡_, sym, ap, _∙_}
 use Prim.Native.Nat.{_≤_, _<_, _-_}
 use native.Mathlib.Omega.{arith}
 use borrow.Author.Needs.{needs}
-use lib.ListN.{length}
-use Rattle.automaton.specs.WordAsked.{badLetter}
+use lib.ListN.{length, getD}
+use Rattle.automaton.specs.WordAsked.{isBad, badLetter}
 use Rattle.frontier.proofs.Laws.Left.{badLeft, bad-start, bad-over, bad-full, bad-here, bad-later}
 use Rattle.words.proofs.bad_letter.Statement.{statement}
 use Rattle.words.proofs.bad_letter.Tie as tie
@@ -29,22 +29,37 @@ shared-slice-read-wide c = omega (arith, c .before .before .loop-test .taken)
 wide-requires : tie.Need-wide-requires Inv-loop μ-loop
 wide-requires c κs = search needs
 
+is-bad-requires : tie.Need-is-bad-requires Inv-loop μ-loop
+is-bad-requires c κs = search needs
+
+-- A letter that is tested: below the 1,024th, and what the test says of it.
+module _ (c : tie.After-is-bad Inv-loop μ-loop) where
+  abbrev at-loop : tie.At-loop Inv-loop μ-loop
+  at-loop = c .before .before .before .before .before
+
+  few : at-loop .loop .i < 1024
+  few = omega (arith, c .before .before .before .if1 .left, at-loop .loop .inv .0)
+
+  told : isBad (at-loop .before .before .args .labels) (getD (at-loop .before .before .args .word .now) (at-loop .loop .i) 0) ≡ c .is-bad .result
+  told = ap (isBad (at-loop .before .before .args .labels)) (sym (c .before .wide .ensures)) ∙ sym (c .is-bad .ensures)
+
 returns-2 : tie.Need-returns-2 Inv-loop μ-loop
 returns-2 c =
-    let loop = c .before .before .before .before .before .loop in
-    sym (loop .inv .1 ∙ bad-here _ _ (loop .i) (omega (arith, c .before .before .before .if1 .left, loop .inv .0)) (c .before .before .before .before .loop-test .taken) (omega (arith, c .if2 .taken, c .before .wide .ensures)))
+    let e = c .before in
+    let loop = at-loop e .loop in
+    sym (loop .inv .1 ∙ bad-here _ _ (loop .i) (few e) (e .before .before .before .before .loop-test .taken) (told e ∙ c .if2 .taken))
 
 add-i : tie.Need-add-i Inv-loop μ-loop
-add-i c = omega (arith, c .before .before .before .before .before .loop .inv .0)
+add-i c = omega (arith, few (c .before))
 
 loop-less : tie.Need-loop-less Inv-loop μ-loop
-loop-less c = omega (arith, c .before .before .before .before .loop-test .taken)
+loop-less c = omega (arith, c .before .before .before .before .before .loop-test .taken)
 
 loop-again : tie.Need-loop-again Inv-loop μ-loop
 loop-again c =
-    let loop = c .before .before .before .before .before .loop in
-    let few : loop .i < 1024 = omega (arith, c .before .before .before .if1 .left, loop .inv .0) in
-    (omega arith, loop .inv .1 ∙ bad-later _ _ (loop .i) few (c .before .before .before .before .loop-test .taken) (omega (arith, c .if2 .left, c .before .wide .ensures)))
+    let e = c .before in
+    let loop = at-loop e .loop in
+    (omega (arith, few e), loop .inv .1 ∙ bad-later _ _ (loop .i) (few e) (e .before .before .before .before .loop-test .taken) (told e ∙ c .if2 .left))
 
 returns-3 : tie.Need-returns-3 Inv-loop μ-loop
 returns-3 c = sym (c .before .loop .inv .1 ∙ bad-over _ _ (c .before .loop .i) (c .loop-test .left))
@@ -59,6 +74,7 @@ bad-letter-spec =
     returns
     shared-slice-read-wide
     wide-requires
+    is-bad-requires
     returns-2
     add-i
     loop-less

@@ -3,8 +3,10 @@ use mathlib.Core.Path.{_≡_, refl, sym, ap, _∙_}
 use mathlib.Core.Bool.{true, false, not, _&&_}
 use lib.Dec.{eqb}
 use borrow.Author.Needs.{needs}
+use native.Mathlib.Omega.{arith}
 use Prim.Native.Nat.{_/_, _%_, _^_}
 use Rattle.lts.specs.Steps.{silent}
+use Rattle.lts.proofs.Silence.{carried-heard}
 use Rattle.actl.specs.Actions.{inSet}
 use Rattle.formulas.proofs.conditions.in_set.Statement.{statement}
 use Rattle.formulas.proofs.conditions.in_set.Tie as tie
@@ -12,8 +14,9 @@ use Rattle.formulas.proofs.conditions.in_set.Tie as tie
 is-silent-requires : tie.Need-is-silent-requires
 is-silent-requires c κs = search needs
 
+-- The label is heard.
 shr-result : tie.Need-shr-result
-shr-result c = search needs
+shr-result c = omega (arith, carried-heard (c .before .before .pre) (sym (c .before .is-silent .ensures) ∙ c .if1 .left))
 
 returns : tie.Need-returns
 unfolding inSet

@@ -1,11 +1,11 @@
 -- `some_step` meets its contract: the steps from k on are searched, and none before k comes out as wanted.
-use mathlib.Core.Path.{_≡_, refl, sym, ap, _∙_}
+use mathlib.Core.Path.{_≡_, refl, sym, ap, _∙_, subst}
 use mathlib.Core.Bool.{Bool, true, false}
 use Prim.Native.Nat.{ℕ, _≤_, _<_, _+_, _-_}
 use native.Mathlib.Omega.{arith}
 use Rattle.lts.specs.Sizes.{mostSteps}
 use Rattle.lts.specs.Lists.{anyOf}
-use Rattle.lts.specs.Steps.{Step}
+use Rattle.lts.specs.Steps.{Step, Carried}
 use Rattle.tables.specs.StepArray.{stepAt, stepsBetween, stepsIn, spanOf}
 use Rattle.tables.specs.declared.steps.Span.{Span}
 use Rattle.formulas.specs.Access.{condIn}
@@ -75,8 +75,8 @@ leads-requires : tie.Need-leads-requires Inv-loop μ-loop
 leads-requires c κs =
     let loop = c .before .before .before .before .before in
     let start = loop .before .before in
-    let few = start .pre .0 .labelled (start .args .s) (loop .loop .k) (start .pre .1) (loop .loop .inv .0) (omega (arith, c .before .before .before .before .loop-test .taken, loop .loop .inv .1)) in
-    omega (arith, few, c .before .label-of .ensures)
+    let carried = start .pre .0 .labelled (start .args .s) (loop .loop .k) (start .pre .1) (loop .loop .inv .0) (omega (arith, c .before .before .before .before .loop-test .taken, loop .loop .inv .1)) in
+    subst Carried (sym (c .before .label-of .ensures)) carried
 
 returns : tie.Need-returns Inv-loop μ-loop
 returns c =
