@@ -25,7 +25,7 @@
 #define EXPLAINER_ROW_LENGTH 3
 #define EXPLAINER_EDGE_LENGTH 5
 
-/* At most so many of each, in what is accepted. Labels are numbered from 1; 0 is the silent step. */
+/* At most so many of each, in what is accepted. Labels are numbered from 1; 0 is the silent step that a table writes. */
 #define EXPLAINER_MOST_STATES 256
 #define EXPLAINER_MOST_LABELS 40
 #define EXPLAINER_MOST_TRANSITIONS 1024
@@ -36,6 +36,9 @@
 #define EXPLAINER_MOST_ROWS 10496
 #define EXPLAINER_MOST_EDGES 2151680
 #define EXPLAINER_LONGEST_WORD 1024
+
+/* The label of the idle step, the silent loop of a state without transitions, in edges and words. No table has a label of this number. */
+#define EXPLAINER_IDLE_LABEL 99
 
 /* The class of a formula: what its automaton lists. */
 #define EXPLAINER_WITNESSES 1
@@ -115,7 +118,7 @@ static inline const char *explainer_refusal(uint32_t number)
     case EXPLAINER_NOT_PREPARED: return "the bytes are no prepared table, or no prepared formula over it";
     case EXPLAINER_ROWS_SHORT: return "there are more rows than lent places";
     case EXPLAINER_EDGES_SHORT: return "there are more edges than lent places";
-    case EXPLAINER_WORD_BAD: return "a label of the word is above the label count, or the word is over 1,024";
+    case EXPLAINER_WORD_BAD: return "a label of the word is above the label count and not 99, or the word is over 1,024";
     case EXPLAINER_BUFFER_SHORT: return "a prepared buffer is under its length";
     default: return NULL;
     }

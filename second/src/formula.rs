@@ -28,8 +28,9 @@ impl Set {
         table.going(direction).map(Set::of).fold(Set::EMPTY, Set::union)
     }
 
+    /// 01: "Label 0 is in no set". The idle step's is in none either.
     pub fn has(self, label: u8) -> bool {
-        self.0 >> label & 1 == 1
+        !is_silent(label) && self.0 >> label & 1 == 1
     }
 
     /// 01: "each silent or meeting A".

@@ -11,11 +11,17 @@ pub const MAX_STEM: usize = 12;
 pub const MAX_NAME: usize = MAX_STEM + 1;
 
 pub const SILENT: u8 = 0;
-/// 01: "In the base this prints as label 0."
-pub const IDLE: u8 = SILENT;
+/// 02: "The idle step now prints as label 99." No text of a table has it.
+pub const IDLE: u8 = 99;
 
+/// 02: "It still counts as silent in formulas".
 pub fn is_silent(label: u8) -> bool {
-    label == SILENT
+    label == SILENT || label == IDLE
+}
+
+/// The labels that a step may carry, rising.
+pub fn alphabet(labels: usize) -> impl Iterator<Item = u8> {
+    (SILENT..=labels as u8).chain([IDLE])
 }
 
 /// Which way a label goes, by the mark that its name ends in.

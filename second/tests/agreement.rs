@@ -2,7 +2,7 @@
 
 mod common;
 
-use common::all_words;
+use common::{all_words, shortest_word};
 use second::formula::{Class, Formula};
 use second::inputs::kinds::Kinds;
 use second::inputs::questions::{Question, question};
@@ -70,18 +70,6 @@ fn a_verdict_has_a_word_exactly_if_something_explains_it() {
         }
     }
     assert!((10_000..35_000).contains(&explained), "{explained}");
-}
-
-/// The first row of a listing that is final is reached by one of its shortest words.
-fn shortest_word(listing: &Listing) -> Option<Vec<u8>> {
-    let mut row = listing.rows.iter().position(|row| row.is_final)? as u16;
-    let mut word = Vec::new();
-    while row > 0 {
-        let edge = listing.edges.iter().find(|edge| edge.target == row)?;
-        word.insert(0, edge.label);
-        row = edge.row;
-    }
-    Some(word)
 }
 
 #[test]

@@ -39,9 +39,9 @@ fn sheet() -> Vec<Line> {
         m("~EX[req] ~T", &[]),
         m(&("~".repeat(39) + "T"), &[]),
         m(&("~".repeat(40) + "T"), &[]),
-        one_state("EU[*] EX[.] T", &[&[0], &[0, 0], &[0, 0, 0], &[]]),
-        one_state("EX[*] T", &[&[0]]),
-        one_state("AX[.] T", &[&[0]]),
+        one_state("EU[*] EX[.] T", &[&[99], &[99, 99], &[99, 99, 99], &[], &[0]]),
+        one_state("EX[*] T", &[&[99]]),
+        one_state("AX[.] T", &[&[99]]),
         line(
             "loops",
             LOOPS,

@@ -90,10 +90,10 @@ fn on_m_forty_nodes_are_the_most() {
 }
 
 #[test]
-fn on_one_state_until_silence_has_the_words_of_one_or_more_silent_steps() {
+fn on_one_state_until_silence_has_the_words_of_one_or_more_idle_steps() {
     let question = question(ONE_STATE, "EU[*] EX[.] T");
-    has_only_words(&question, &[&[0], &[0; 2], &[0; 3], &[0; 4], &[0; 5]]);
-    assert!(question.accepts(&[0; 1_024]));
+    has_only_words(&question, &[&[99], &[99; 2], &[99; 3], &[99; 4], &[99; 5]]);
+    assert!(question.accepts(&[99; 1_024]));
 }
 
 #[test]

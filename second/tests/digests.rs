@@ -1,21 +1,27 @@
 //! The stored digests: of the same inputs, with every refusal among the answers, and no change of
 //! an answer passes.
 
+mod common;
+
 use std::collections::BTreeSet;
 use std::path::PathBuf;
 
+use common::loops::with_loops;
 use second::digests::answers::Explainer;
-use second::digests::{self, BASE, Corpus, MARKS, SHORT, difference};
+use second::digests::{self, BASE, Corpus, IDLE, MARKS, SHORT, difference};
 use second::entries::{self, Entries, SECOND};
+use second::prepared;
 use second::reply::Reply;
+use second::table::SILENT;
 
 /// Each corpus and its stored lines.
-fn stored() -> [(Corpus, Vec<&'static str>); 3] {
+fn stored() -> [(Corpus, Vec<&'static str>); 4] {
     let lines = |file: &'static str| file.lines().filter(|line| !line.starts_with('#')).collect();
     let base = lines(include_str!("../corpus/base.txt"));
     let marks = lines(include_str!("../corpus/marks.txt"));
     let short = lines(include_str!("../corpus/short.txt"));
-    [(BASE, base), (MARKS, marks), (SHORT, short)]
+    let idle = lines(include_str!("../corpus/idle.txt"));
+    [(BASE, base), (MARKS, marks), (SHORT, short), (IDLE, idle)]
 }
 
 fn explainer(entries: Entries) -> Explainer {
@@ -66,7 +72,7 @@ fn every_kind_has_a_stored_line_and_no_line_is_without_a_kind() {
 
 #[test]
 fn every_refusal_of_every_entry_is_among_the_answers() {
-    let [(_, base), (_, marks), (_, short)] = stored();
+    let [(_, base), (_, marks), (_, short), (_, idle)] = stored();
     all_are_among(
         &base,
         &[
@@ -93,6 +99,7 @@ fn every_refusal_of_every_entry_is_among_the_answers() {
         &short,
         &[("read_formula", &[0, 5, 6, 7, 8, 9]), ("texts", &[0]), ("program", &[0, 5, 6, 7, 8, 9])],
     );
+    all_are_among(&idle, &[("accepts", &[0, 13]), ("texts", &[0, 2])]);
 }
 
 fn all_are_among(lines: &[&str], expected: &[(&str, &[u32])]) {
@@ -137,22 +144,16 @@ fn a_count_of_edges_written_on_a_refusal_changes_its_inputs() {
 
 #[test]
 fn another_letter_for_idle_steps_changes_tables_with_states_without_exits_only() {
-    // 99 in place of 0 where an edge leaves a row whose state has no transition.
+    // 0 in place of 99, as if each idle step were written; what is shown read is the table as lent.
     let build: entries::Build = |table, formula, rows, edges, edge_count| {
-        let reply = entries::build(table, formula, rows, edges, edge_count);
-        let steps = u16::from_le_bytes([table[3], table[4]]) as usize;
-        let has_exit = |state| table[646..].chunks(3).take(steps).any(|step| step[0] == state);
-        if reply.number == 0 {
-            for edge in edges.chunks_mut(5).take(*edge_count as usize) {
-                let row = 3 * u16::from_le_bytes([edge[0], edge[1]]) as usize;
-                edge[2] = if has_exit(rows[row + 1]) { edge[2] } else { 99 };
-            }
-        }
-        reply
+        let read = prepared::table_of(table).expect("a table");
+        let written = with_loops(&read, SILENT).expect("few transitions");
+        entries::build(&prepared::table_bytes(&written), formula, rows, edges, edge_count)
     };
     let wrong = Entries { build: Some(build), ..SECOND };
     assert_eq!(differing(wrong, "build", "small-with-exits-class-1"), 0);
     assert_eq!(differing(wrong, "build", "small-with-exits-class-2"), 0);
+    assert_eq!(differing(wrong, "build", "silent-loops"), 0);
     assert!(differing(wrong, "build", "small-some-without-class-1") > 100);
     assert!(differing(wrong, "build", "small-some-without-class-2") > 100);
 }

@@ -14,7 +14,7 @@ use second::inputs::tables::longest_table;
 use second::interface::{Declared, INTERFACE};
 use second::prepared::{FORMULA_LENGTH, TABLE_LENGTH};
 use second::reply::{Refusal, Reply};
-use second::table::{MAX_LABELS, MAX_NAME, MAX_STATES, MAX_TRANSITIONS};
+use second::table::{IDLE, MAX_LABELS, MAX_NAME, MAX_STATES, MAX_TRANSITIONS};
 use second::word::MAX_WORD;
 
 /// Every constant of the header but those of the stack, which tests/stack.rs measures.
@@ -35,6 +35,7 @@ fn constants() -> Vec<(&'static str, usize)> {
         ("MOST_ROWS", (MAX_NODES + 1) * MAX_STATES),
         ("MOST_EDGES", (MAX_NODES + 1) * (MAX_NODES + 1) * (MAX_TRANSITIONS + MAX_STATES)),
         ("LONGEST_WORD", MAX_WORD),
+        ("IDLE_LABEL", IDLE.into()),
         ("WITNESSES", common::question(common::M, "T").class() as usize),
         ("COUNTEREXAMPLES", common::question(common::M, "~T").class() as usize),
         ("ACCEPTED", Reply::accepted(0).number as usize),

@@ -1,6 +1,6 @@
 //! Explainers that are wrong where few inputs look: in long words, in one byte of prepared bytes, at
-//! all limits together, in the marks of names, in short forms, in the figure of a rare refusal. The
-//! gate's inputs find each of them.
+//! all limits together, in the marks of names, in short forms, in idle steps, in the figure of a rare
+//! refusal. The gate's inputs find each of them.
 
 mod common;
 
@@ -9,14 +9,15 @@ use std::path::Path;
 use std::process::{ExitStatus, Output};
 
 use common::line::{Fault, Line};
+use common::loops::{exchanged, with_loops, without_lone_loops};
 use second::baseline::{BASELINE, accepts, build, read_formula, read_table, verdict};
 use second::entries::{EDGE_PLACE, Entries, NONE, ROW_PLACE, SECOND};
-use second::formula::{Formula, MAX_BYTES, MAX_NODES};
+use second::formula::{Condition, Formula, MAX_BYTES, MAX_NODES, Node, Set};
 use second::prepared::{
     self, FORMULA_LENGTH, NAME_SLOT, NAMES, NODE_SLOT, TABLE_LENGTH, TRANSITION_SLOT, TRANSITIONS,
 };
 use second::reply::Reply;
-use second::table::{MAX_STEM, is_name_byte};
+use second::table::{IDLE, MAX_LABELS, MAX_STEM, SILENT, Table, is_name_byte};
 use second::{fuzz, print, program};
 
 /// As in .ci/second.
@@ -147,14 +148,15 @@ fn ignoring_of_formula<const AT: usize>() -> Entries {
 
 /// Each of the explainer's entries alone.
 fn one_by_one(wrong: Entries) -> Vec<(&'static str, Entries)> {
+    let Entries { read_formula, verdict, build, accepts, .. } = wrong;
     let entries = [
-        ("read_formula", Entries { read_formula: wrong.read_formula, ..NONE }),
-        ("verdict", Entries { verdict: wrong.verdict, ..NONE }),
-        ("build", Entries { build: wrong.build, ..NONE }),
-        ("accepts", Entries { accepts: wrong.accepts, ..NONE }),
+        ("read_formula", Entries { read_formula, ..NONE }, read_formula.is_some()),
+        ("verdict", Entries { verdict, ..NONE }, verdict.is_some()),
+        ("build", Entries { build, ..NONE }, build.is_some()),
+        ("accepts", Entries { accepts, ..NONE }, accepts.is_some()),
     ];
-    let skipped = usize::from(wrong.read_formula.is_none());
-    entries.into_iter().skip(skipped).collect()
+    let wrong = entries.into_iter().filter(|(.., is_there)| *is_there);
+    wrong.map(|(name, alone, _)| (name, alone)).collect()
 }
 
 #[test]
@@ -890,6 +892,236 @@ fn faults_in_the_borders_of_short_forms_are_found() {
     ]);
 }
 
+/// A prepared table as another one, if it is a table and there is one.
+fn table_as(table: &[u8], other: impl Fn(&Table) -> Option<Table>) -> Vec<u8> {
+    let read = table.get(..TABLE_LENGTH).and_then(prepared::table_of);
+    let other = read.and_then(|table| other(&table)).map(|other| prepared::table_bytes(&other));
+    other.unwrap_or_else(|| table.to_vec())
+}
+
+/// With silent loops in place of idle steps.
+fn idle_as_silent(table: &[u8]) -> Vec<u8> {
+    table_as(table, |table| with_loops(table, SILENT))
+}
+
+/// With idle steps in place of silent loops that are a state's only exit.
+fn silent_as_idle(table: &[u8]) -> Vec<u8> {
+    table_as(table, |table| Some(without_lone_loops(table)))
+}
+
+/// What an idle step means to a wrong explainer, which has it as a step by a label of its own.
+trait Rule {
+    /// Whether a formula can be asked in this way: no label of its own meets `.`.
+    fn is_askable(node: &Node) -> bool {
+        !matches!(node, Node::Next(Condition::Silent, _) | Node::AllNext(Condition::Silent, _))
+    }
+
+    /// Whether an until goes on by it.
+    const PASSES: bool = true;
+
+    /// Whether it meets a set over so many labels.
+    fn meets(_: Set, _: usize) -> bool {
+        false
+    }
+}
+
+/// No fault, of formulas without `.`.
+struct AsItIs;
+struct NotMetByTheSilentStep;
+struct MetByAComplement;
+struct StopsAnUntil;
+
+impl Rule for AsItIs {}
+
+impl Rule for NotMetByTheSilentStep {
+    fn is_askable(_: &Node) -> bool {
+        true
+    }
+}
+
+impl Rule for MetByAComplement {
+    fn meets(set: Set, labels: usize) -> bool {
+        set.complement(labels).0.is_power_of_two()
+    }
+}
+
+impl Rule for StopsAnUntil {
+    const PASSES: bool = false;
+}
+
+/// A question in which idle steps are written by one more label, and that label.
+struct Respelled {
+    table: Vec<u8>,
+    formula: Vec<u8>,
+    label: u8,
+}
+
+/// None if the question is refused or cannot be asked so.
+fn respelled<R: Rule>(table: &[u8], formula: &[u8]) -> Option<Respelled> {
+    let mut read = prepared::table_of(table.get(..TABLE_LENGTH)?)?;
+    let labels = read.labels();
+    let mut asked = prepared::formula_of(formula.get(..FORMULA_LENGTH)?, labels)?;
+    if labels == MAX_LABELS || !asked.nodes.iter().all(R::is_askable) {
+        return None;
+    }
+    let label = labels as u8 + 1;
+    let with = |set: Set, is_in: bool| if is_in { set.union(Set::of(label)) } else { set };
+    let meeting = |set: Set| with(set, R::meets(set, labels));
+    let passing = |set: Set| with(set, R::PASSES);
+    let among = |condition| match condition {
+        Condition::Among(set) => Condition::Among(meeting(set)),
+        Condition::Silent => Condition::Silent,
+    };
+    for node in &mut asked.nodes {
+        *node = match *node {
+            Node::Next(condition, arm) => Node::Next(among(condition), arm),
+            Node::AllNext(condition, arm) => Node::AllNext(among(condition), arm),
+            Node::Until(set, arm) => Node::Until(passing(set), arm),
+            Node::UntilThen(set, then, arm) => Node::UntilThen(passing(set), meeting(then), arm),
+            other => other,
+        };
+    }
+    // No name of the generators' begins so.
+    read.names.push(b"q_idle".to_vec());
+    let table = prepared::table_bytes(&with_loops(&read, label)?);
+    Some(Respelled { table, formula: prepared::formula_bytes(&asked), label })
+}
+
+/// Wrong in what an idle step meets or passes.
+fn ruled_by<R: Rule>() -> Entries {
+    Entries {
+        verdict: Some(|table, formula| match respelled::<R>(table, formula) {
+            Some(other) => verdict(&other.table, &other.formula),
+            None => verdict(table, formula),
+        }),
+        build: Some(|table, formula, rows, edges, edge_count| {
+            let Some(other) = respelled::<R>(table, formula) else {
+                return build(table, formula, rows, edges, edge_count);
+            };
+            let reply = build(&other.table, &other.formula, rows, edges, edge_count);
+            let count = if reply.number == 0 { *edge_count as usize } else { 0 };
+            for edge in edges.chunks_mut(EDGE_PLACE).take(count) {
+                edge[2] = if edge[2] == other.label { IDLE } else { edge[2] };
+            }
+            reply
+        }),
+        accepts: Some(|table, formula, word| {
+            let reply = accepts(table, formula, word);
+            match respelled::<R>(table, formula).filter(|_| reply.number == 0) {
+                Some(other) => {
+                    accepts(&other.table, &other.formula, &exchanged(word, IDLE, other.label))
+                }
+                None => reply,
+            }
+        }),
+        ..NONE
+    }
+}
+
+#[test]
+fn faults_in_the_silence_of_idle_steps_are_found() {
+    println!("99 is not met by `.`");
+    all_are_found(&one_by_one(ruled_by::<NotMetByTheSilentStep>()));
+    println!("99 is met by `~req`");
+    all_are_found(&one_by_one(ruled_by::<MetByAComplement>()));
+    println!("99 stops an until");
+    // No verdict depends on it: an idle step leads nowhere else.
+    all_are_found(&one_by_one(Entries { verdict: None, ..ruled_by::<StopsAnUntil>() }));
+}
+
+#[test]
+fn faults_in_the_letter_of_idle_steps_are_found() {
+    println!("an idle step is 0, in words the letter 99 too");
+    all_are_found(&one_by_one(Entries {
+        build: Some(|table, formula, rows, edges, edge_count| {
+            build(&idle_as_silent(table), formula, rows, edges, edge_count)
+        }),
+        accepts: Some(|table, formula, word| match accepts(table, formula, word) {
+            Reply { number: 0, .. } => {
+                accepts(&idle_as_silent(table), formula, &exchanged(word, IDLE, SILENT))
+            }
+            refused => refused,
+        }),
+        ..NONE
+    }));
+    println!("a silent loop that is a state's only exit is 99");
+    all_are_found(&one_by_one(Entries {
+        build: Some(|table, formula, rows, edges, edge_count| {
+            build(&silent_as_idle(table), formula, rows, edges, edge_count)
+        }),
+        accepts: Some(|table, formula, word| accepts(&silent_as_idle(table), formula, word)),
+        ..NONE
+    }));
+}
+
+/// A letter that is refused and leads nowhere if it is not.
+fn taking<const LETTER: u8>() -> Entries {
+    Entries {
+        accepts: Some(|table, formula, word| {
+            let has_letter = word.contains(&LETTER);
+            match accepts(table, formula, &exchanged(word, LETTER, IDLE)) {
+                Reply { number: 0, .. } if has_letter => Reply::accepted(0),
+                reply => reply,
+            }
+        }),
+        ..NONE
+    }
+}
+
+#[test]
+fn faults_in_what_is_a_letter_of_a_word_are_found() {
+    all_are_found(&[
+        (
+            "99 is refused",
+            Entries {
+                accepts: Some(|table, formula, word| {
+                    accepts(table, formula, &exchanged(word, IDLE, u8::MAX))
+                }),
+                ..NONE
+            },
+        ),
+        (
+            "99 is refused over a table without idle steps",
+            Entries {
+                accepts: Some(|table, formula, word| {
+                    let reply = accepts(table, formula, word);
+                    match reply.number == 0 && idle_as_silent(table) == table {
+                        true => accepts(table, formula, &exchanged(word, IDLE, u8::MAX)),
+                        false => reply,
+                    }
+                }),
+                ..NONE
+            },
+        ),
+        (
+            "99 leads nowhere",
+            Entries {
+                accepts: Some(|table, formula, word| match accepts(table, formula, word) {
+                    Reply { number: 0, .. } if word.contains(&IDLE) => Reply::accepted(0),
+                    reply => reply,
+                }),
+                ..NONE
+            },
+        ),
+        (
+            "0 stands for the idle step beside 99",
+            Entries {
+                accepts: Some(|table, formula, word| match accepts(table, formula, word) {
+                    Reply { number: 0, figure: 0 } => {
+                        accepts(&idle_as_silent(table), formula, word)
+                    }
+                    reply => reply,
+                }),
+                ..NONE
+            },
+        ),
+        ("98 is taken", taking::<98>()),
+        ("100 is taken", taking::<100>()),
+        ("41 is taken", taking::<41>()),
+        ("255 is taken", taking::<255>()),
+    ]);
+}
+
 /// The program whose refusals print another figure, if one is given.
 fn first_folder_found(name: &str, figure: fn(u64, u64) -> u64) -> Option<u64> {
     let place = std::env::temp_dir().join(format!("second-mutants-{}-{name}", std::process::id()));
@@ -959,4 +1191,5 @@ fn the_explainers_under_the_mutants_agree() {
         ..NONE
     };
     assert_eq!(fuzz::run(&SECOND, &written_out, SEED, 20_000, |_| ()), Ok(()));
+    assert_eq!(fuzz::run(&SECOND, &ruled_by::<AsItIs>(), SEED, 5_000, |_| ()), Ok(()));
 }

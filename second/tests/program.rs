@@ -1,13 +1,17 @@
 //! Running the program finds faults: each of these programs is wrong in one thing.
 
+mod common;
+
 use std::cell::Cell;
 use std::fs;
 use std::path::{Path, PathBuf};
 use std::process::{ExitStatus, Output};
 
+use common::loops::{with_loops, without_lone_loops};
 use second::inputs::folders::{WAYS, folder};
 use second::print;
 use second::program;
+use second::table::{SILENT, Table};
 
 const SEED: u64 = 11;
 /// Enough for every kind to have several turns.
@@ -162,4 +166,18 @@ fn a_missing_file_told_otherwise_is_found() {
             });
         }
     }
+}
+
+#[test]
+fn another_label_of_idle_steps_or_lone_silent_loops_is_found() {
+    fn explained(text: &[u8], formula: &[u8], other: fn(&Table) -> Option<Table>) -> Vec<u8> {
+        let other = Table::read(text).ok().and_then(|table| other(&table));
+        print::explain_files(&other.map_or(text.to_vec(), |table| table.text()), formula)
+    }
+    told_of_files("idle-as-silent", |table, formula| {
+        explained(&table, &formula, |table| with_loops(table, SILENT))
+    });
+    told_of_files("silent-as-idle", |table, formula| {
+        explained(&table, &formula, |table| Some(without_lone_loops(table)))
+    });
 }

@@ -425,10 +425,15 @@ fn a_word_is_13_at_its_first_label_above_the_count() {
     let lent = lent();
     assert_eq!(lent.accepts(&[1, 2]), Reply::accepted(1));
     assert_eq!(lent.accepts(&[1, 3]), refused(13, 1));
-    assert_eq!(lent.accepts(&[255, 1]), refused(13, 0));
+    for letter in [3, 40, 41, 98, 100, 255] {
+        assert_eq!(lent.accepts(&[1, letter, 255]), refused(13, 1), "{letter}");
+    }
     assert_eq!(lent.accepts(&[2; 1_024]), Reply::accepted(0));
     assert_eq!(lent.accepts(&[2; 1_025]), refused(13, 1_024));
     assert_eq!(lent.accepts(&[2; 70_000]), refused(13, 1_024));
+    assert_eq!(lent.accepts(&[99, 1, 3]), refused(13, 2));
+    assert_eq!(lent.accepts(&[99; 1_024]), Reply::accepted(0));
+    assert_eq!(lent.accepts(&[99; 1_025]), refused(13, 1_024));
     let mut long = vec![0; 1_100];
     long[1_050] = 9;
     assert_eq!(lent.accepts(&long), refused(13, 1_024));

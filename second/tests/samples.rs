@@ -7,6 +7,7 @@ use std::path::{Path, PathBuf};
 
 use common::{M, question};
 use second::print::explain_folder;
+use second::table::IDLE;
 
 fn root() -> PathBuf {
     Path::new(env!("CARGO_MANIFEST_DIR")).join("..")
@@ -49,6 +50,11 @@ fn the_example_shows_the_changer_and_its_listing_byte_for_byte() {
     assert_eq!(shown, [table, formula, listing("samples/changer"), directions, short_forms]);
 }
 
+/// Each ends in the idle step of the wait.
+fn words_into_the_wait() -> [Vec<u8>; 3] {
+    [vec![1, 2, 5], vec![1, 2, 3, 5], vec![1, 2, 5, 6, 5]].map(|ways| [ways, vec![IDLE]].concat())
+}
+
 #[test]
 fn the_changer_comes_to_wait_in_the_three_ways_that_the_documents_tell() {
     let (readme, example) = (read("README.md"), read("docs/EXAMPLE.md"));
@@ -62,9 +68,9 @@ fn the_changer_comes_to_wait_in_the_three_ways_that_the_documents_tell() {
         }
         let label = |name| names.iter().position(|known| *known == name).expect("a name") as u8 + 1;
         let into_the_wait: Vec<u8> = way.split(' ').map(label).collect();
-        assert!(question.accepts(&[into_the_wait.as_slice(), &[0]].concat()), "{way}");
+        assert!(question.accepts(&[into_the_wait.as_slice(), &[IDLE]].concat()), "{way}");
     }
-    for edge in ["2 5 5", "3 5 5", "2 5 4", "4 6 2", "5 0 7"] {
+    for edge in ["2 5 5", "3 5 5", "2 5 4", "4 6 2", "5 99 7"] {
         assert!(example.contains(&format!("`{edge}`")), "{edge}");
         assert!(has_line(&listing("samples/changer"), edge), "{edge}");
     }
@@ -101,7 +107,7 @@ fn after_some_command_the_changer_receives_nothing_and_comes_to_wait() {
     assert_eq!(formula, "EU[*;!] EU[~?] EX[.] T\n");
     let ways = question(&table, formula.trim_end());
     assert_eq!((ways.verdict(), ways.class()), (1, 1));
-    for word in [vec![1, 2, 5, 0], vec![1, 2, 3, 5, 0], vec![1, 2, 5, 6, 5, 0]] {
+    for word in words_into_the_wait() {
         assert!(ways.accepts(&word), "{word:?}");
         assert!(!ways.accepts(&word[1..]), "{word:?}");
         assert!(!ways.accepts(&word[..word.len() - 1]), "{word:?}");
@@ -113,7 +119,7 @@ fn the_listing_with_short_forms_is_as_the_example_tells() {
     let (example, listing) = (read("docs/EXAMPLE.md"), listing("samples/short_forms"));
     assert!(listing.starts_with("     0     2     9    11\n"));
     assert!(example.contains("with 9 rows and 11 edges"));
-    for edge in ["2 5 4", "4 6 2", "2 5 5", "3 5 5", "5 0 7"] {
+    for edge in ["2 5 4", "4 6 2", "2 5 5", "3 5 5", "5 99 7"] {
         assert!(example.contains(&format!("`{edge}`")), "{edge}");
         assert!(has_line(&listing, edge), "{edge}");
     }
@@ -132,7 +138,7 @@ fn a_drop_is_not_always_answered_by_a_retry() {
     assert_eq!(question(&table, "AG BOX[ack] AX[done] T").verdict(), 1);
     let into_the_wait = question(&table, read("samples/changer/formula.txt").trim_end());
     assert_eq!(always.words(4), into_the_wait.words(4));
-    for word in [vec![1, 2, 5, 0], vec![1, 2, 3, 5, 0], vec![1, 2, 5, 6, 5, 0]] {
+    for word in words_into_the_wait() {
         assert!(always.accepts(&word) && into_the_wait.accepts(&word), "{word:?}");
     }
 }

@@ -277,12 +277,12 @@ fn figure_7_is_the_offset_in_the_line_as_typed() {
 #[test]
 fn over_a_table_without_labels_ef_goes_on_by_silent_steps() {
     let steps = "     2     0     1     0\n     0     0     1\n";
-    for table in [ONE_STATE, steps] {
+    for (table, first) in [(ONE_STATE, 99), (steps, 0)] {
         let ways = question(table, "EF EX[.] T");
         assert_eq!((ways.verdict(), ways.class()), (1, 1));
-        assert_eq!(ways.words(3), [vec![0], vec![0; 2], vec![0; 3]]);
+        assert_eq!(ways.words(3), [vec![first], vec![first, 99], vec![first, 99, 99]]);
         assert_eq!(ways.words(3), question(table, "EU[*] EX[.] T").words(3));
-        assert_eq!(question(table, "AG ~EX[.] T").words(2), [vec![0], vec![0; 2]]);
+        assert_eq!(question(table, "AG ~EX[.] T").words(2), [vec![first], vec![first, 99]]);
         assert_eq!(question(table, "EF DIA[*] T").verdict(), 0);
         assert_eq!(question(table, "AG BOX[*] ~T").verdict(), 1);
     }

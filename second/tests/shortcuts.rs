@@ -22,9 +22,9 @@ fn a_state_already_visited_under_another_place_is_entered_again() {
 
 #[test]
 fn an_idle_step_is_a_step_of_the_word() {
-    assert_eq!(question(ONE_STATE, "EX[.] T").words(3), [[0]]);
-    assert_eq!(question(ONE_STATE, "AX[*] T").words(3), [[0]]);
-    assert_eq!(question(ONE_STATE, "AX[.] AX[*] T").words(3), [[0, 0]]);
+    assert_eq!(question(ONE_STATE, "EX[.] T").words(3), [[99]]);
+    assert_eq!(question(ONE_STATE, "AX[*] T").words(3), [[99]]);
+    assert_eq!(question(ONE_STATE, "AX[.] AX[*] T").words(3), [[99, 99]]);
     assert!(question(ONE_STATE, "AX[.] T").words(3).is_empty());
 }
 

@@ -16,7 +16,7 @@ use Rattle.automaton.specs.Words.{acceptsFrom, accepts}
 use Rattle.automaton.specs.AcceptsBytes.{AcceptsBytes}
 
 -- One state with loops a, b, c (labels 1, 2, 3).
-abbrev loops : Table
+abbrev pub loops : Table
 loops = record {
   states = 1;
   names = ascii "a" ∷ ascii "b" ∷ ascii "c" ∷ [];
@@ -25,7 +25,7 @@ loops = record {
 }
 
 -- EX[b] T | EX[c] T | EX[a] EX[b] T: equal subformulas are different places.
-abbrev either : Formula
+abbrev pub either : Formula
 either = or (or (ex (labels 4) tru) (ex (labels 8) tru)) (ex (labels 2) (ex (labels 4) tru))
 
 accepts-a-b : accepts loops either (1 ∷ 2 ∷ []) ≡ true
@@ -67,10 +67,10 @@ fork = record {
 abbrev aThenB : Formula
 aThenB = ex (labels 2) (ex (labels 4) tru)
 
-abbrev row : ℕ → ℕ → Bool → Row
+abbrev pub row : ℕ → ℕ → Bool → Row
 row k s b = record { place = k; state = s; final = b }
 
-abbrev edge : ℕ → ℕ → ℕ → Edge
+abbrev pub edge : ℕ → ℕ → ℕ → Edge
 edge i l j = record { row = i; label = l; target = j }
 
 abbrev forkWhole : Listing

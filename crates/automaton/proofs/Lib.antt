@@ -23,6 +23,7 @@ pub mod Reading
 pub mod Refusals
 pub mod Rows
 pub mod Search
+pub mod Standstills
 pub mod States
 pub mod Tests
 pub mod Unique

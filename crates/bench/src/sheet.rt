@@ -46,9 +46,12 @@ fn on_state(formulatext: &[u8], words: &[u8]) {
 }
 
 pub fn on_one_state() {
-    on_state(b"EU[*] EX[.] T", &[0, 255, 0, 0, 255, 0, 0, 0, 255, 255]);
-    on_state(b"EX[*] T", &[0, 255]);
-    on_state(b"AX[.] T", &[0, 255]);
+    on_state(
+        b"EU[*] EX[.] T",
+        &[99, 255, 99, 99, 255, 99, 99, 99, 255, 255, 0, 255],
+    );
+    on_state(b"EX[*] T", &[99, 255]);
+    on_state(b"AX[.] T", &[99, 255]);
 }
 
 pub fn on_loops() {

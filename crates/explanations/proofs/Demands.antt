@@ -30,13 +30,13 @@ use Rattle.satisfaction.specs.VerdictAsked.{verdictReplied, TellsWhether}
 use Rattle.satisfaction.proofs.Verdicts.{verdict-is}
 use Rattle.automaton.proofs.Accepted.{prepared-in-range, formed-has-class, fitted-accepted}
 use Rattle.automaton.proofs.WordsAccepted.{listing-accepts, word-answered}
-use Rattle.explanations.specs.Demands.{WordsAccepted, RunsTraced, WordRead, Explained, FromTexts, FromCalls, FromPrepared}
+use Rattle.explanations.specs.Demands.{WordsAccepted, RunsTraced, StandstillsSeen, WordRead, Explained, FromTexts, FromCalls, FromPrepared}
 use Rattle.explanations.specs.Explanation as explain
 use Rattle.explanations.proofs.Readings.{table-prepared, table-long, formula-form, formula-prepared, formula-long, reading-leaves-table, reading-leaves-formula}
-use Rattle.explanations.proofs.Traced.{listing-traces}
+use Rattle.explanations.proofs.Traced.{listing-traces, listing-stands-still}
 
 abbrev WordsAndRuns : Table → Formula → Counts → List ℕ → List ℕ → Type 0
-WordsAndRuns t F c rows edges = WordsAccepted t F c rows edges × RunsTraced t F c rows edges
+WordsAndRuns t F c rows edges = WordsAccepted t F c rows edges × RunsTraced t F c rows edges × StandstillsSeen t c rows edges
 
 -- What is written behind a listing's bytes does not matter.
 listing-explained : {t : Table} {F : Formula} {n : ℕ} {b : List ℕ} → InRange t → IsForm n b F → {L : Listing} → L ≡ listing t F → (rows edges : List ℕ)
@@ -45,7 +45,7 @@ listing-explained {t} {F} w h {L} e rows edges =
     let x = drop (length (rowsBytes (listing t F))) rows in
     let y = drop (length (edgesBytes (listing t F))) edges in
     subst (λ (K : Listing). WordsAndRuns t F (counts K) (overwritten (rowsBytes K) rows) (overwritten (edgesBytes K) edges)) (sym e)
-    (listing-accepts t F w (formed-has-class h) (h .few) x y, listing-traces t F w (formed-has-class h) (h .few) x y)
+    (listing-accepts t F w (formed-has-class h) (h .few) x y, listing-traces t F w (formed-has-class h) (h .few) x y, listing-stands-still t F w (formed-has-class h) (h .few) x y)
 
 -- An answer tells of one thing what it tells of another that is so exactly if the first is.
 tells-alike : {P Q : Type 0} {a : ℕ} → P ↔ Q → TellsWhether Q a → TellsWhether P a
@@ -64,7 +64,7 @@ module _ (table formula : List ℕ) {t : Table} {F : Formula} (is-table : prepar
   explained-on : tableLength ≤ length table → formulaLength ≤ length formula → (c : Counts) (rows edges : List ℕ) → WordsAndRuns t F c rows edges
       → Explained table formula t F (verdict t F) c rows edges
   unfolding verdictReplied
-  explained-on long wide c rows edges (words, runs) = record {
+  explained-on long wide c rows edges (words, runs, standstills) = record {
     is-table = is-table;
     is-formula = is-formula;
     verdict = verdict-is t F;
@@ -72,6 +72,7 @@ module _ (table formula : List ℕ) {t : Table} {F : Formula} (is-table : prepar
     words = words;
     word-asked = word-read c rows edges words;
     runs = runs;
+    standstills = standstills;
   }
 
 module _ (table formula rows edges : List ℕ) where

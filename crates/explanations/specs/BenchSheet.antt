@@ -9,7 +9,7 @@ use Prim.Native.String.{String}
 use lib.ListN.{length, replicate}
 use Rattle.columns.specs.Ascii.{ascii}
 use Rattle.lts.specs.Reply.{accepted, refusal}
-use Rattle.lts.specs.Steps.{Table}
+use Rattle.lts.specs.Steps.{Table, idleLabel}
 use Rattle.lts.specs.Text.{ended}
 use Rattle.lts.specs.Reading.{readTable}
 use Rattle.actl.specs.Formulas.{Formula, classOf}
@@ -103,6 +103,6 @@ starred =
     ∷ asks tableM "EU[~req] T" (holding 1 (only ([] ∷ [])))
     ∷ asks tableM "T | ~T" (refused 9 0)
     ∷ asks tableM "~EX[req] ~T" (refused 9 1)
-    ∷ asks oneState "EU[*] EX[.] T" (holding 1 (oneOrMore 0))
+    ∷ asks oneState "EU[*] EX[.] T" (holding 1 (oneOrMore idleLabel))
     ∷ asks loops "EX[b] T | EX[c] T | EX[a] EX[b] T" (holding 1 (only ((2 ∷ []) ∷ (3 ∷ []) ∷ (1 ∷ 2 ∷ []) ∷ [])))
     ∷ []

@@ -9,9 +9,9 @@ use mathlib.Core.Path.{_≡_}
 use mathlib.Core.Logic.{_↔_}
 use mathlib.Core.List.{List}
 use mathlib.Core.Option.{some}
-use Prim.Native.Nat.{ℕ}
+use Prim.Native.Nat.{ℕ, _<_}
 use Rattle.lts.specs.Reply.{Reply, accepted, refusal}
-use Rattle.lts.specs.Steps.{Table, labels}
+use Rattle.lts.specs.Steps.{Table, labels, idleLabel, Exitless}
 use Rattle.lts.specs.Reading.{readTable}
 use Rattle.lts.specs.Prepared.{preparedTable}
 use Rattle.actl.specs.Formulas.{Formula, classOf}
@@ -19,6 +19,7 @@ use Rattle.actl.specs.Reading.{readFormula}
 use Rattle.actl.specs.Prepared.{preparedFormula}
 use Rattle.satisfaction.specs.Runs.{Run}
 use Rattle.satisfaction.specs.VerdictAsked.{verdictReplied, TellsWhether, VerdictIs}
+use Rattle.automaton.specs.Bytes.{rowState, edgeAt}
 use Rattle.automaton.specs.Build.{Counts}
 use Rattle.automaton.specs.Explains.{Explains}
 use Rattle.automaton.specs.AcceptsBytes.{AcceptsBytes}
@@ -39,6 +40,10 @@ WordsAccepted t F c rows edges = (w : List ℕ) → AcceptsBytes c rows edges w 
 abbrev pub RunsTraced : Table → Formula → Counts → List ℕ → List ℕ → Type 0
 RunsTraced t F c rows edges = (r : Run t (t .start)) → ShowsOrBreaks F (r .step) ↔ ((n : ℕ) × Traces c rows edges (r .step) n)
 
+-- 02: "A standstill must be seen." An edge's label is 99 exactly if the state of its row has no exit.
+abbrev pub StandstillsSeen : Table → Counts → List ℕ → List ℕ → Type 0
+StandstillsSeen t c rows edges = (j : ℕ) → j < c .edges → (edgeAt edges j .label ≡ idleLabel) ↔ Exitless t (rowState rows (edgeAt edges j .row))
+
 -- Demand 2, what a word is answered: 1 exactly if the rows and edges in the lent places accept it, which is exactly if it explains the verdict; else 0.
 abbrev pub WordRead : Table → Formula → Counts → List ℕ → List ℕ → List ℕ → Reply ℕ → Type 0
 WordRead t F c rows edges w (accepted answer) = TellsWhether (AcceptsBytes c rows edges w) answer × TellsWhether (Explains t F w) answer
@@ -55,6 +60,8 @@ pub record Explained (table formula : List ℕ) (t : Table) (F : Formula) (v : �
   pub word-asked : (w : List ℕ) → WordRead t F c rows edges w (wordReplied table formula w)
   -- Demand 3.
   pub runs : RunsTraced t F c rows edges
+  -- 02's third request.
+  pub standstills : StandstillsSeen t c rows edges
 
 -- What is said of the table and the formula in two texts.
 abbrev pub InTexts : List ℕ → List ℕ → (Table → Formula → Type 0) → Type 0

@@ -10,7 +10,7 @@ use Rattle.columns.specs.Ascii.{ascii}
 use Rattle.columns.specs.Columns.{column, digitsWithin}
 use Rattle.lts.specs.Reply.{accepted, refusal}
 use Rattle.lts.specs.Directions.{neither, received, sent, labelDirection}
-use Rattle.lts.specs.Steps.{Step, Table, silent, stepsFrom, idleAt}
+use Rattle.lts.specs.Steps.{Step, Table, stepsFrom, alphabet}
 use Rattle.lts.specs.Text.{tableText, ended}
 use Rattle.lts.specs.Reading.{readTable, readTableWith, readLabels, readLabelsWith, readTransitions}
 use Rattle.lts.specs.Prepared.{tableBytes, tableIn, preparedTable}
@@ -42,10 +42,30 @@ M-is-read : readTable M-lines ≡ accepted M
 unfolding readTableWith readLabelsWith readTransitions column digitsWithin
 M-is-read = refl
 
--- State 2 of M has no exit: its idle step.
-idle-of-M : stepsFrom M 2 ≡ idleAt 2 ∷ []
+-- State 2 of M has no exit: its idle step. Its labels, as steps may carry them.
+idle-of-M : stepsFrom M 2 ≡ step 2 99 2 ∷ []
 unfolding stepsFrom
 idle-of-M = refl
+
+labels-of-M : alphabet M ≡ 0 ∷ 1 ∷ 2 ∷ 99 ∷ []
+labels-of-M = refl
+
+-- From state 0 silently to state 1, which has a written silent loop alone, and by a (1) to state 2, which has no exit.
+abbrev pub rest : Table
+rest = record {
+  states = 3;
+  names = ascii "a" ∷ [];
+  transitions = step 0 0 1 ∷ step 0 1 2 ∷ step 1 0 1 ∷ [];
+  start = 0;
+}
+
+written-loop : stepsFrom rest 1 ≡ step 1 0 1 ∷ []
+unfolding stepsFrom
+written-loop = refl
+
+idle-beside-it : stepsFrom rest 2 ≡ step 2 99 2 ∷ []
+unfolding stepsFrom
+idle-beside-it = refl
 
 prepared-M : preparedTable (tableBytes M) ≡ some M
 unfolding preparedTable tableBytes tableIn readTableWith readLabelsWith readTransitions tableText column digitsWithin

@@ -1,11 +1,12 @@
 //! The corpus `base`, whose answers `corpus/base.txt` holds. This generator is left alone and uses
 //! nothing else of the crate, so that its inputs stay what they are, byte for byte; new kinds of
-//! input get a new corpus beside it, as in `marks` and `short`.
+//! input get a new corpus beside it, as in `marks`, `short` and `idle`.
 
 mod calls;
 mod damage;
 mod folders;
 mod formulas;
+pub mod idle;
 pub mod marks;
 mod questions;
 mod read_formula;
@@ -180,7 +181,7 @@ mod tests {
 
     #[test]
     fn a_kind_is_named_by_whether_all_states_have_exits() {
-        for kind in kinds() {
+        for kind in kinds().chain(idle::kinds()) {
             let lacking = match kind.name {
                 name if name.contains("with-exits") => false,
                 name if name.contains("some-without") => true,
@@ -202,5 +203,6 @@ mod tests {
         no_two_have_one_name(kinds());
         no_two_have_one_name(marks::kinds());
         no_two_have_one_name(short::kinds());
+        no_two_have_one_name(idle::kinds());
     }
 }

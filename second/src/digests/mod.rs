@@ -34,7 +34,13 @@ pub const SHORT: Corpus = Corpus {
     kinds: || corpus::short::kinds().collect(),
 };
 
-pub const CORPORA: [Corpus; 3] = [BASE, MARKS, SHORT];
+pub const IDLE: Corpus = Corpus {
+    name: "idle",
+    generator: "second/src/corpus/idle.rs",
+    kinds: || corpus::idle::kinds().collect(),
+};
+
+pub const CORPORA: [Corpus; 4] = [BASE, MARKS, SHORT, IDLE];
 
 impl Corpus {
     pub fn kinds(&self) -> Vec<Kind> {

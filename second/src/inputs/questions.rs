@@ -2,7 +2,7 @@
 
 use super::kinds::{self, Kinds, must};
 use super::rng::Rng;
-use super::tables::{NAMED, NAMES_OF, Size};
+use super::tables::{EXITS, EXITS_OF, NAMED, NAMES_OF, Size};
 use super::{formulas, tables};
 use crate::formula::{Formula, MAX_NODES, Node, Set};
 use crate::table::{MAX_LABELS, MAX_STATES, MAX_TRANSITIONS, Table};
@@ -46,7 +46,8 @@ pub fn of_any_size(rng: &mut Rng, kinds: &mut Kinds, rarity: usize, largest_in: 
 pub fn expected() -> Vec<Expected> {
     let sizes = Size::NAMES.into_iter().chain([LARGEST]);
     let sizes = sizes.map(|name| must(PART, name, &[0]));
-    sizes.chain(kinds::expected(NAMED, &NAMES_OF)).collect()
+    let names = kinds::expected(NAMED, &NAMES_OF);
+    sizes.chain(names).chain(kinds::expected(EXITS, &EXITS_OF)).collect()
 }
 
 /// What `with_long_words` must have made.
@@ -92,7 +93,7 @@ pub fn with_long_words(rng: &mut Rng, kinds: &mut Kinds, largest_in: usize) -> Q
     kinds.note(PART, LASTING);
     let (states, labels) = (rng.between(1, 8), rng.below(5));
     let transitions = rng.between(states, 4 * states);
-    let table = tables::with_counts(rng, kinds, states, labels, transitions);
+    let table = tables::with_any_exits(rng, kinds, states, labels, transitions);
     let nodes = rng.between(3, 9);
     Question { formula: formulas::until(rng, nodes, &table), table }
 }

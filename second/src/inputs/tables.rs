@@ -9,7 +9,9 @@ use super::rng::Rng;
 use super::{damage, damage_an_end, random_bytes};
 use crate::columns;
 use crate::prepared::{NAME_SLOT, NAMES, TABLE_LENGTH, TRANSITION_SLOT, TRANSITIONS};
-use crate::table::{MARKS, MAX_LABELS, MAX_STATES, MAX_STEM, MAX_TRANSITIONS, Step, Table};
+use crate::table::{
+    IDLE, MARKS, MAX_LABELS, MAX_STATES, MAX_STEM, MAX_TRANSITIONS, SILENT, Step, Table,
+};
 
 #[derive(Clone, Copy, PartialEq, Eq)]
 pub enum Size {
@@ -50,7 +52,10 @@ pub fn table(rng: &mut Rng, kinds: &mut Kinds, size: Size) -> Table {
             rng.pick(&[0, 300, MAX_TRANSITIONS - 1, MAX_TRANSITIONS, MAX_TRANSITIONS]),
         ),
     };
-    with_counts(rng, kinds, states, labels, transitions)
+    match size {
+        Size::Limit => with_counts(rng, kinds, states, labels, transitions),
+        _ => with_any_exits(rng, kinds, states, labels, transitions),
+    }
 }
 
 /// Transitions among the lowest and highest states, by the lowest and highest labels only.
@@ -113,6 +118,72 @@ pub fn with_counts(
         names: names(rng, kinds, labels),
         transitions: steps.into_iter().collect(),
     }
+}
+
+pub const EXITS: &str = "exits";
+
+/// Which states have exits, in a table with room for more transitions. The last way needs two states.
+pub const EXITS_OF: [Way<Table, Table>; 5] = [
+    way("as drawn", 5, &[0], |_, table| table.clone()),
+    way("of every state", 1, &[0], |rng, table| {
+        let exit = |from| {
+            let to = rng.below(table.states) as u8;
+            a_step(rng, table, from, to)
+        };
+        with_steps(table, &[], without_exits(table).map(exit).collect())
+    }),
+    way("silent loops in place of idle steps", 1, &[0], |_, table| {
+        with_steps(table, &[], without_exits(table).map(silent_loop).collect())
+    }),
+    way("none of a state next to the start", 3, &[0], |rng, table| {
+        let still = rng.below(table.states) as u8;
+        let into = (table.start != still).then(|| a_step(rng, table, table.start, still));
+        with_steps(table, &[still], Vec::from_iter(into))
+    }),
+    way("a silent loop beside an idle step", 2, &[0], |rng, table| {
+        let still = rng.below(table.states) as u8;
+        let [start, looping] = [(); 2].map(|()| another_state(rng, table, still));
+        let into = [looping, still].map(|to| a_step(rng, table, start, to));
+        let steps = [vec![silent_loop(looping)], into.to_vec()].concat();
+        Table { start, ..with_steps(table, &[still, looping], steps) }
+    }),
+];
+
+/// About so many transitions, with exits of some states or of all.
+pub fn with_any_exits(
+    rng: &mut Rng,
+    kinds: &mut Kinds,
+    states: usize,
+    labels: usize,
+    transitions: usize,
+) -> Table {
+    let table = with_counts(rng, kinds, states, labels, transitions);
+    let ways = if states > 1 { &EXITS_OF } else { &EXITS_OF[..EXITS_OF.len() - 1] };
+    kinds.make(rng, EXITS, ways, &table)
+}
+
+fn without_exits(table: &Table) -> impl Iterator<Item = u8> {
+    let has_exit = |state| table.transitions.iter().any(|step| step.from == state);
+    (0..table.states).map(|state| state as u8).filter(move |&state| !has_exit(state))
+}
+
+/// With these in place of all that leave some states.
+fn with_steps(table: &Table, leaving: &[u8], more: Vec<Step>) -> Table {
+    let kept = table.transitions.iter().filter(|step| !leaving.contains(&step.from));
+    let steps: BTreeSet<Step> = kept.copied().chain(more).collect();
+    Table { transitions: steps.into_iter().collect(), ..table.clone() }
+}
+
+fn a_step(rng: &mut Rng, table: &Table, from: u8, to: u8) -> Step {
+    Step { from, label: rng.below(table.labels() + 1) as u8, to }
+}
+
+fn silent_loop(state: u8) -> Step {
+    Step { from: state, label: SILENT, to: state }
+}
+
+fn another_state(rng: &mut Rng, table: &Table, state: u8) -> u8 {
+    ((usize::from(state) + rng.between(1, table.states - 1)) % table.states) as u8
 }
 
 pub const NAMED: &str = "names";
@@ -313,7 +384,9 @@ pub fn out_of_range(rng: &mut Rng, table: &Table) -> Vec<u8> {
             let line = 1 + labels + rng.below(transitions);
             let column = rng.below(3);
             let least = if column == 1 { labels + 1 } else { states };
-            (line, column, rng.pick(&[least, least, least + 1, MAX_STATES, MOST]).max(least))
+            let idle = usize::from(IDLE);
+            let above = rng.pick(&[least, least, least + 1, idle, MAX_STATES, MOST]);
+            (line, column, above.max(least))
         }
         _ => {
             let column = rng.below(4);
@@ -496,7 +569,7 @@ fn damage_transitions(rng: &mut Rng, table: &Table, bytes: &mut [u8]) {
         0 => bytes.copy_within(other..other + TRANSITION_SLOT, slot),
         1 => (0..TRANSITION_SLOT).for_each(|byte| bytes.swap(slot + byte, other + byte)),
         _ => {
-            let limits = [0, table.states, table.labels(), 255];
+            let limits = [0, table.states, table.labels(), IDLE.into(), 255];
             let byte = (rng.pick(&limits) + rng.below(3)).saturating_sub(1);
             bytes[slot + rng.below(TRANSITION_SLOT)] = byte as u8;
         }

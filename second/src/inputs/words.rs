@@ -1,10 +1,12 @@
-//! Random words of every length: along a listing, near it, and such as 13 refuses.
+//! Random words of every length, with idle steps at every place: along a listing, near it, and such
+//! as 13 refuses.
 
 use std::ops::RangeInclusive;
 
 use super::kinds::{Kind, Kinds};
 use super::rng::Rng;
 use crate::listing::{Edge, Listing, Row};
+use crate::table::{IDLE, SILENT, is_silent};
 use crate::tally::{Expected, Outcome};
 use crate::word::MAX_WORD;
 
@@ -45,6 +47,50 @@ const LENGTHS: [Lengths; 12] = [
     lengths("over 1,025 labels", MAX_WORD + 2..=usize::MAX, REFUSED),
 ];
 
+struct Letters {
+    name: &'static str,
+    /// Whether a word over so many labels has them.
+    are_in: fn(&[u8], u8) -> bool,
+    outcomes: &'static [Outcome],
+}
+
+const fn letters(
+    name: &'static str,
+    outcomes: &'static [Outcome],
+    are_in: fn(&[u8], u8) -> bool,
+) -> Letters {
+    Letters { name, are_in, outcomes }
+}
+
+const LETTERS: &str = "letters";
+const NOT_ACCEPTED: &[Outcome] = &[Outcome::NO, Outcome::of(13)];
+
+/// Behind an idle step only idle steps follow.
+const LETTERS_OF: [Letters; 10] = [
+    letters("an idle step alone", ANSWERED, |word, _| word == [IDLE]),
+    letters("idle steps alone", ANY, |word, _| word.len() > 1 && has_only_idle_steps(word)),
+    letters("an idle step first, then others", NOT_ACCEPTED, |word, _| {
+        word.first() == Some(&IDLE) && !has_only_idle_steps(word)
+    }),
+    letters("an idle step behind others", ANY, |word, _| is_begun(word) && word.ends_with(&[IDLE])),
+    letters("an idle step within", ANY, |word, _| {
+        is_begun(word) && word[..word.len() - 1].contains(&IDLE)
+    }),
+    letters("one above the label count", REFUSED, |word, labels| word.contains(&(labels + 1))),
+    letters("41", REFUSED, |word, _| word.contains(&41)),
+    letters("one below the idle step's", REFUSED, |word, _| word.contains(&(IDLE - 1))),
+    letters("one above the idle step's", REFUSED, |word, _| word.contains(&(IDLE + 1))),
+    letters("255", REFUSED, |word, _| word.contains(&255)),
+];
+
+fn has_only_idle_steps(word: &[u8]) -> bool {
+    word.iter().all(|&letter| letter == IDLE)
+}
+
+fn is_begun(word: &[u8]) -> bool {
+    word.first().is_some_and(|&letter| letter != IDLE)
+}
+
 /// Mostly short; otherwise any, near a power of two, or at the limit.
 pub fn length(rng: &mut Rng) -> usize {
     match rng.below(32) {
@@ -66,28 +112,54 @@ pub fn word(
     length: usize,
 ) -> Vec<u8> {
     let mut word = match rng.below(5) {
-        0 => (0..length).map(|_| rng.below(labels + 1) as u8).collect(),
+        0 => (0..length).map(|_| letter(rng, labels)).collect(),
         _ => along(rng, listing, length),
     };
     if rng.one_in(5) && !word.is_empty() {
         let at = telling_index(rng, word.len());
-        word[at] = rng.below(labels + 1) as u8;
+        word[at] = letter(rng, labels);
+    }
+    if rng.one_in(6) {
+        exchange_silent(rng, &mut word);
     }
     if rng.one_in(6) {
         word = refused(rng, word, labels);
     }
     let kind = LENGTHS.iter().find(|kind| kind.lengths.contains(&word.len()));
     kinds.note(PART, kind.expect("every length has a kind").name);
+    for kind in LETTERS_OF.iter().filter(|kind| (kind.are_in)(&word, labels as u8)) {
+        kinds.note(LETTERS, kind.name);
+    }
     word
 }
 
-/// All lengths that must have occurred.
+/// All lengths and letters that must have occurred.
 pub fn expected() -> Vec<Expected> {
-    let expected = |kind: &Lengths| Expected {
-        kind: Kind { part: PART, name: kind.name },
-        outcomes: kind.outcomes.to_vec(),
+    let lengths = LENGTHS.iter().map(|kind| (PART, kind.name, kind.outcomes));
+    let letters = LETTERS_OF.iter().map(|kind| (LETTERS, kind.name, kind.outcomes));
+    let expected = |(part, name, outcomes): (_, _, &[Outcome])| Expected {
+        kind: Kind { part, name },
+        outcomes: outcomes.to_vec(),
     };
-    LENGTHS.iter().map(expected).collect()
+    lengths.chain(letters).map(expected).collect()
+}
+
+/// One that 13 does not refuse.
+fn letter(rng: &mut Rng, labels: usize) -> u8 {
+    match rng.one_in(6) {
+        true => IDLE,
+        false => rng.below(labels + 1) as u8,
+    }
+}
+
+/// A silent step that is written where the idle one stands, or the other way round.
+fn exchange_silent(rng: &mut Rng, word: &mut [u8]) {
+    let silent: Vec<usize> = (0..word.len()).filter(|&at| is_silent(word[at])).collect();
+    if let (Some(&first), Some(&last)) = (silent.first(), silent.last()) {
+        let any = rng.pick(&silent);
+        let at = rng.pick(&[first, last, any]);
+        word[at] = if word[at] == IDLE { SILENT } else { IDLE };
+    }
 }
 
 /// The labels along so many edges from row 0, or fewer where none leads on. Most ends are final.
@@ -155,15 +227,18 @@ fn telling_index(rng: &mut Rng, length: usize) -> usize {
 
 fn refused(rng: &mut Rng, mut word: Vec<u8>, labels: usize) -> Vec<u8> {
     match rng.below(6) {
-        0 => word.resize(rng.pick(&[MAX_WORD, MAX_WORD + 1, MAX_WORD + 2, 5_000, 70_000]), 0),
-        1 => word.push(0),
+        0 => {
+            let length = rng.pick(&[MAX_WORD, MAX_WORD + 1, MAX_WORD + 2, 5_000, 70_000]);
+            word.resize(length, rng.pick(&[SILENT, IDLE]));
+        }
+        1 => word.push(rng.pick(&[SILENT, IDLE])),
         _ => {}
     }
     for _ in 0..rng.pick(&[0, 1, 1, 2]) {
         if !word.is_empty() {
             let at = telling_index(rng, word.len());
-            word[at] =
-                rng.pick(&[labels as u8, labels as u8 + 1, labels as u8 + 1, 41, 64, 99, 255]);
+            let (most, above) = (labels as u8, labels as u8 + 1);
+            word[at] = rng.pick(&[most, above, above, 41, 64, IDLE - 1, IDLE + 1, 255]);
         }
     }
     word

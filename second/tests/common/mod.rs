@@ -3,13 +3,14 @@
 
 pub mod header;
 pub mod line;
+pub mod loops;
 
 use second::entries::{self, EDGE_PLACE, ROW_PLACE};
 use second::formula::Formula;
 use second::listing::{Edge, Listing, Row};
 use second::prepared::{FORMULA_LENGTH, TABLE_LENGTH};
 use second::reply::Reply;
-use second::table::Table;
+use second::table::{Table, alphabet};
 use second::word;
 
 pub const M: &str = "     3     2     3     0
@@ -110,7 +111,7 @@ impl Question {
         accepted
     }
 
-    /// All accepted words of at most so many labels, shorter ones first.
+    /// All accepted words of at most so many letters, shorter ones first.
     pub fn words(&self, longest: usize) -> Vec<Vec<u8>> {
         let mut accepted = all_words(self.labels, longest);
         accepted.retain(|word| self.accepts(word));
@@ -122,11 +123,23 @@ pub fn all_words(labels: u8, longest: usize) -> Vec<Vec<u8>> {
     let mut words = vec![Vec::new()];
     let mut extended = 0;
     while words[extended].len() < longest {
-        for label in 0..=labels {
-            let longer = [words[extended].as_slice(), &[label]].concat();
+        for letter in alphabet(labels.into()) {
+            let longer = [words[extended].as_slice(), &[letter]].concat();
             words.push(longer);
         }
         extended += 1;
     }
     words
+}
+
+/// The first row of a listing that is final is reached by one of its shortest words.
+pub fn shortest_word(listing: &Listing) -> Option<Vec<u8>> {
+    let mut row = listing.rows.iter().position(|row| row.is_final)? as u16;
+    let mut word = Vec::new();
+    while row > 0 {
+        let edge = listing.edges.iter().find(|edge| edge.target == row)?;
+        word.insert(0, edge.label);
+        row = edge.row;
+    }
+    Some(word)
 }
