@@ -1,20 +1,40 @@
--- Worked examples: idle steps in words and listings, run. Of `rest`, state 1 has a written silent loop alone and state 2 no exit.
-use mathlib.Core.Path.{_≡_, refl}
+-- Idle steps in words: where every state has an exit, the letter 99 leads nowhere. And worked examples, run.
+use mathlib.Core.Path.{_≡_, refl, sym, subst}
+use mathlib.Core.Logic.{inl, inr}
 use mathlib.Core.Bool.{Bool, true, false}
-use mathlib.Core.List.{List, [], _∷_}
+use mathlib.Core.List.{List, [], _∷_, List·Memᴰ, List·Memᴰ·not-nil, List·Memᴰ·cases-cons}
 use mathlib.Core.Option.{none, some}
-use Prim.Native.Nat.{ℕ}
-use Rattle.lts.specs.Steps.{silent, stepsFrom}
+use Prim.Native.Nat.{ℕ, _<_}
+use native.Mathlib.Omega.{arith}
+use Rattle.lts.specs.Steps.{Step, Table, idleLabel, silent, Exitless, stepsFrom}
+use Rattle.lts.specs.Range.{InRange}
+use Rattle.lts.proofs.StepsFrom.{idle-exactly}
 use Rattle.lts.proofs.Examples.{rest}
 use Rattle.actl.specs.Actions.{silent as silentStep, labels, inSet, meets, passes}
 use Rattle.actl.specs.Formulas.{Formula, tru, ex, eu, classOf}
 use Rattle.satisfaction.specs.Holds.{holds, within}
+use Rattle.automaton.specs.Paths.{IsPath, wordOf}
+use Rattle.automaton.specs.Explains.{Explains}
 use Rattle.automaton.specs.Listing.{finalOf, final, leadsOf, leads, targets, canFinish, numberOf, movesToAmong, movesOnAmong, movesFromAmong, visit, visits, expandAmong, searchAmong, positionsAmong, movesUptoAmong, listing}
 use Rattle.automaton.specs.WordAsked.{badLetter}
 use Rattle.automaton.specs.Words.{acceptsFrom, accepts}
+use Rattle.automaton.proofs.Inside.{step-stays}
 use Rattle.automaton.proofs.Examples.{loops, either, row, edge}
 
--- EX[.] T, behind a silent step and behind a.
+module _ {t : Table} (r : InRange t) (exits : (s : ℕ) → s < t .states → Exitless t s → ⊥) where
+  no-idle-step : (s : ℕ) (p : List Step) → s < t .states → IsPath t s p → List·Memᴰ idleLabel (wordOf p) → ⊥
+  no-idle-step s [] b h m = List·Memᴰ·not-nil m
+  no-idle-step s (st ∷ p) b (e, i, h) m =
+      let here : st .from < t .states = omega arith in
+      elim (List·Memᴰ·cases-cons m) [
+        | inl d ↦ exits (st .from) here (idle-exactly t r i .0 (sym d))
+        | inr n ↦ no-idle-step (st .to) p (step-stays r i here) h n
+      ]
+
+  pub idle-nowhere : (F : Formula) (w : List ℕ) → List·Memᴰ idleLabel w → Explains t F w → ⊥
+  idle-nowhere F w m (p, h, e, x) = no-idle-step (t .start) p (r .starts) h (subst (List·Memᴰ idleLabel) (sym e) m)
+
+-- Of `rest`, state 1 has a written silent loop alone and state 2 no exit. EX[.] T, behind a silent step and behind a.
 abbrev silently : Formula
 silently = ex silentStep (ex silentStep tru)
 
