@@ -31,7 +31,7 @@ static uint32_t prepare(const char *folder, uint64_t *figure)
     return number;
 }
 
-/* A label number. No label is above 40, so a number over 255 is as bad as 255 is. */
+/* A label number, 99 for an idle step. None is above 99, so a number over 255 is as bad as 255 is. */
 static int read_label(const char *word, uint8_t *label)
 {
     char *end;

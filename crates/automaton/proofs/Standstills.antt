@@ -9,8 +9,8 @@ use native.Mathlib.Omega.{arith}
 use Rattle.lts.specs.Steps.{Step, Table, idleLabel, silent, Exitless, stepsFrom}
 use Rattle.lts.specs.Range.{InRange}
 use Rattle.lts.proofs.StepsFrom.{idle-exactly}
-use Rattle.lts.proofs.Examples.{rest}
-use Rattle.actl.specs.Actions.{silent as silentStep, labels, inSet, meets, passes}
+use Rattle.lts.proofs.Examples.{M, resting}
+use Rattle.actl.specs.Actions.{Cond, silent as silentStep, labels, inSet, meets, passes}
 use Rattle.actl.specs.Formulas.{Formula, tru, ex, eu, classOf}
 use Rattle.satisfaction.specs.Holds.{holds, within}
 use Rattle.automaton.specs.Paths.{IsPath, wordOf}
@@ -34,39 +34,46 @@ module _ {t : Table} (r : InRange t) (exits : (s : ℕ) → s < t .states → Ex
   pub idle-nowhere : (F : Formula) (w : List ℕ) → List·Memᴰ idleLabel w → Explains t F w → ⊥
   idle-nowhere F w m (p, h, e, x) = no-idle-step (t .start) p (r .starts) h (subst (List·Memᴰ idleLabel) (sym e) m)
 
--- Of `rest`, state 1 has a written silent loop alone and state 2 no exit. EX[.] T, behind a silent step and behind a.
+-- Of `resting`, state 1 has a written silent loop alone and state 2 no exit. EX[.] T, behind a silent step and behind a.
 abbrev silently : Formula
 silently = ex silentStep (ex silentStep tru)
 
 abbrev afterA : Formula
 afterA = ex (labels 2) (ex silentStep tru)
 
-written-loop-is-0 : accepts rest silently (0 ∷ 0 ∷ []) ≡ true
+written-loop-is-0 : accepts resting silently (0 ∷ 0 ∷ []) ≡ true
 unfolding acceptsFrom final finalOf targets leads leadsOf stepsFrom meets inSet silent
 written-loop-is-0 = refl
 
-written-loop-is-not-99 : accepts rest silently (0 ∷ 99 ∷ []) ≡ false
+written-loop-is-not-99 : accepts resting silently (0 ∷ 99 ∷ []) ≡ false
 unfolding acceptsFrom final finalOf targets leads leadsOf stepsFrom meets inSet silent
 written-loop-is-not-99 = refl
 
-idle-is-99 : accepts rest afterA (1 ∷ 99 ∷ []) ≡ true
+idle-is-99 : accepts resting afterA (1 ∷ 99 ∷ []) ≡ true
 unfolding acceptsFrom final finalOf targets leads leadsOf stepsFrom meets inSet silent
 idle-is-99 = refl
 
-idle-is-not-0 : accepts rest afterA (1 ∷ 0 ∷ []) ≡ false
+idle-is-not-0 : accepts resting afterA (1 ∷ 0 ∷ []) ≡ false
 unfolding acceptsFrom final finalOf targets leads leadsOf stepsFrom meets inSet silent
 idle-is-not-0 = refl
 
-idle-listed : listing rest afterA ≡ record { rows = row 0 0 false ∷ row 1 2 false ∷ row 2 2 true ∷ []; edges = edge 0 1 1 ∷ edge 1 99 2 ∷ [] }
+idle-listed : listing resting afterA ≡ record { rows = row 0 0 false ∷ row 1 2 false ∷ row 2 2 true ∷ []; edges = edge 0 1 1 ∷ edge 1 99 2 ∷ [] }
 unfolding listing positionsAmong searchAmong expandAmong visits visit movesUptoAmong movesFromAmong movesOnAmong movesToAmong numberOf canFinish targets leads leadsOf final finalOf holds within stepsFrom meets passes inSet classOf silent
 idle-listed = refl
 
--- It is in no set, so EX[~a] does not take it; EU[a] goes on by it.
-in-no-set : accepts rest (ex (labels 2) (ex (labels 0) tru)) (1 ∷ 99 ∷ []) ≡ false
+-- It meets `.` and no set: on M, behind req and a silent step, EX[.] takes it and EX[~req] does not. EU[a] goes on by it.
+abbrev atRestOnM : Cond → Formula
+atRestOnM c = ex (labels 2) (ex silentStep (ex c tru))
+
+met-by-dot : accepts M (atRestOnM silentStep) (1 ∷ 0 ∷ 99 ∷ []) ≡ true
+unfolding acceptsFrom final finalOf targets leads leadsOf stepsFrom meets inSet silent
+met-by-dot = refl
+
+in-no-set : accepts M (atRestOnM (labels 4)) (1 ∷ 0 ∷ 99 ∷ []) ≡ false
 unfolding acceptsFrom final finalOf targets leads leadsOf stepsFrom meets inSet silent
 in-no-set = refl
 
-until-goes-on : accepts rest (eu 2 (ex silentStep tru)) (1 ∷ 99 ∷ 99 ∷ 99 ∷ []) ≡ true
+until-goes-on : accepts resting (eu 2 (ex silentStep tru)) (1 ∷ 99 ∷ 99 ∷ 99 ∷ []) ≡ true
 unfolding acceptsFrom final finalOf targets leads leadsOf stepsFrom meets passes inSet silent
 until-goes-on = refl
 

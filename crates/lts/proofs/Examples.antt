@@ -51,19 +51,19 @@ labels-of-M : alphabet M ≡ 0 ∷ 1 ∷ 2 ∷ 99 ∷ []
 labels-of-M = refl
 
 -- From state 0 silently to state 1, which has a written silent loop alone, and by a (1) to state 2, which has no exit.
-abbrev pub rest : Table
-rest = record {
+abbrev pub resting : Table
+resting = record {
   states = 3;
   names = ascii "a" ∷ [];
   transitions = step 0 0 1 ∷ step 0 1 2 ∷ step 1 0 1 ∷ [];
   start = 0;
 }
 
-written-loop : stepsFrom rest 1 ≡ step 1 0 1 ∷ []
+written-loop : stepsFrom resting 1 ≡ step 1 0 1 ∷ []
 unfolding stepsFrom
 written-loop = refl
 
-idle-beside-it : stepsFrom rest 2 ≡ step 2 99 2 ∷ []
+idle-beside-it : stepsFrom resting 2 ≡ step 2 99 2 ∷ []
 unfolding stepsFrom
 idle-beside-it = refl
 

@@ -6,6 +6,9 @@ pub const LABELS: usize = 40;
 
 pub const TRANSITIONS: usize = 1024;
 
+// 02: "The idle step now prints as label 99." specs/Steps.antt has it for definitions.
+pub const IDLE: usize = 99;
+
 // A prepared table: counts and start, name slots, transition slots.
 pub const HEAD: usize = 6;
 

@@ -12,7 +12,7 @@ use formulas::conditions::passes;
 use formulas::node::Node;
 use formulas::node::node_at;
 use formulas::node::node_count;
-use tables::steps::is_silent;
+use lts::sizes::IDLE;
 
 pub mod places;
 
@@ -102,12 +102,12 @@ fn is_true(formula: &[u8], k: usize) -> bool
     }
 }
 
-// The column of a label among the masks of a place. The idle step reads the silent one.
+// The column of a label among the masks of a place: the idle step has that of label 0, the other silent one.
 pub fn column(label: usize) -> usize
     requires { ⌜ Carried label ⌝ }
     ensures { λ r. ⌜ (r ≡ columnOf label) × (r < columnCount) ⌝ }
 {
-    if is_silent(label) { 0 } else { label }
+    if label == IDLE { 0 } else { label }
 }
 
 // The target places of a place on a label.

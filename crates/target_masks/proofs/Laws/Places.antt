@@ -1,5 +1,6 @@
 -- The masks and final places of a prepared formula, place by place from the last one: a store keeps the others and adds one.
 use mathlib.Core.Path.{_≡_, refl, sym, ap, _∙_, subst}
+use mathlib.Core.Logic.{inl, inr}
 use mathlib.Core.Bool.{Bool, true, false, cond}
 use mathlib.Core.List.{List, [], _∷_}
 use mathlib.Core.Option.{some}
@@ -8,13 +9,14 @@ use native.Mathlib.Numerals.{add-one}
 use native.Mathlib.Decide.{decLt, ℕ-discrete}
 use native.Mathlib.Omega.{arith}
 use lib.Dec.{eqb}
+use borrow.Author.Tests.{eq-eqb, ne-eqb}
 use lib.ListN.{length, getD, set, length-set, replicate}
 use lib.Seq.{getD-set-same, getD-set-other}
 use Rattle.actl.specs.Sizes.{mostNodes}
 use Rattle.automaton.specs.Sizes.{placeCount, columnCount, masksLength}
 use Rattle.lts.specs.Sizes.{mostLabels}
-use Rattle.lts.specs.Steps.{silent as isSilent, Carried}
-use Rattle.lts.proofs.Silence.{zero-silent, heard, carried-heard}
+use Rattle.lts.specs.Steps.{idleLabel, Carried}
+use Rattle.lts.proofs.Silence.{zero-silent, idle-silent}
 use Rattle.actl.specs.Actions.{silent, labels}
 use Rattle.actl.specs.Formulas.{Formula, tru, not, or, ex, ax, eu, euThen, size, isT, At}
 use Rattle.actl.specs.Prepared.{slotOf, slotAt, preparedFormula}
@@ -46,17 +48,12 @@ T-by-kind (ax (labels m) f) = refl
 T-by-kind (eu a f) = refl
 T-by-kind (euThen a b f) = refl
 
--- The column of a label: 0 of a silent one, and else its own.
-module _ (l : ℕ) where
-  pub silent-column : isSilent l ≡ true → columnOf l ≡ 0
-  silent-column e = ap (λ b. cond b 0 l) e
+-- The column of a label: that of label 0 for the idle step, and else its own.
+pub idle-column : (l : ℕ) → l ≡ idleLabel → columnOf l ≡ 0
+idle-column l e = ap (λ b. cond b 0 l) (eq-eqb l idleLabel e)
 
-  pub heard-column : isSilent l ≡ false → columnOf l ≡ l
-  heard-column e = ap (λ b. cond b 0 l) e
-
-own-column : (l : ℕ) → l ≤ mostLabels → columnOf l ≡ l
-own-column zero h = silent-column 0 zero-silent
-own-column (suc n) h = heard-column (suc n) (heard (suc n) (omega arith) (omega arith))
+pub own-column : (l : ℕ) → (l ≡ idleLabel → ⊥) → columnOf l ≡ l
+own-column l n = ap (λ b. cond b 0 l) (ne-eqb l idleLabel n)
 
 -- A number stored in a list of numbers below a bound.
 set-below : (l : List ℕ) (n v m : ℕ) → v < m → ((i : ℕ) → getD l i 0 < m) → (i : ℕ) → getD (set l n v) i 0 < m
@@ -122,7 +119,7 @@ module _ {b ends : List ℕ} {F : Formula} (p : Spells b ends F) (k : ℕ) (h : 
           → MasksOn F k (l + 1) (set masks (k * columnCount + at) v)
       masks-turn-at at d v =
           subst (λ x. v ≡ maskOfNode node end k l last (getD masks ((k + 1) * columnCount + x) 0) (getD masks (right * columnCount + x) 0) → MasksOn F k (l + 1) (set masks (k * columnCount + x) v))
-          (sym (d ∙ own-column l (omega arith))) (masks-turn v)
+          (sym (d ∙ own-column l (λ e. omega arith))) (masks-turn v)
 
     -- The flag of place k, from those behind.
     module _ (finals : List Bool) (m : FinalsOf F (k + 1) finals) (node : Node) (s : slotOfNode node ≡ slotAt b k) where
@@ -152,11 +149,10 @@ masks-next {F} {k} {masks} m = record { mask = λ j l x y z. pick j l x y z (ℕ
 
 -- The mask of every label that a step may carry.
 pub mask-carried : {F : Formula} {k : ℕ} {masks : List ℕ} → MasksOf F k masks → (j l : ℕ) → k ≤ j → j ≤ size F → Carried l → maskOn masks j l ≡ targetMask F j l
-mask-carried {F} {k} {masks} m j l x y c = case (isSilent l) refl
-  where
-    case : (b : Bool) → isSilent l ≡ b → maskOn masks j l ≡ targetMask F j l
-    case true e = ap (λ n. getD masks (j * columnCount + n) 0) (silent-column l e) ∙ (m .mask j 0 x y (omega arith) ∙ masks-alike 0 l zero-silent e F j)
-    case false e = ap (λ n. getD masks (j * columnCount + n) 0) (heard-column l e) ∙ m .mask j l x y (carried-heard c e)
+mask-carried {F} {k} {masks} m j l x y (inl h) = ap (λ n. getD masks (j * columnCount + n) 0) (own-column l (λ e. omega arith)) ∙ m .mask j l x y h
+mask-carried {F} {k} {masks} m j l x y (inr e) =
+    ap (λ n. getD masks (j * columnCount + n) 0) (idle-column l e)
+    ∙ (m .mask j 0 x y (omega arith) ∙ (masks-alike 0 idleLabel zero-silent idle-silent F j ∙ ap (targetMask F j) (sym e)))
 
 pub masks-before : {F : Formula} (k : ℕ) {masks : List ℕ} → length masks ≡ masksLength → MasksFit masks → MasksOf F (k + 1) masks → MasksOn F k 0 masks
 masks-before k e f m = record { long = e; behind = m; here = λ i x. absurd (omega arith); fit = f }
