@@ -1,13 +1,12 @@
 //! Refusals 14 and 10, and the views of prepared bytes.
 
+use super::graph::SILENT_COLUMNS;
 use crate::formula::MAX_NODES;
 use crate::prepared::{
     FORMULA_LENGTH, NAME_SLOT, NAMES, NODE_SLOT, NODES, TABLE_LENGTH, TRANSITION_SLOT, TRANSITIONS,
 };
 use crate::reply::Refusal;
-use crate::table::{
-    MAX_LABELS, MAX_NAME, MAX_STATES, MAX_STEM, MAX_TRANSITIONS, SILENT, is_name_byte,
-};
+use crate::table::{MAX_LABELS, MAX_NAME, MAX_STATES, MAX_STEM, MAX_TRANSITIONS, is_name_byte};
 
 pub struct Table<'a> {
     pub states: usize,
@@ -18,7 +17,7 @@ pub struct Table<'a> {
     pub transitions: &'a [[u8; TRANSITION_SLOT]],
 }
 
-/// Kinds as in docs/FORMATS.md. The silent step is the mask of bit 0.
+/// Kinds as in docs/FORMATS.md. The silent step is the mask of the silent columns.
 #[derive(Clone, Copy, Default)]
 pub struct Node {
     pub kind: u8,
@@ -149,7 +148,7 @@ fn checked_node(slot: &[u8; NODE_SLOT], labels: usize) -> Option<Node> {
     let silent = matches!(*kind, NEXT_SILENT | ALL_NEXT_SILENT);
     let node = Node {
         kind: *kind,
-        first: if silent { 1 << SILENT } else { first },
+        first: if silent { SILENT_COLUMNS } else { first },
         then,
         ..Node::default()
     };
