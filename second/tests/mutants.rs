@@ -765,50 +765,36 @@ fn reading(read_formula: fn(&[u8], &[u8], &mut [u8]) -> Reply) -> Entries {
     Entries { read_formula: Some(read_formula), ..NONE }
 }
 
+/// Wrong in how it expands a line: its fault stands at this place of the list.
+fn expanding<const FAULT: usize>() -> Entries {
+    reading(|table, text, formula| read_with(EXPANSION_FAULTS[FAULT].1, table, text, formula))
+}
+
+const EXPANSION_FAULTS: [(&str, Fault); 8] = [
+    ("`|` binds tighter than `&`", Fault::OrBindsTighter),
+    ("`&` and `|` bind alike", Fault::AndBindsAsOr),
+    ("`&` is grouped from the right", Fault::GroupedFromTheRight),
+    ("AG without its inner `~`", Fault::AlwaysWithoutInnerNot),
+    ("BOX is DIA", Fault::BoxAsDiamond),
+    ("EF goes on by silent steps only", Fault::EventuallyBySilentSteps),
+    ("a double negation is simplified", Fault::DoubleNegationSimplified),
+    ("`AG T` and `BOX[A] T` have a class", Fault::AlwaysOfTrue),
+];
+
 #[test]
 fn faults_in_the_expansion_of_short_forms_are_found() {
-    all_are_found(&[
-        (
-            "`|` binds tighter than `&`",
-            reading(|table, text, formula| read_with(Fault::OrBindsTighter, table, text, formula)),
-        ),
-        (
-            "`&` and `|` bind alike",
-            reading(|table, text, formula| read_with(Fault::AndBindsAsOr, table, text, formula)),
-        ),
-        (
-            "`&` is grouped from the right",
-            reading(|table, text, formula| {
-                read_with(Fault::GroupedFromTheRight, table, text, formula)
-            }),
-        ),
-        (
-            "AG without its inner `~`",
-            reading(|table, text, formula| {
-                read_with(Fault::AlwaysWithoutInnerNot, table, text, formula)
-            }),
-        ),
-        (
-            "BOX is DIA",
-            reading(|table, text, formula| read_with(Fault::BoxAsDiamond, table, text, formula)),
-        ),
-        (
-            "EF goes on by silent steps only",
-            reading(|table, text, formula| {
-                read_with(Fault::EventuallyBySilentSteps, table, text, formula)
-            }),
-        ),
-        (
-            "a double negation is simplified",
-            reading(|table, text, formula| {
-                read_with(Fault::DoubleNegationSimplified, table, text, formula)
-            }),
-        ),
-        (
-            "`AG T` and `BOX[A] T` have a class",
-            reading(|table, text, formula| read_with(Fault::AlwaysOfTrue, table, text, formula)),
-        ),
-    ]);
+    let wrong: [Entries; EXPANSION_FAULTS.len()] = [
+        expanding::<0>(),
+        expanding::<1>(),
+        expanding::<2>(),
+        expanding::<3>(),
+        expanding::<4>(),
+        expanding::<5>(),
+        expanding::<6>(),
+        expanding::<7>(),
+    ];
+    let named = EXPANSION_FAULTS.map(|(name, _)| name).into_iter().zip(wrong);
+    all_are_found(&named.collect::<Vec<_>>());
 }
 
 #[test]

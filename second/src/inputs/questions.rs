@@ -93,7 +93,8 @@ pub fn with_long_words(rng: &mut Rng, kinds: &mut Kinds, largest_in: usize) -> Q
     kinds.note(PART, LASTING);
     let (states, labels) = (rng.between(1, 8), rng.below(5));
     let transitions = rng.between(states, 4 * states);
-    let table = tables::with_any_exits(rng, kinds, states, labels, transitions);
+    let drawn = tables::with_counts(rng, kinds, states, labels, transitions);
+    let table = tables::with_any_exits(rng, kinds, &drawn);
     let nodes = rng.between(3, 9);
     Question { formula: formulas::until(rng, nodes, &table), table }
 }

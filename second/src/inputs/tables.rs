@@ -52,9 +52,10 @@ pub fn table(rng: &mut Rng, kinds: &mut Kinds, size: Size) -> Table {
             rng.pick(&[0, 300, MAX_TRANSITIONS - 1, MAX_TRANSITIONS, MAX_TRANSITIONS]),
         ),
     };
+    let table = with_counts(rng, kinds, states, labels, transitions);
     match size {
-        Size::Limit => with_counts(rng, kinds, states, labels, transitions),
-        _ => with_any_exits(rng, kinds, states, labels, transitions),
+        Size::Limit => table,
+        _ => with_any_exits(rng, kinds, &table),
     }
 }
 
@@ -149,17 +150,10 @@ pub const EXITS_OF: [Way<Table, Table>; 5] = [
     }),
 ];
 
-/// About so many transitions, with exits of some states or of all.
-pub fn with_any_exits(
-    rng: &mut Rng,
-    kinds: &mut Kinds,
-    states: usize,
-    labels: usize,
-    transitions: usize,
-) -> Table {
-    let table = with_counts(rng, kinds, states, labels, transitions);
-    let ways = if states > 1 { &EXITS_OF } else { &EXITS_OF[..EXITS_OF.len() - 1] };
-    kinds.make(rng, EXITS, ways, &table)
+/// With exits of some states or of all.
+pub fn with_any_exits(rng: &mut Rng, kinds: &mut Kinds, table: &Table) -> Table {
+    let ways = if table.states > 1 { &EXITS_OF } else { &EXITS_OF[..EXITS_OF.len() - 1] };
+    kinds.make(rng, EXITS, ways, table)
 }
 
 fn without_exits(table: &Table) -> impl Iterator<Item = u8> {
