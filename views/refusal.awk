@@ -75,7 +75,7 @@ function table_refused(k,    part, earlier) {
   else if (number == 2)
     say("table.txt, line " k ": a number is outside its range or turn", line(k), "expected: " ranges(part, k))
   else if (number == 3) {
-    for (earlier = 2; text(begin[earlier] + 7, end[earlier]) != text(begin[k] + 7, end[k]); )
+    for (earlier = 2; earlier < k && text(begin[earlier] + 7, end[earlier]) != text(begin[k] + 7, end[k]); )
       earlier++
     say("table.txt, line " k ": the name is used already, on line " earlier, line(k))
   } else

@@ -121,13 +121,18 @@ pub fn explain(
 }
 
 /// Refusals 11 and 12.
-fn write_listing(listing: &Listing, rows: &mut [u8], edges: &mut [u8]) -> Result<(), Refusal> {
-    if listing.rows.len() > rows.len() / ROW_PLACE {
+pub fn has_places(listing: &Listing, rows: usize, edges: usize) -> Result<(), Refusal> {
+    if listing.rows.len() > rows {
         return Err(Refusal::RowPlaces(listing.rows.len()));
     }
-    if listing.edges.len() > edges.len() / EDGE_PLACE {
+    if listing.edges.len() > edges {
         return Err(Refusal::EdgePlaces(listing.edges.len()));
     }
+    Ok(())
+}
+
+fn write_listing(listing: &Listing, rows: &mut [u8], edges: &mut [u8]) -> Result<(), Refusal> {
+    has_places(listing, rows.len() / ROW_PLACE, edges.len() / EDGE_PLACE)?;
     for (place, row) in rows.chunks_mut(ROW_PLACE).zip(&listing.rows) {
         place.copy_from_slice(&[row.place, row.state, row.is_final.into()]);
     }

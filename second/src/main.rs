@@ -9,14 +9,23 @@ use std::time::Instant;
 use second::digests::answers::Explainer;
 use second::digests::{BASE, CORPORA, Corpus};
 use second::entries::SECOND;
+use second::reply::Reply;
 use second::tally::{self, Tally};
-use second::{bench, digests, fuzz, link, print, program};
+use second::views::View;
+use second::{bench, digests, fuzz, link, print, program, script, views};
 
 const USAGE: &str = "second explain FOLDER
+second dot FOLDER
+second aut FOLDER
+second words NUMBER FOLDER
 second program FILE --seed NUMBER --count NUMBER
+second views SCRIPT --seed NUMBER --count NUMBER
 second fuzz --seed NUMBER --count NUMBER
 second digests FILE [--corpus NAME] [--compare STORED | --each ENTRY KIND]
 second bench [ENTRY]";
+
+/// What should have occurred and did not.
+type Missing = fn(&Tally) -> Vec<String>;
 
 fn main() -> ExitCode {
     let words: Vec<String> = std::env::args().skip(1).collect();
@@ -25,19 +34,19 @@ fn main() -> ExitCode {
         ["explain", folder] => {
             wrote(io::stdout().write_all(&print::explain_folder(Path::new(folder))))
         }
-        ["program", file, "--seed", seed, "--count", count]
-        | ["program", file, "--count", count, "--seed", seed] => {
-            match (seed.parse(), count.parse()) {
-                (Ok(seed), Ok(count)) => program(Path::new(file), seed, count),
-                _ => usage(),
-            }
+        ["dot", folder] => view(View::Dot, folder),
+        ["aut", folder] => view(View::Aut, folder),
+        ["words", count, folder] => match count.parse::<u32>() {
+            Ok(count) => view(View::Words(count as usize), folder),
+            Err(_) => usage(),
+        },
+        ["program", file, ref inputs @ ..] => {
+            seeded(inputs, |seed, count| in_folders(&PROGRAM, file, seed, count))
         }
-        ["fuzz", "--seed", seed, "--count", count] | ["fuzz", "--count", count, "--seed", seed] => {
-            match (seed.parse(), count.parse()) {
-                (Ok(seed), Ok(count)) => fuzz(seed, count),
-                _ => usage(),
-            }
+        ["views", file, ref inputs @ ..] => {
+            seeded(inputs, |seed, count| in_folders(&VIEWS, file, seed, count))
         }
+        ["fuzz", ref inputs @ ..] => seeded(inputs, fuzz),
         ["digests", file, "--corpus", name, ref asked @ ..] => {
             match CORPORA.iter().find(|corpus| corpus.name == name) {
                 Some(corpus) => digests(file, corpus, asked),
@@ -56,6 +65,18 @@ fn usage() -> ExitCode {
     ExitCode::from(2)
 }
 
+/// With seed and count, in either order.
+fn seeded(inputs: &[&str], compare: impl Fn(u64, u64) -> ExitCode) -> ExitCode {
+    let (seed, count) = match inputs {
+        ["--seed", seed, "--count", count] | ["--count", count, "--seed", seed] => (seed, count),
+        _ => return usage(),
+    };
+    match (seed.parse(), count.parse()) {
+        (Ok(seed), Ok(count)) => compare(seed, count),
+        _ => usage(),
+    }
+}
+
 fn wrote(written: io::Result<()>) -> ExitCode {
     match written {
         Ok(()) => ExitCode::SUCCESS,
@@ -70,22 +91,62 @@ fn bench(part: &str) -> ExitCode {
     wrote(bench::run(&link::library(), part, &mut io::stdout()))
 }
 
-fn program(file: &Path, seed: u64, count: u64) -> ExitCode {
-    let Ok(file) = file.canonicalize() else {
-        eprintln!("second: there is no program {}", file.display());
+fn view(view: View, folder: &str) -> ExitCode {
+    let [table, formula] = print::files_in(Path::new(folder));
+    match views::text(view, &table, &formula) {
+        Ok(text) => wrote(io::stdout().write_all(text.as_bytes())),
+        Err(refusal) => {
+            let Reply { number, figure } = refusal.into();
+            eprintln!("second: refused by {number}, figure {figure}");
+            ExitCode::FAILURE
+        }
+    }
+}
+
+/// A comparison in so many random folders.
+struct Comparison {
+    name: &'static str,
+    /// Of a program's file, in a place, from a seed.
+    run: fn(&Path, &Path, u64, u64) -> Result<Tally, String>,
+    enough: u64,
+    missing: Missing,
+}
+
+const PROGRAM: Comparison = Comparison {
+    name: "program",
+    run: |file, place, seed, count| {
+        program::run(|folder| program::output_in(file, folder), place, seed, count)
+    },
+    enough: program::ENOUGH,
+    missing: program::missing,
+};
+
+const VIEWS: Comparison = Comparison {
+    name: "views",
+    run: |file, place, seed, count| {
+        script::run(|view, folder| script::output_of(file, view, folder), place, seed, count)
+    },
+    enough: script::ENOUGH,
+    missing: script::missing,
+};
+
+fn in_folders(comparison: &Comparison, file: &str, seed: u64, count: u64) -> ExitCode {
+    let Comparison { name, run, enough, missing } = *comparison;
+    let Ok(file) = Path::new(file).canonicalize() else {
+        eprintln!("second: there is no program {file}");
         return ExitCode::from(2);
     };
-    let place = std::env::temp_dir().join(format!("second-program-{}", std::process::id()));
+    let place = std::env::temp_dir().join(format!("second-{name}-{}", std::process::id()));
     let begin = Instant::now();
-    match program::run(|folder| program::output_in(&file, folder), &place, seed, count) {
+    match run(&file, &place, seed, count) {
         Err(told) => {
             println!("{told}");
             ExitCode::FAILURE
         }
         Ok(tally) => {
             let seconds = begin.elapsed().as_secs_f64();
-            println!("program: {count} folders agree, {seconds:.1} s");
-            all_occurred(&[tally], count >= program::ENOUGH, program::missing)
+            println!("{name}: {count} folders agree, {seconds:.1} s");
+            all_occurred(&[tally], count >= enough, missing)
         }
     }
 }
@@ -114,11 +175,7 @@ fn fuzz(seed: u64, count: u64) -> ExitCode {
 }
 
 /// Prints what occurred; among enough inputs, whatever did not occur is a failure.
-fn all_occurred(
-    tallies: &[Tally],
-    are_enough: bool,
-    missing: fn(&Tally) -> Vec<String>,
-) -> ExitCode {
+fn all_occurred(tallies: &[Tally], are_enough: bool, missing: Missing) -> ExitCode {
     print!("{}", tally::table(tallies));
     let missing: Vec<String> = tallies.iter().flat_map(missing).collect();
     for told in &missing {

@@ -8,27 +8,41 @@ use crate::entries::{self, EDGE_PLACE, ROW_PLACE};
 use crate::prepared::{self, FORMULA_LENGTH, TABLE_LENGTH};
 use crate::reply::Reply;
 
-const ROW_PLACES: usize = 1_024;
-const EDGE_PLACES: usize = 4_096;
+pub const ROW_PLACES: usize = 1_024;
+pub const EDGE_PLACES: usize = 4_096;
 
 /// What `explain` prints in this folder.
 pub fn explain_folder(folder: &Path) -> Vec<u8> {
-    // 01: "a file that can't be opened counts as empty".
-    let file = |name: &str| fs::read(folder.join(name)).unwrap_or_default();
-    explain_files(&file("table.txt"), &file("formula.txt"))
+    let [table, formula] = files_in(folder);
+    explain_files(&table, &formula)
+}
+
+/// 01: "a file that can't be opened counts as empty".
+pub fn files_in(folder: &Path) -> [Vec<u8>; 2] {
+    ["table.txt", "formula.txt"].map(|name| fs::read(folder.join(name)).unwrap_or_default())
+}
+
+pub fn explain_files(table: &[u8], formula: &[u8]) -> Vec<u8> {
+    explain(table, line_of(formula))
 }
 
 /// 01: "One LF at the end of `formula.txt` is dropped."
-pub fn explain_files(table: &[u8], formula: &[u8]) -> Vec<u8> {
-    explain(table, formula.strip_suffix(b"\n").unwrap_or(formula))
+pub fn line_of(formula: &[u8]) -> &[u8] {
+    formula.strip_suffix(b"\n").unwrap_or(formula)
 }
 
 pub fn explain(table_text: &[u8], formula_text: &[u8]) -> Vec<u8> {
     let mut text = Vec::new();
-    if let Err(refused) = list(table_text, formula_text, &mut text) {
-        text.clear();
-        write_line(&[refused.number.into(), refused.figure], &mut text);
+    match list(table_text, formula_text, &mut text) {
+        Ok(()) => text,
+        Err(refused) => refusal(refused),
     }
+}
+
+/// Number and figure in one line.
+pub fn refusal(refused: Reply) -> Vec<u8> {
+    let mut text = Vec::new();
+    write_line(&[refused.number.into(), refused.figure], &mut text);
     text
 }
 

@@ -8,6 +8,7 @@ use std::path::{Path, PathBuf};
 use common::{M, question};
 use second::print::explain_folder;
 use second::table::IDLE;
+use second::views::{self, View};
 
 fn root() -> PathBuf {
     Path::new(env!("CARGO_MANIFEST_DIR")).join("..")
@@ -41,13 +42,15 @@ fn shown(document: &str) -> Vec<String> {
 }
 
 #[test]
-fn the_example_shows_the_changer_and_its_listing_byte_for_byte() {
+fn the_example_shows_the_changer_with_its_listing_and_words_byte_for_byte() {
     let shown = shown(&read("docs/EXAMPLE.md"));
     let table = read("samples/changer/table.txt");
     let formula = read("samples/changer/formula.txt");
+    let words = views::text(View::Words(5), table.as_bytes(), formula.as_bytes()).expect("words");
     let directions = read("samples/directions/formula.txt");
     let short_forms = read("samples/short_forms/formula.txt");
-    assert_eq!(shown, [table, formula, listing("samples/changer"), directions, short_forms]);
+    let listing = listing("samples/changer");
+    assert_eq!(shown, [table, formula, listing, words, directions, short_forms]);
 }
 
 /// Each ends in the idle step of the wait.

@@ -31,10 +31,13 @@ pub struct Files {
     pub formula: File,
 }
 
+/// The numbers that a folder can be answered by, 0 for a listing.
+pub const NUMBERS: [u32; 12] = [0, 1, 2, 3, 4, 5, 6, 7, 8, 9, 11, 12];
+
 /// One way to make both files.
 pub struct Way {
     pub name: &'static str,
-    /// The numbers that some of its folders must be answered by, 0 for a listing.
+    /// The numbers that some of its folders must be answered by.
     pub numbers: &'static [u32],
     pub files: fn(&mut Rng) -> Files,
 }
@@ -208,10 +211,19 @@ impl Texts {
     }
 }
 
-/// A table's text and, ended by LF or not, one of a formula over it.
 fn whole(rng: &mut Rng) -> Texts {
-    let Question { table, formula } = question(rng, 100);
-    let tokens = formulas::tokens(rng, &formula, &table);
+    let question = question(rng, 100);
+    texts(rng, &question)
+}
+
+pub fn files_of(rng: &mut Rng, question: &Question) -> Files {
+    texts(rng, question).files()
+}
+
+/// The table's text and, ended by LF or not, one of the formula.
+fn texts(rng: &mut Rng, question: &Question) -> Texts {
+    let Question { table, formula } = question;
+    let tokens = formulas::tokens(rng, formula, table);
     let mut formula = formulas::spaced(rng, &tokens);
     edits::end_or_not(rng, &mut formula);
     Texts { table: table.text(), formula }
@@ -304,7 +316,7 @@ fn long_table(rng: &mut Rng, length: usize) -> Files {
 }
 
 /// Listings of 1,023 to 1,025 rows with 255 states, of 4,095 to 4,097 edges with 1,023 transitions.
-fn at_the_limits(rng: &mut Rng, states: usize, transitions: usize) -> Files {
+pub fn at_the_limits(rng: &mut Rng, states: usize, transitions: usize) -> Files {
     let last = rng.between(3, 5);
     let table = ring(rng, states, transitions, last);
     // Each transition is an edge to the until and to three of the arms; those by d to a fourth.

@@ -10,6 +10,7 @@ pub mod questions;
 pub mod rng;
 pub mod short;
 pub mod tables;
+pub mod views;
 pub mod words;
 
 use rng::Rng;

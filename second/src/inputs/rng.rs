@@ -39,6 +39,12 @@ impl Rng {
     pub fn pick<Item: Copy>(&mut self, items: &[Item]) -> Item {
         items[self.below(items.len())]
     }
+
+    pub fn shuffle<Item>(&mut self, items: &mut [Item]) {
+        for last in (1..items.len()).rev() {
+            items.swap(last, self.below(last + 1));
+        }
+    }
 }
 
 /// The bytes that stand in a lent buffer, by a number.

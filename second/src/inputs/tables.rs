@@ -223,9 +223,7 @@ pub const NAMES_OF: [Way<usize, Vec<Vec<u8>>>; 6] = [
         };
         let mut names: Vec<Vec<u8>> = stems.iter().flat_map(three).collect();
         names.truncate(labels);
-        for label in (1..labels).rev() {
-            names.swap(label, rng.below(label + 1));
-        }
+        rng.shuffle(&mut names);
         names
     }),
 ];

@@ -1,0 +1,159 @@
+//! The script `explain`, run on random folders: its listing and its views are the second explainer's
+//! texts, and a refusal is told in the same words whatever was asked for.
+
+use std::io;
+use std::path::Path;
+use std::process::{Command, Output, Stdio};
+
+use crate::inputs::folders::{Files, NUMBERS};
+use crate::inputs::kinds::{self, Kind, must};
+use crate::inputs::views::{WAYS, folder, word_count};
+use crate::print;
+use crate::reply::Reply;
+use crate::tally::{Expected, Outcome, Tally};
+use crate::trials::{self, Trials, shown};
+use crate::views::{self, View};
+
+const PART: &str = "folder";
+
+/// With so many folders every expected number and every expected kind occurs.
+pub const ENOUGH: u64 = 300;
+
+/// What a view may show, by a name.
+struct Sign {
+    view: &'static str,
+    name: &'static str,
+    is_in: fn(&str) -> bool,
+}
+
+const fn dot(name: &'static str, is_in: fn(&str) -> bool) -> Sign {
+    Sign { view: "--dot", name, is_in }
+}
+
+const fn aut(name: &'static str, is_in: fn(&str) -> bool) -> Sign {
+    Sign { view: "--aut", name, is_in }
+}
+
+const fn words(name: &'static str, is_in: fn(&str) -> bool) -> Sign {
+    Sign { view: "--words", name, is_in }
+}
+
+/// Each of these must be in some text of its view.
+const SIGNS: [Sign; 20] = [
+    dot("all witnesses", |text| text.contains("\"holds: all witnesses\"")),
+    dot("all counterexamples", |text| text.contains("\"does not hold: all counterexamples\"")),
+    dot("no witness", |text| text.contains("\"does not hold: no word is a witness\"")),
+    dot("no counterexample", |text| text.contains("\"holds: no word is a counterexample\"")),
+    dot("two edges in one", |text| joined(text).any(|edges| edges == 2)),
+    dot("more edges in one", |text| joined(text).any(|edges| edges > 2)),
+    aut("(silent)", |text| text.contains("\"(silent)\"")),
+    aut("(idle)", |text| text.contains("\"(idle)\"")),
+    aut("(i)", |text| text.contains("\"(i)\"")),
+    aut("(tau)", |text| text.contains("\"(tau)\"")),
+    aut("i!", |text| text.contains("\"i!\"")),
+    aut("tau?", |text| text.contains("\"tau?\"")),
+    aut("final rows", |text| text.matches("\"(final)\"").count() > 1),
+    words("none of several", |text| text == "(more)\n" || text == "(infinitely many more)\n"),
+    words("none at all", |text| text == "(no more)\n"),
+    words("(empty)", |text| text.starts_with("(empty)\n")),
+    words("(no more)", |text| text.ends_with("\n(no more)\n")),
+    words("(more)", |text| text.ends_with("\n(more)\n")),
+    words("(infinitely many more)", |text| text.ends_with("\n(infinitely many more)\n")),
+    words("two of one length", |text| {
+        let words = text.lines().filter(|line| !line.starts_with('('));
+        let lengths: Vec<usize> = words.map(|word| word.split(' ').count()).collect();
+        lengths.windows(2).any(|pair| pair[0] == pair[1])
+    }),
+];
+
+/// How many edges each line of an edge has.
+fn joined(text: &str) -> impl Iterator<Item = usize> {
+    let edges = text.lines().filter(|line| line.contains(" -> "));
+    edges.map(|edge| edge.split("\\n").count())
+}
+
+/// What should have occurred among enough folders and did not.
+pub fn missing(tally: &Tally) -> Vec<String> {
+    let signs = SIGNS.iter().map(|sign| must(sign.view, sign.name, &[0]));
+    let expected: Vec<Expected> = kinds::expected(PART, &WAYS).into_iter().chain(signs).collect();
+    tally.missing(&NUMBERS, ENOUGH, &expected)
+}
+
+/// Makes so many folders, one after the other in one place, and runs the script on each, for its
+/// listing and for each view. The first on which it differs is told and kept.
+pub fn run(
+    explain: impl Fn(View, &Path) -> io::Result<Output>,
+    place: &Path,
+    seed: u64,
+    count: u64,
+) -> Result<Tally, String> {
+    let mut tally = Tally::new("views");
+    let folder = |index| folder(seed, index);
+    Trials { place, seed, count }.each(folder, |index, name, files| {
+        let mut shown = Shown { kinds: vec![Kind { part: PART, name }], ..Shown::default() };
+        let words = View::Words(word_count(seed, index));
+        for view in [View::Listing, View::Dot, View::Aut, words] {
+            let output = explain(view, place).map_err(|error| error.to_string())?;
+            let asked = format!("explain {view}");
+            let agrees = shown.agrees(view, files, output);
+            agrees.map_err(|told| format!("{}: {told}", asked.trim_end()))?;
+        }
+        tally.count(&shown.kinds, Outcome::of(shown.number));
+        Ok(())
+    })?;
+    Ok(tally)
+}
+
+/// What was shown of one folder.
+#[derive(Default)]
+struct Shown {
+    kinds: Vec<Kind>,
+    /// Of the refusal.
+    number: u32,
+    /// On standard error, if it is refused.
+    words: Option<Vec<u8>>,
+}
+
+impl Shown {
+    fn agrees(&mut self, view: View, files: &Files, output: Output) -> Result<(), String> {
+        match views::text(view, files.table.contents(), files.formula.contents()) {
+            Ok(text) => {
+                self.kinds.extend(signs(view, &text));
+                trials::writes(text.as_bytes(), 0, &output)?;
+                trials::is_quiet(&output)
+            }
+            Err(refusal) => self.is_refusal(view, refusal.into(), output),
+        }
+    }
+
+    /// Its line stands in place of a listing only; the words are the same for each view.
+    fn is_refusal(&mut self, view: View, refusal: Reply, output: Output) -> Result<(), String> {
+        let line = match view {
+            View::Listing => print::refusal(refusal),
+            _ => Vec::new(),
+        };
+        trials::writes(&line, 1, &output)?;
+        self.number = refusal.number;
+        let words = self.words.get_or_insert_with(|| output.stderr.clone());
+        match *words == output.stderr && !words.is_empty() {
+            true => Ok(()),
+            false => {
+                let [words, others] = [&*words, &output.stderr].map(|words| shown(words));
+                Err(format!("standard error: {others}, of the listing: {words}"))
+            }
+        }
+    }
+}
+
+fn signs(view: View, text: &str) -> impl Iterator<Item = Kind> {
+    let view = view.to_string();
+    let are_in = move |sign: &&Sign| view.starts_with(sign.view) && (sign.is_in)(text);
+    SIGNS.iter().filter(are_in).map(|sign| Kind { part: sign.view, name: sign.name })
+}
+
+/// The output of a script for this folder.
+pub fn output_of(script: &Path, view: View, folder: &Path) -> io::Result<Output> {
+    let options = view.to_string();
+    let options = options.split_whitespace();
+    Command::new(script).args(options).arg(folder).stdin(Stdio::null()).output()
+}

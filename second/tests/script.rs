@@ -1,0 +1,353 @@
+//! Running the script finds faults: each of these scripts is wrong in one thing.
+
+use std::fs;
+use std::os::unix::process::ExitStatusExt;
+use std::path::{Path, PathBuf};
+use std::process::{ExitStatus, Output};
+
+use second::enumeration::least;
+use second::formula::Formula;
+use second::listing::Listing;
+use second::print::{files_in, line_of, refusal};
+use second::script;
+use second::table::Table;
+use second::views::{View, text};
+
+/// As in .ci/second.
+const SEED: u64 = 1;
+const FOLDERS: u64 = 300;
+
+fn place(test: &str) -> PathBuf {
+    std::env::temp_dir().join(format!("second-script-{}-{test}", std::process::id()))
+}
+
+fn says(code: i32, stdout: &[u8], stderr: &[u8]) -> Output {
+    let status = ExitStatus::from_raw(code << 8);
+    Output { status, stdout: stdout.to_vec(), stderr: stderr.to_vec() }
+}
+
+/// What the script writes and how it exits.
+fn right(view: View, folder: &Path) -> Output {
+    let [table, formula] = files_in(folder);
+    match (text(view, &table, &formula), view) {
+        (Ok(text), _) => says(0, text.as_bytes(), b""),
+        (Err(refused), View::Listing) => says(1, &refusal(refused.into()), b"refused\n"),
+        (Err(_), _) => says(1, b"", b"refused\n"),
+    }
+}
+
+#[test]
+fn a_right_script_is_not_blamed_and_leaves_no_folder() {
+    let place = place("right");
+    let explain = |view, folder: &Path| Ok(right(view, folder));
+    let tally = script::run(explain, &place, SEED, FOLDERS).expect("no difference");
+    assert_eq!(tally.inputs, FOLDERS);
+    assert_eq!(script::missing(&tally), [""; 0]);
+    assert!(!place.exists());
+}
+
+/// What is told of a script that is wrong, if it is found; the folder is kept, and removed here.
+fn told(test: &str, wrong: impl Fn(View, &Path, Output) -> Output) -> Option<String> {
+    let place = place(test);
+    let explain = |view, folder: &Path| Ok(wrong(view, folder, right(view, folder)));
+    let told = script::run(explain, &place, SEED, FOLDERS).err()?;
+    assert!(told.contains(&place.display().to_string()), "{told}");
+    fs::remove_dir_all(&place).expect("the folder is kept");
+    Some(told)
+}
+
+struct Shown<'a> {
+    view: View,
+    folder: &'a Path,
+    lines: Vec<String>,
+}
+
+/// What is wrong with the lines of a view.
+type Fault = (&'static str, fn(&mut Shown));
+
+/// Each is found, and told of this view.
+fn are_found(view: &str, faults: &[Fault]) {
+    let mut missed = Vec::new();
+    for (name, change) in faults {
+        let wrong = |asked: View, folder: &Path, output: Output| {
+            if !output.status.success() || !asked.to_string().starts_with(view) {
+                return output;
+            }
+            let text = str::from_utf8(&output.stdout).expect("ASCII");
+            let lines = text.lines().map(String::from).collect();
+            let mut shown = Shown { view: asked, folder, lines };
+            change(&mut shown);
+            let text: String = shown.lines.iter().map(|line| format!("{line}\n")).collect();
+            says(0, text.as_bytes(), b"")
+        };
+        let told = told(view, wrong);
+        let found = told.as_ref().and_then(|told| told.split(" of ").next());
+        println!("{name}: {}", found.unwrap_or("not found"));
+        match told {
+            Some(told) => assert!(told.contains(&format!("\nexplain {view}")), "{told}"),
+            None => missed.push(*name),
+        }
+    }
+    assert_eq!(missed, [""; 0]);
+}
+
+impl Shown<'_> {
+    fn replace(&mut self, from: &str, to: &str) {
+        self.lines.iter_mut().for_each(|line| *line = line.replace(from, to));
+    }
+
+    /// Without the closing line.
+    fn words(&mut self) -> &mut [String] {
+        self.lines.split_last_mut().expect("a closing line").1
+    }
+
+    fn closing(&mut self) -> &mut String {
+        self.lines.last_mut().expect("a closing line")
+    }
+
+    fn question(&self) -> (Table, Formula) {
+        let [table, formula] = files_in(self.folder);
+        let table = Table::read(&table).expect("a table");
+        let formula = Formula::read(&table, line_of(&formula)).expect("a formula");
+        (table, formula)
+    }
+}
+
+fn length(word: &str) -> usize {
+    if word == "(empty)" { 0 } else { word.split(' ').count() }
+}
+
+/// Along how many paths from row 0 to final rows the word leads.
+fn paths(listing: &Listing, word: &[u8]) -> usize {
+    let mut ends = vec![0];
+    for &label in word {
+        let leaving = ends.iter().flat_map(|&row| listing.edges_from(row));
+        ends = leaving.filter(|edge| edge.label == label).map(|edge| edge.target).collect();
+    }
+    ends.iter().filter(|&&row| listing.rows[row as usize].is_final).count()
+}
+
+#[test]
+fn faults_in_words_are_found() {
+    are_found(
+        "--words",
+        &[
+            ("the last of several words of one length is lost", |shown| {
+                let is_tied =
+                    |at: &usize| length(&shown.lines[at - 1]) == length(&shown.lines[*at]);
+                if let Some(at) = (1..shown.lines.len() - 1).rev().find(is_tied) {
+                    shown.lines.remove(at);
+                }
+            }),
+            ("words of one length fall", |shown| {
+                let tied = |word: &String, next: &String| length(word) == length(next);
+                shown.words().chunk_by_mut(tied).for_each(<[String]>::reverse);
+            }),
+            ("words of one length rise by their names", |shown| {
+                shown.words().sort_by_key(|word| (length(word), word.clone()));
+            }),
+            ("idle steps come first", |shown| {
+                let is_other = |name: &str| name != "(idle)";
+                let others = |word: &str| word.split(' ').map(is_other).collect::<Vec<bool>>();
+                shown.words().sort_by_key(|word| (length(word), others(word)));
+            }),
+            ("a word stands once for each of its paths", |shown| {
+                let (table, formula) = shown.question();
+                let listing = Listing::of(&table, &formula);
+                let asked = shown.lines.len() - 1;
+                let words = least(&table, &formula, asked).words;
+                let times = words.iter().map(|word| paths(&listing, word));
+                let again = shown
+                    .lines
+                    .iter()
+                    .zip(times)
+                    .flat_map(|(line, times)| std::iter::repeat_n(line.clone(), times));
+                let again = again.take(asked).collect::<Vec<String>>();
+                shown.lines.splice(..asked, again);
+            }),
+            ("words of more labels than there are rows are lost", |shown| {
+                let (table, formula) = shown.question();
+                let rows = Listing::of(&table, &formula).rows.len();
+                let closing = shown.lines.pop().expect("a closing line");
+                shown.lines.retain(|word| length(word) <= rows);
+                shown.lines.push(closing);
+            }),
+            ("the empty word is an empty line", |shown| shown.replace("(empty)", "")),
+            ("the empty word is lost", |shown| shown.lines.retain(|line| line != "(empty)")),
+            ("`(no more)` for infinitely many", |shown| {
+                shown.replace("(infinitely many more)", "(no more)");
+            }),
+            ("`(more)` for infinitely many", |shown| {
+                shown.replace("(infinitely many more)", "(more)");
+            }),
+            ("`(no more)` for finitely many", |shown| shown.replace("(more)", "(no more)")),
+            ("`(more)` behind exactly as many as asked for", |shown| {
+                if shown.view == View::Words(shown.lines.len() - 1) {
+                    shown.replace("(no more)", "(more)");
+                }
+            }),
+            ("`(no more)` if none is asked for", |shown| {
+                if shown.view == View::Words(0) {
+                    *shown.closing() = "(no more)".into();
+                }
+            }),
+        ],
+    );
+}
+
+/// An edge of a graph, read from its line.
+struct DotEdge<'a> {
+    rows: &'a str,
+    names: Vec<&'a str>,
+}
+
+impl DotEdge<'_> {
+    fn of(line: &str) -> Option<DotEdge<'_>> {
+        let (rows, label) = line.strip_suffix("\"];")?.split_once(" [label=\"")?;
+        rows.contains(" -> ").then(|| DotEdge { rows, names: label.split("\\n").collect() })
+    }
+
+    fn row(&self) -> Option<&str> {
+        self.rows.split(" -> ").next()
+    }
+
+    fn line(&self) -> String {
+        format!("{} [label=\"{}\"];", self.rows, self.names.join("\\n"))
+    }
+}
+
+/// With other lines for each edge.
+fn with_edges(shown: &mut Shown, change: impl Fn(DotEdge) -> Vec<String>) {
+    let lines = shown.lines.iter().flat_map(|line| match DotEdge::of(line) {
+        Some(edge) => change(edge),
+        None => vec![line.clone()],
+    });
+    shown.lines = lines.collect();
+}
+
+#[test]
+fn faults_in_graphs_are_found() {
+    are_found(
+        "--dot",
+        &[
+            ("final rows have no ring", |shown| shown.replace(", shape=doublecircle", "")),
+            ("row 0 has no ring", |shown| {
+                let of_row_0 = |line: &&mut String| line.starts_with("  0 [");
+                for line in shown.lines.iter_mut().filter(of_row_0) {
+                    *line = line.replace(", shape=doublecircle", "");
+                }
+            }),
+            ("edges to different rows are one", |shown| {
+                shown.lines.dedup_by(|next, line| {
+                    let (Some(other), Some(edge)) = (DotEdge::of(next), DotEdge::of(line)) else {
+                        return false;
+                    };
+                    let names = [edge.names.clone(), other.names.clone()].concat();
+                    let joined = DotEdge { rows: edge.rows, names }.line();
+                    let are_joined = edge.row() == other.row();
+                    if are_joined {
+                        *line = joined;
+                    }
+                    are_joined
+                });
+            }),
+            ("edges between the same rows stand apart", |shown| {
+                with_edges(shown, |DotEdge { rows, names }| {
+                    let apart = |name| DotEdge { rows, names: vec![name] }.line();
+                    names.into_iter().map(apart).collect()
+                });
+            }),
+            ("the names of one edge fall", |shown| {
+                with_edges(shown, |mut edge| {
+                    edge.names.reverse();
+                    vec![edge.line()]
+                });
+            }),
+            ("joined edges stand behind the others of their row", |shown| {
+                let row =
+                    |line: &str| DotEdge::of(line).and_then(|edge| edge.row().map(String::from));
+                let are_of_one = |line: &String, next: &String| row(line) == row(next);
+                let is_joined = |line: &String| DotEdge::of(line).map(|edge| edge.names.len() > 1);
+                let rows = shown.lines.chunk_by_mut(are_of_one);
+                rows.for_each(|edges| edges.sort_by_key(is_joined));
+            }),
+            ("state and place are exchanged", |shown| {
+                shown.replace("state ", "machine state ");
+                shown.replace("\\nplace ", "\\nstate ");
+                shown.replace("machine state ", "place ");
+            }),
+            ("the formula's blanks are dropped", |shown| {
+                let formula = shown.lines[0].split('"').nth(1).expect("a formula");
+                shown.lines[0] = format!("digraph \"{}\" {{", formula.replace(' ', ""));
+            }),
+            ("what holds has witnesses", |shown| {
+                shown.replace("\"holds: no word is a counterexample\"", "\"holds: all witnesses\"");
+            }),
+            ("what does not hold has counterexamples", |shown| {
+                shown.replace("no word is a witness", "all counterexamples");
+            }),
+        ],
+    );
+}
+
+#[test]
+fn faults_in_the_aldebaran_format_are_found() {
+    are_found(
+        "--aut",
+        &[
+            ("`i` is written bare", |shown| shown.replace("\"(i)\"", "\"i\"")),
+            ("`tau` is written bare", |shown| shown.replace("\"(tau)\"", "\"tau\"")),
+            ("`i!` is written in brackets", |shown| shown.replace("\"i!\"", "\"(i!)\"")),
+            ("`tau?` is written in brackets", |shown| shown.replace("\"tau?\"", "\"(tau?)\"")),
+            ("a silent step is an internal one", |shown| shown.replace("(silent)", "i")),
+            ("an idle step is a silent one", |shown| shown.replace("(idle)", "(silent)")),
+            ("final rows have no loop", |shown| {
+                shown.lines.retain(|line| !line.contains("\"(final)\""));
+            }),
+            ("the loops of final rows are not counted", |shown| {
+                let loops = shown.lines.iter().filter(|line| line.contains("\"(final)\"")).count();
+                let counts: Vec<&str> = shown.lines[0].split(',').collect();
+                let edges = counts[1].parse::<usize>().expect("a count") - loops;
+                shown.lines[0] = format!("{},{edges},{}", counts[0], counts[2]);
+            }),
+            ("the loops of final rows stand at their rows", |shown| {
+                let row = |line: &String| line[1..].split(',').next()?.parse::<usize>().ok();
+                shown.lines[1..].sort_by_key(row);
+            }),
+        ],
+    );
+}
+
+fn is_told(test: &str, piece: &str, wrong: fn(View, Output) -> Output) {
+    let told = told(test, |view, _, output| wrong(view, output)).expect(test);
+    assert!(told.contains(piece), "{told}");
+}
+
+fn code(output: &Output) -> i32 {
+    output.status.code().expect("a code")
+}
+
+#[test]
+fn another_exit_or_other_words_of_a_refusal_are_found() {
+    is_told("success", "\nexplain: exit status: 0", |_, output| {
+        says(0, &output.stdout, &output.stderr)
+    });
+    is_told("quiet", "explain --words", |view, output| match view {
+        View::Words(_) => says(code(&output), &output.stdout, b""),
+        _ => output,
+    });
+    is_told("others", "explain --aut: standard error: 8 bytes", |view, output| {
+        match code(&output) {
+            1 if view == View::Aut => says(1, &output.stdout, b"no view\n"),
+            _ => output,
+        }
+    });
+    is_told("line", "explain --dot: expected: 0 bytes", |view, output| match code(&output) {
+        1 if view != View::Listing => says(1, b"     1     1\n", &output.stderr),
+        _ => output,
+    });
+    is_told("warned", "explain --dot: standard error: 7 bytes", |view, output| match view {
+        View::Dot => says(code(&output), &output.stdout, b"warned\n"),
+        _ => output,
+    });
+}

@@ -1,0 +1,326 @@
+//! The views of a listing, and the enumeration of words that the last one is written by.
+
+mod common;
+
+use std::collections::BTreeSet;
+use std::path::Path;
+
+use common::{LOOPS, M, ONE_STATE, all_words};
+use second::enumeration::{Enumeration, More, Word, least};
+use second::inputs::questions::{Question, question};
+use second::inputs::rng::Rng;
+use second::listing::Listing;
+use second::print::files_in;
+use second::views::{View, text};
+use second::word::{has_explaining_path, is_accepted};
+
+fn view(view: View, table: &str, formula: &str) -> String {
+    text(view, table.as_bytes(), formula.as_bytes()).expect(formula)
+}
+
+fn of_sample(view: View, sample: &str) -> String {
+    let samples = Path::new(env!("CARGO_MANIFEST_DIR")).join("../samples");
+    let [table, formula] = files_in(&samples.join(sample));
+    text(view, &table, &formula).expect(sample)
+}
+
+#[test]
+fn table_m_is_shown_byte_for_byte() {
+    assert_eq!(
+        of_sample(View::Dot, "m"),
+        r#"digraph "EU[*;ack] T" {
+  label="holds: all witnesses";
+  rankdir=LR;
+  node [shape=circle];
+  start [shape=point];
+  start -> 0;
+  0 [label="state 0\nplace 0"];
+  1 [label="state 1\nplace 0"];
+  2 [label="state 0\nplace 1", shape=doublecircle];
+  0 -> 1 [label="req"];
+  1 -> 0 [label="ack"];
+  1 -> 2 [label="ack"];
+}
+"#
+    );
+    assert_eq!(
+        of_sample(View::Aut, "m"),
+        r#"des (0,4,3)
+(0,"req",1)
+(1,"ack",0)
+(1,"ack",2)
+(2,"(final)",2)
+"#
+    );
+    assert_eq!(
+        of_sample(View::Words(3), "m"),
+        "req ack\nreq ack req ack\nreq ack req ack req ack\n(infinitely many more)\n"
+    );
+}
+
+#[test]
+fn the_changer_has_three_ways_into_the_wait() {
+    assert_eq!(
+        of_sample(View::Words(5), "changer"),
+        "req send drop (idle)
+req send clamp drop (idle)
+req send drop retry drop (idle)
+req send drop retry clamp drop (idle)
+req send drop retry drop retry drop (idle)
+(infinitely many more)
+"
+    );
+    let dot = of_sample(View::Dot, "changer");
+    for edge in ["2 -> 5 [label=\"drop\"]", "3 -> 5 [label=\"drop\"]", "4 -> 2 [label=\"retry\"]"] {
+        assert!(dot.contains(&format!("\n  {edge};\n")), "{dot}");
+    }
+    assert_eq!(of_sample(View::Words(40), "short_forms"), of_sample(View::Words(40), "changer"));
+}
+
+#[test]
+fn the_graphs_label_tells_verdict_and_class() {
+    for (formula, label) in [
+        ("EX[req] T", "holds: all witnesses"),
+        ("AX[ack] T", "does not hold: all counterexamples"),
+        ("EX[ack] T", "does not hold: no word is a witness"),
+        ("AX[req] T", "holds: no word is a counterexample"),
+    ] {
+        assert!(view(View::Dot, M, formula).contains(&format!("\n  label=\"{label}\";\n")));
+    }
+}
+
+#[test]
+fn the_graphs_name_is_the_line_as_typed_without_its_end() {
+    let dot = view(View::Dot, M, "DIA [ req|ack ]  T\n");
+    assert!(dot.starts_with("digraph \"DIA [ req|ack ]  T\" {\n"), "{dot}");
+}
+
+#[test]
+fn a_question_without_words_has_one_row() {
+    let dot = view(View::Dot, M, "EX[ack] T");
+    assert!(dot.ends_with("  start -> 0;\n  0 [label=\"state 0\\nplace 0\"];\n}\n"), "{dot}");
+    assert_eq!(view(View::Aut, M, "EX[ack] T"), "des (0,0,1)\n");
+    assert_eq!(view(View::Words(3), M, "EX[ack] T"), "(no more)\n");
+    assert_eq!(view(View::Words(0), M, "EX[ack] T"), "(no more)\n");
+}
+
+#[test]
+fn edges_between_the_same_rows_are_one_line_where_the_first_stands() {
+    let table = "     2     3     4     0
+     1 a
+     2 b
+     3 c
+     0     0     1
+     0     1     0
+     0     2     1
+     0     3     0
+";
+    let dot = view(View::Dot, table, "EU[*] EX[.] T");
+    let edges: Vec<&str> = dot.lines().filter(|line| line.starts_with("  0 ->")).collect();
+    assert_eq!(
+        edges,
+        [
+            r#"  0 -> 1 [label="(silent)\nb"];"#,
+            r#"  0 -> 2 [label="(silent)"];"#,
+            r#"  0 -> 0 [label="a\nc"];"#
+        ]
+    );
+    let aut = view(View::Aut, table, "EU[*] EX[.] T");
+    let edges: Vec<&str> = aut.lines().filter(|line| line.starts_with("(0,")).collect();
+    let steps = [("(silent)", 1), ("(silent)", 2), ("a", 0), ("b", 1), ("c", 0)];
+    assert_eq!(edges, steps.map(|(name, target)| format!("(0,\"{name}\",{target})")));
+}
+
+#[test]
+fn the_internal_steps_of_the_aldebaran_format_are_written_in_brackets() {
+    let names = ["i", "tau", "i!", "tau?", "ii", "taus"];
+    let lines: String =
+        names.iter().zip(1..).map(|(name, at)| format!("{at:>6} {name}\n")).collect();
+    let steps: String =
+        (1..=names.len()).map(|label| format!("     0{label:>6}     0\n")).collect();
+    let table = format!("     1     6     6     0\n{lines}{steps}");
+    let aut = view(View::Aut, &table, "EX[*] T");
+    let written: Vec<&str> = aut.split('"').skip(1).step_by(2).collect();
+    assert_eq!(written, ["(i)", "(tau)", "i!", "tau?", "ii", "taus", "(final)"]);
+    assert!(view(View::Dot, &table, "EX[*] T").contains(r#""i\ntau\ni!\ntau?\nii\ntaus""#));
+    assert!(view(View::Words(2), &table, "EX[*] T").starts_with("i\ntau\n"));
+}
+
+#[test]
+fn the_closing_line_tells_whether_words_follow() {
+    let words = |count, formula| view(View::Words(count), LOOPS, formula);
+    assert_eq!(words(2, "EX[*] T"), "a\nb\n(more)\n");
+    assert_eq!(words(3, "EX[*] T"), "a\nb\nc\n(no more)\n");
+    assert_eq!(words(4, "EX[*] T"), "a\nb\nc\n(no more)\n");
+    assert_eq!(words(0, "EX[*] T"), "(more)\n");
+    assert_eq!(words(5, "EU[*] T"), "(empty)\na\nb\nc\na a\n(infinitely many more)\n");
+    assert_eq!(words(0, "EU[*] T"), "(infinitely many more)\n");
+    assert_eq!(words(1, "T"), "(empty)\n(no more)\n");
+    assert_eq!(words(0, "T"), "(more)\n");
+    assert_eq!(
+        view(View::Words(2), ONE_STATE, "EU[*] EX[.] T"),
+        "(idle)\n(idle) (idle)\n(infinitely many more)\n"
+    );
+}
+
+#[test]
+fn words_of_one_length_rise_by_their_labels_and_each_stands_once() {
+    // By z to state 1 or 2, by a silent step to 1; from both by a to 3, which has no exit.
+    let table = "     4     2     5     0
+     1 z
+     2 a
+     0     0     1
+     0     1     1
+     0     1     2
+     1     2     3
+     2     2     3
+";
+    assert_eq!(
+        view(View::Words(9), table, "EU[*] EX[a] (T | EX[.] T | EX[.] EX[.] T)"),
+        "(silent) a
+z a
+(silent) a (idle)
+z a (idle)
+(silent) a (idle) (idle)
+z a (idle) (idle)
+(no more)
+"
+    );
+}
+
+#[test]
+fn a_silent_step_is_the_lowest_label_and_an_idle_step_the_highest() {
+    // By a to state 1, which has no exit, or to 2, and from there by a or silently to 3.
+    let table = "     4     1     4     0
+     1 a
+     0     1     1
+     0     1     2
+     2     0     3
+     2     1     3
+";
+    assert_eq!(
+        view(View::Words(9), table, "EX[a] (EX[a] T | EX[.] T)"),
+        "a (silent)\na a\na (idle)\n(no more)\n"
+    );
+}
+
+#[test]
+fn a_refused_folder_has_no_view() {
+    for show in [View::Listing, View::Dot, View::Aut, View::Words(1)] {
+        assert!(text(show, b"", b"T").is_err());
+        assert!(text(show, M.as_bytes(), b"T | ~T").is_err());
+    }
+}
+
+/// Random questions over few labels.
+fn questions(count: usize, most_states: usize) -> impl Iterator<Item = Question> {
+    let questions = (0..).map(|index| question(&mut Rng::of_input(3, "words", index), 1_000));
+    let is_small = move |of: &Question| of.table.labels() <= 4 && of.table.states <= most_states;
+    questions.filter(is_small).take(count)
+}
+
+#[test]
+fn the_words_are_those_that_some_path_explains() {
+    const LONGEST: usize = 4;
+    let mut some = 0;
+    for Question { table, formula } in questions(400, 6) {
+        let mut words = all_words(table.labels() as u8, LONGEST);
+        words.retain(|word| has_explaining_path(&table, &formula, word));
+        for count in [0, words.len().min(1), words.len() / 2, words.len()] {
+            assert_eq!(least(&table, &formula, count).words, words[..count]);
+        }
+        let one_more = least(&table, &formula, words.len() + 1).words;
+        assert!(one_more.iter().skip(words.len()).all(|word| word.len() > LONGEST));
+        some += usize::from(words.len() > 1);
+    }
+    assert!(some > 100, "{some}");
+}
+
+/// The words along all edges from row 0 to final rows, if none comes to a row again and they are
+/// not too many.
+fn words_along(listing: &Listing) -> Option<BTreeSet<(usize, Word)>> {
+    let mut words = BTreeSet::new();
+    let mut unvisited = vec![(0, Word::new())];
+    let mut visits = 0;
+    while let Some((row, word)) = unvisited.pop() {
+        visits += 1;
+        if word.len() > listing.rows.len() || visits > 20_000 {
+            return None;
+        }
+        for edge in listing.edges_from(row) {
+            unvisited.push((edge.target, [word.as_slice(), &[edge.label]].concat()));
+        }
+        if listing.rows[row as usize].is_final {
+            words.insert((word.len(), word));
+        }
+    }
+    Some(words)
+}
+
+#[test]
+fn finitely_many_words_are_those_along_the_edges() {
+    let mut longest = 0;
+    for Question { table, formula } in questions(2_000, 40) {
+        let Some(words) = words_along(&Listing::of(&table, &formula)) else {
+            continue;
+        };
+        let words: Vec<Word> = words.into_iter().map(|(_, word)| word).collect();
+        let all = least(&table, &formula, words.len());
+        assert_eq!(all, Enumeration { words: words.clone(), more: More::None });
+        if let Some((last, others)) = words.split_last() {
+            longest = longest.max(last.len());
+            let more = Enumeration { words: others.to_vec(), more: More::Finitely };
+            assert_eq!(least(&table, &formula, others.len()), more);
+        }
+    }
+    assert!(longest > 6, "{longest}");
+}
+
+/// Whether some row leads to itself again.
+fn has_cycle(listing: &Listing) -> bool {
+    let mut left: Vec<bool> = vec![true; listing.rows.len()];
+    loop {
+        let ends = |row: usize| {
+            let mut edges = listing.edges_from(row as u16).iter();
+            left[row] && !edges.any(|edge| left[edge.target as usize])
+        };
+        match (0..left.len()).find(|&row| ends(row)) {
+            Some(row) => left[row] = false,
+            None => return left.contains(&true),
+        }
+    }
+}
+
+#[test]
+fn there_are_infinitely_many_words_exactly_if_some_row_leads_to_itself() {
+    let mut cycles = 0;
+    for Question { table, formula } in questions(2_000, 40) {
+        let is_infinite = least(&table, &formula, 0).more == More::Infinitely;
+        assert_eq!(is_infinite, has_cycle(&Listing::of(&table, &formula)));
+        cycles += usize::from(is_infinite);
+    }
+    assert!((400..1_600).contains(&cycles), "{cycles}");
+}
+
+#[test]
+fn long_words_are_accepted_and_rise() {
+    for Question { table, formula } in questions(300, 40) {
+        let words = least(&table, &formula, 30).words;
+        let is_before = |pair: &[Word]| (pair[0].len(), &pair[0]) < (pair[1].len(), &pair[1]);
+        assert!(words.windows(2).all(is_before));
+        assert!(words.iter().all(|word| is_accepted(&table, &formula, word)));
+    }
+}
+
+/// A ring of 30 states with one step by b: each word has a round more.
+#[test]
+fn the_first_words_may_be_longer_than_the_bound_on_finitely_many() {
+    let steps =
+        (0..30).map(|from| format!("{from:>6}{:>6}{:>6}\n", 1 + from / 29, (from + 1) % 30));
+    let names = "     1 a\n     2 b\n";
+    let table = format!("    30     2    30     0\n{names}{}", steps.collect::<String>());
+    let words = view(View::Words(20), &table, "EU[*;b] T");
+    let lengths: Vec<usize> = words.lines().map(|word| word.split(' ').count()).collect();
+    assert_eq!(lengths[..20], (1..=20).map(|rounds| 30 * rounds).collect::<Vec<usize>>());
+    assert!(words.ends_with(" b\n(infinitely many more)\n"));
+}
