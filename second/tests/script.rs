@@ -13,7 +13,7 @@ use second::script;
 use second::table::Table;
 use second::views::{View, text};
 
-/// As in .ci/second.
+/// As in .ci/program.
 const SEED: u64 = 1;
 const FOLDERS: u64 = 300;
 
