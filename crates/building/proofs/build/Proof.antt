@@ -49,12 +49,4 @@ returns-2 c =
 pub build-spec : {M : Type 1} → statement M
 build-spec =
     tie.close
-    (tie.spec
-    check-inputs-requires
-    enum-known-why
-    returns
-    enum-told
-    built-requires
-    same-length
-    same-length-2
-    returns-2)
+    (tie.spec check-inputs-requires enum-known-why returns enum-told built-requires same-length same-length-2 returns-2)

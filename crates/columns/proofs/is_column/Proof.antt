@@ -73,21 +73,5 @@ returns-3 c = let a = c .before .before .before .before .before in
 pub is-column-spec : {M : Type 1} → statement M
 is-column-spec =
     tie.close
-    (tie.spec
-    Inv-loop
-    μ-loop
-    add-if1
-    shared-slice-read-if1
-    cast-if1
-    add-if1-2
-    returns
-    loop-holds
-    sub-i
-    add-if2
-    shared-slice-read-if2
-    cast-if2
-    leading-requires
-    returns-2
-    loop-less
-    loop-again
-    returns-3)
+    (tie.spec Inv-loop μ-loop add-if1 shared-slice-read-if1 cast-if1 add-if1-2 returns loop-holds sub-i add-if2 shared-slice-read-if2
+        cast-if2 leading-requires returns-2 loop-less loop-again returns-3)

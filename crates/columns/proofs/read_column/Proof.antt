@@ -37,12 +37,4 @@ returns-5 c = let a = c .before .before .before .before .before .before .before 
 pub read-column-spec : {M : Type 1} → statement M
 read-column-spec =
     tie.close
-    (tie.spec
-    returns
-    sub-if2
-    returns-2
-    value-at-requires
-    returns-3
-    is-column-requires
-    returns-4
-    returns-5)
+    (tie.spec returns sub-if2 returns-2 value-at-requires returns-3 is-column-requires returns-4 returns-5)

@@ -46,16 +46,4 @@ returns c = value-ends (c .before .loop .inv) (c .before .before .before .pre) (
 pub value-at-spec : {M : Type 1} → statement M
 value-at-spec =
     tie.close
-    (tie.spec
-    Inv-loop
-    μ-loop
-    loop-holds
-    mul-n
-    add-digit
-    shared-slice-read-digit
-    digit-requires
-    add-n
-    add-i
-    loop-less
-    loop-again
-    returns)
+    (tie.spec Inv-loop μ-loop loop-holds mul-n add-digit shared-slice-read-digit digit-requires add-n add-i loop-less loop-again returns)

@@ -36,14 +36,4 @@ returns-2 c = tt
 pub scan-all-spec : {M : Type 1} → statement M
 scan-all-spec =
     tie.close
-    (tie.spec
-    Inv-loop
-    μ-loop
-    scan-start-requires
-    loop-holds
-    scan-some-requires
-    returns
-    sub-left
-    loop-less
-    loop-again
-    returns-2)
+    (tie.spec Inv-loop μ-loop scan-start-requires loop-holds scan-some-requires returns sub-left loop-less loop-again returns-2)

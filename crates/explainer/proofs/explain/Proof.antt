@@ -91,20 +91,6 @@ returns-4 c =
 pub explain-spec : {M : Type 1} → statement M
 explain-spec =
     tie.close
-    (tie.spec
-    returns
-    returns-2
-    slice-aggregate-read-both
-    slice-aggregate-read-both-2
-    read-both-requires
-    enum-known-ready
-    enum-told
-    slice-aggregate-finish
-    slice-aggregate-finish-2
-    finish-requires
-    returns-3
-    same-length
-    same-length-2
-    same-length-3
-    same-length-4
-    returns-4)
+    (tie.spec returns returns-2 slice-aggregate-read-both slice-aggregate-read-both-2 read-both-requires enum-known-ready enum-told
+        slice-aggregate-finish slice-aggregate-finish-2 finish-requires returns-3 same-length same-length-2 same-length-3 same-length-4
+        returns-4)

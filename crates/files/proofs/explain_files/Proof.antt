@@ -69,14 +69,5 @@ returns c =
 pub explain-files-spec : {M : Type 1} → statement M
 explain-files-spec =
     tie.close
-    (tie.spec
-    text-length-requires
-    least-requires
-    slice-aggregate-explain
-    slice-aggregate-explain-2
-    slice-aggregate-explain-3
-    slice-aggregate-explain-4
-    slice-aggregate-explain-5
-    explain-requires
-    write-reply-requires
-    returns)
+    (tie.spec text-length-requires least-requires slice-aggregate-explain slice-aggregate-explain-2 slice-aggregate-explain-3
+        slice-aggregate-explain-4 slice-aggregate-explain-5 explain-requires write-reply-requires returns)

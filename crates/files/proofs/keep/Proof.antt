@@ -55,14 +55,5 @@ returns-2 c =
 pub keep-spec : {M : Type 1} → statement M
 keep-spec =
     tie.close
-    (tie.spec
-    sub-least
-    least-requires
-    slice-aggregate-copy
-    sub-copy
-    part-copy-start
-    part-copy-end
-    copy-requires
-    same-length
-    returns
-    returns-2)
+    (tie.spec sub-least least-requires slice-aggregate-copy sub-copy part-copy-start part-copy-end copy-requires same-length returns
+        returns-2)

@@ -74,12 +74,5 @@ returns-3 c =
 pub write-reply-spec : {M : Type 1} → statement M
 write-reply-spec =
     tie.close
-    (tie.spec
-    enum-known-reply
-    write-listing-requires
-    enum-known-reply-2
-    write-refusal-requires
-    write-refusal-requires-2
-    returns
-    returns-2
-    returns-3)
+    (tie.spec enum-known-reply write-listing-requires enum-known-reply-2 write-refusal-requires write-refusal-requires-2 returns returns-2
+        returns-3)

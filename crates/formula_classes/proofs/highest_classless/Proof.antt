@@ -57,14 +57,5 @@ returns c = λ F e.
 pub highest-classless-spec : {M : Type 1} → statement M
 highest-classless-spec =
     tie.close
-    (tie.spec
-    kinds-in-requires
-    array-share-prefix-kinds
-    slice-aggregate-walk
-    slice-aggregate-walk-2
-    slice-aggregate-walk-3
-    walk-requires
-    array-share-prefix-classes
-    slice-aggregate-last-none
-    last-none-requires
-    returns)
+    (tie.spec kinds-in-requires array-share-prefix-kinds slice-aggregate-walk slice-aggregate-walk-2 slice-aggregate-walk-3 walk-requires
+        array-share-prefix-classes slice-aggregate-last-none last-none-requires returns)

@@ -54,15 +54,4 @@ returns c =
 pub kinds-in-spec : {M : Type 1} → statement M
 kinds-in-spec =
     tie.close
-    (tie.spec
-    Inv-loop
-    μ-loop
-    loop-holds
-    mul-kinds
-    add-kinds
-    shared-slice-read-kinds
-    array-write-kinds
-    add-k
-    loop-less
-    loop-again
-    returns)
+    (tie.spec Inv-loop μ-loop loop-holds mul-kinds add-kinds shared-slice-read-kinds array-write-kinds add-k loop-less loop-again returns)

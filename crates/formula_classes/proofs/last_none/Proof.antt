@@ -58,13 +58,4 @@ returns-2 c =
 pub last-none-spec : {M : Type 1} → statement M
 last-none-spec =
     tie.close
-    (tie.spec
-    Inv-loop
-    μ-loop
-    loop-holds
-    shared-slice-read-if1
-    add-k
-    loop-less
-    loop-again
-    returns
-    returns-2)
+    (tie.spec Inv-loop μ-loop loop-holds shared-slice-read-if1 add-k loop-less loop-again returns returns-2)

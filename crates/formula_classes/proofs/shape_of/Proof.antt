@@ -51,13 +51,5 @@ returns-2 c = λ n F e.
 pub shape-of-spec : {M : Type 1} → statement M
 shape-of-spec =
     tie.close
-    (tie.spec
-    node-count-requires
-    returns
-    kinds-in-requires
-    array-share-prefix-kinds
-    slice-aggregate-walk
-    slice-aggregate-walk-2
-    slice-aggregate-walk-3
-    walk-requires
-    returns-2)
+    (tie.spec node-count-requires returns kinds-in-requires array-share-prefix-kinds slice-aggregate-walk slice-aggregate-walk-2
+        slice-aggregate-walk-3 walk-requires returns-2)

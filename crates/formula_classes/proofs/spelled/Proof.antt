@@ -59,15 +59,5 @@ returns-3 c =
 pub spelled-spec : {M : Type 1} → statement M
 spelled-spec =
     tie.close
-    (tie.spec
-    kinds-in-requires
-    array-share-prefix-kinds
-    slice-aggregate-walk
-    slice-aggregate-walk-2
-    slice-aggregate-walk-3
-    walk-requires
-    enum-known-end
-    enum-told
-    returns
-    returns-2
-    returns-3)
+    (tie.spec kinds-in-requires array-share-prefix-kinds slice-aggregate-walk slice-aggregate-walk-2 slice-aggregate-walk-3 walk-requires
+        enum-known-end enum-told returns returns-2 returns-3)

@@ -118,23 +118,6 @@ returns-4 c = c .short-form .ensures
 pub head-spec : {M : Type 1} → statement M
 head-spec =
     tie.close
-    (tie.spec
-    keyword-requires
-    enum-known-d
-    next-bracket-requires
-    ex-requires
-    returns
-    enum-told
-    keyword-requires-2
-    enum-known-d-2
-    next-bracket-requires-2
-    ax-requires
-    returns-2
-    enum-told-2
-    keyword-requires-3
-    enum-known-d-3
-    until-head-requires
-    returns-3
-    enum-told-3
-    short-form-requires
-    returns-4)
+    (tie.spec keyword-requires enum-known-d next-bracket-requires ex-requires returns enum-told keyword-requires-2 enum-known-d-2
+        next-bracket-requires-2 ax-requires returns-2 enum-told-2 keyword-requires-3 enum-known-d-3 until-head-requires returns-3
+        enum-told-3 short-form-requires returns-4)

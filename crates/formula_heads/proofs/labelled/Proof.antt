@@ -111,21 +111,5 @@ returns-4 c =
 pub labelled-spec : {M : Type 1} → statement M
 labelled-spec =
     tie.close
-    (tie.spec
-    element-copy-out-mark
-    mark-requires
-    enum-known-d
-    enum-told
-    returns
-    element-copy-out-mark-2
-    mark-requires-2
-    enum-known-e
-    enum-told-2
-    returns-2
-    skip-blanks-requires
-    token-requires
-    enum-known-f
-    enum-told-3
-    returns-3
-    enclosed-requires
-    returns-4)
+    (tie.spec element-copy-out-mark mark-requires enum-known-d enum-told returns element-copy-out-mark-2 mark-requires-2 enum-known-e
+        enum-told-2 returns-2 skip-blanks-requires token-requires enum-known-f enum-told-3 returns-3 enclosed-requires returns-4)

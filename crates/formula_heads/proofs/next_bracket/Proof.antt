@@ -120,22 +120,5 @@ returns-5 c =
 pub next-bracket-spec : {M : Type 1} → statement M
 next-bracket-spec =
     tie.close
-    (tie.spec
-    skip-blanks-requires
-    token-requires
-    enum-known-d
-    enum-told
-    returns
-    token-requires-2
-    enum-known-e
-    mark-requires
-    enum-known-f
-    enum-told-2
-    returns-2
-    returns-3
-    enum-told-3
-    enclosed-requires
-    enum-known-x
-    enum-known-x-2
-    returns-4
-    returns-5)
+    (tie.spec skip-blanks-requires token-requires enum-known-d enum-told returns token-requires-2 enum-known-e mark-requires enum-known-f
+        enum-told-2 returns-2 returns-3 enum-told-3 enclosed-requires enum-known-x enum-known-x-2 returns-4 returns-5)

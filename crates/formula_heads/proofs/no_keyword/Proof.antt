@@ -36,13 +36,4 @@ returns-3 c = let a = c .before .before .before .before .before .before .before 
 pub no-keyword-spec : {M : Type 1} → statement M
 no-keyword-spec =
     tie.close
-    (tie.spec
-    mark-requires
-    enum-known-d
-    returns
-    enum-told
-    mark-requires-2
-    enum-known-d-2
-    returns-2
-    enum-told-2
-    returns-3)
+    (tie.spec mark-requires enum-known-d returns enum-told mark-requires-2 enum-known-d-2 returns-2 enum-told-2 returns-3)

@@ -128,28 +128,6 @@ returns-5 c =
 pub short-form-spec : {M : Type 1} → statement M
 short-form-spec =
     tie.close
-    (tie.spec
-    keyword-requires
-    enum-known-d
-    all-labels-requires
-    returns
-    enum-told
-    keyword-requires-2
-    enum-known-d-2
-    all-labels-requires-2
-    returns-2
-    enum-told-2
-    mark-requires
-    enum-known-d-3
-    labelled-requires
-    diamond-requires
-    returns-3
-    enum-told-3
-    mark-requires-2
-    enum-known-d-4
-    labelled-requires-2
-    boxed-requires
-    returns-4
-    enum-told-4
-    no-keyword-requires
-    returns-5)
+    (tie.spec keyword-requires enum-known-d all-labels-requires returns enum-told keyword-requires-2 enum-known-d-2 all-labels-requires-2
+        returns-2 enum-told-2 mark-requires enum-known-d-3 labelled-requires diamond-requires returns-3 enum-told-3 mark-requires-2
+        enum-known-d-4 labelled-requires-2 boxed-requires returns-4 enum-told-4 no-keyword-requires returns-5)

@@ -154,26 +154,6 @@ returns-6 c =
 pub until-head-spec : {M : Type 1} → statement M
 until-head-spec =
     tie.close
-    (tie.spec
-    skip-blanks-requires
-    token-requires
-    enum-known-d
-    enum-told
-    returns
-    set-requires
-    enum-known-x
-    enum-known-x-2
-    token-requires-2
-    enum-known-g
-    enum-told-2
-    mark-requires
-    enum-known-f
-    enum-told-3
-    returns-2
-    returns-3
-    enclosed-requires
-    enum-known-y
-    enum-known-y-2
-    returns-4
-    returns-5
-    returns-6)
+    (tie.spec skip-blanks-requires token-requires enum-known-d enum-told returns set-requires enum-known-x enum-known-x-2 token-requires-2
+        enum-known-g enum-told-2 mark-requires enum-known-f enum-told-3 returns-2 returns-3 enclosed-requires enum-known-y enum-known-y-2
+        returns-4 returns-5 returns-6)

@@ -82,21 +82,5 @@ returns-2 c = record { long = refl; made = λ h. absurd (omega arith) }
 pub move-up-spec : {M : Type 1} → statement M
 move-up-spec =
     tie.close
-    (tie.spec
-    Inv-loop
-    μ-loop
-    add-if1
-    mul-by
-    mul-low
-    add-low
-    mul-i
-    add-i
-    loop-holds
-    sub-i
-    element-copy-out-nodes
-    add-nodes
-    element-write-nodes
-    loop-less
-    loop-again
-    returns
-    returns-2)
+    (tie.spec Inv-loop μ-loop add-if1 mul-by mul-low add-low mul-i add-i loop-holds sub-i element-copy-out-nodes add-nodes
+        element-write-nodes loop-less loop-again returns returns-2)

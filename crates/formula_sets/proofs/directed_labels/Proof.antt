@@ -69,14 +69,4 @@ returns c =
 pub directed-labels-spec : {M : Type 1} → statement M
 directed-labels-spec =
     tie.close
-    (tie.spec
-    Inv-loop
-    μ-loop
-    label-count-requires
-    loop-holds
-    directed-bit-requires
-    add-mask
-    add-k
-    loop-less
-    loop-again
-    returns)
+    (tie.spec Inv-loop μ-loop label-count-requires loop-holds directed-bit-requires add-mask add-k loop-less loop-again returns)

@@ -58,14 +58,5 @@ returns-2 c =
 pub label-spec : {M : Type 1} → statement M
 label-spec =
     tie.close
-    (tie.spec
-    sub-find-label
-    part-find-label-start
-    part-find-label-end
-    find-label-requires
-    enum-known-x
-    shl-t16
-    enum-told
-    earlier-of-requires
-    returns
-    returns-2)
+    (tie.spec sub-find-label part-find-label-start part-find-label-end find-label-requires enum-known-x shl-t16 enum-told
+        earlier-of-requires returns returns-2)

@@ -77,20 +77,5 @@ returns-4 c =
 pub wildcard-labels-spec : {M : Type 1} → statement M
 wildcard-labels-spec =
     tie.close
-    (tie.spec
-    mark-requires
-    enum-known-d
-    all-labels-requires
-    returns
-    enum-told
-    mark-requires-2
-    enum-known-d-2
-    directed-labels-requires
-    returns-2
-    enum-told-2
-    mark-requires-3
-    enum-known-d-3
-    directed-labels-requires-2
-    returns-3
-    enum-told-3
-    returns-4)
+    (tie.spec mark-requires enum-known-d all-labels-requires returns enum-told mark-requires-2 enum-known-d-2 directed-labels-requires
+        returns-2 enum-told-2 mark-requires-3 enum-known-d-3 directed-labels-requires-2 returns-3 enum-told-3 returns-4)

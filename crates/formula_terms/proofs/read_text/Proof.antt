@@ -62,14 +62,4 @@ returns-4 c =
 pub read-text-spec : {M : Type 1} → statement M
 read-text-spec =
     tie.close
-    (tie.spec
-    mark-requires
-    enum-told
-    returns
-    enum-told-2
-    formula-requires
-    enum-known-x
-    enum-known-x-2
-    returns-2
-    returns-3
-    returns-4)
+    (tie.spec mark-requires enum-told returns enum-told-2 formula-requires enum-known-x enum-known-x-2 returns-2 returns-3 returns-4)

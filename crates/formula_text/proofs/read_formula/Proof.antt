@@ -120,16 +120,5 @@ returns-6 c =
 pub read-formula-spec : {M : Type 1} → statement M
 read-formula-spec =
     tie.close
-    (tie.spec
-    returns
-    returns-2
-    is-prepared-requires
-    returns-3
-    returns-4
-    read-text-requires
-    enum-known-x
-    enum-known-x-2
-    answer-requires
-    returns-5
-    same-length
-    returns-6)
+    (tie.spec returns returns-2 is-prepared-requires returns-3 returns-4 read-text-requires enum-known-x enum-known-x-2 answer-requires
+        returns-5 same-length returns-6)

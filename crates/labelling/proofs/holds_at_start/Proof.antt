@@ -32,10 +32,4 @@ returns c =
 pub holds-at-start-spec : {M : Type 1} → statement M
 holds-at-start-spec =
     tie.close
-    (tie.spec
-    steps-of-requires
-    shape-of-requires
-    label-nodes-requires
-    start-state-requires
-    array-read-result
-    returns)
+    (tie.spec steps-of-requires shape-of-requires label-nodes-requires start-state-requires array-read-result returns)

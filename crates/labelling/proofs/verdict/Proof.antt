@@ -71,11 +71,4 @@ returns-3 c = promised _ _ Fails (sym (replied (c .before) ∙ ap (λ h. accepte
 pub verdict-spec : {M : Type 1} → statement M
 verdict-spec =
     tie.close
-    (tie.spec
-    check-inputs-requires
-    enum-known-why
-    returns
-    enum-told
-    holds-at-start-requires
-    returns-2
-    returns-3)
+    (tie.spec check-inputs-requires enum-known-why returns enum-told holds-at-start-requires returns-2 returns-3)

@@ -67,16 +67,5 @@ returns c =
 pub write-edge-spec : {M : Type 1} → statement M
 write-edge-spec =
     tie.close
-    (tie.spec
-    mul-pair
-    pair-requires
-    mul-wide
-    add-wide
-    shared-slice-read-wide
-    wide-requires
-    mul-pair-2
-    add-pair
-    pair-requires-2
-    write-numbers-requires
-    same-length
-    returns)
+    (tie.spec mul-pair pair-requires mul-wide add-wide shared-slice-read-wide wide-requires mul-pair-2 add-pair pair-requires-2
+        write-numbers-requires same-length returns)

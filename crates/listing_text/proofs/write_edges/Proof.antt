@@ -59,13 +59,4 @@ returns c =
 pub write-edges-spec : {M : Type 1} → statement M
 write-edges-spec =
     tie.close
-    (tie.spec
-    Inv-loop
-    μ-loop
-    loop-holds
-    write-edge-requires
-    add-j
-    loop-less
-    loop-again
-    same-length
-    returns)
+    (tie.spec Inv-loop μ-loop loop-holds write-edge-requires add-j loop-less loop-again same-length returns)

@@ -43,9 +43,4 @@ returns c =
 pub write-listing-spec : {M : Type 1} → statement M
 write-listing-spec =
     tie.close
-    (tie.spec
-    write-numbers-requires
-    write-rows-requires
-    write-edges-requires
-    same-length
-    returns)
+    (tie.spec write-numbers-requires write-rows-requires write-edges-requires same-length returns)

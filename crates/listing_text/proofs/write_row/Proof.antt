@@ -70,18 +70,5 @@ returns c =
 pub write-row-spec : {M : Type 1} → statement M
 write-row-spec =
     tie.close
-    (tie.spec
-    mul-wide
-    shared-slice-read-wide
-    wide-requires
-    mul-wide-2
-    add-wide
-    shared-slice-read-wide-2
-    wide-requires-2
-    mul-wide-3
-    add-wide-2
-    shared-slice-read-wide-3
-    wide-requires-3
-    write-numbers-requires
-    same-length
-    returns)
+    (tie.spec mul-wide shared-slice-read-wide wide-requires mul-wide-2 add-wide shared-slice-read-wide-2 wide-requires-2 mul-wide-3
+        add-wide-2 shared-slice-read-wide-3 wide-requires-3 write-numbers-requires same-length returns)

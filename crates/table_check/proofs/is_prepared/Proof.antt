@@ -97,21 +97,5 @@ returns-6 c =
 pub is-prepared-spec : {M : Type 1} → statement M
 is-prepared-spec =
     tie.close
-    (tie.spec
-    returns
-    counts-held-requires
-    returns-2
-    names-held-requires
-    returns-3
-    label-count-requires
-    mul-zeros
-    add-zeros
-    zeros-requires
-    returns-4
-    transitions-held-requires
-    returns-5
-    transition-count-requires
-    mul-zeros-2
-    add-zeros-2
-    zeros-requires-2
-    returns-6)
+    (tie.spec returns counts-held-requires returns-2 names-held-requires returns-3 label-count-requires mul-zeros add-zeros zeros-requires
+        returns-4 transitions-held-requires returns-5 transition-count-requires mul-zeros-2 add-zeros-2 zeros-requires-2 returns-6)

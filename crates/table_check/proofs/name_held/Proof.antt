@@ -75,17 +75,5 @@ returns-3 c =
 pub name-held-spec : {M : Type 1} → statement M
 name-held-spec =
     tie.close
-    (tie.spec
-    mul-at
-    add-at
-    read-name-requires
-    returns
-    mul-byte
-    add-byte
-    byte-requires
-    add-if2
-    returns-2
-    mul-zeros
-    add-zeros
-    zeros-requires
-    returns-3)
+    (tie.spec mul-at add-at read-name-requires returns mul-byte add-byte byte-requires add-if2 returns-2 mul-zeros add-zeros zeros-requires
+        returns-3)

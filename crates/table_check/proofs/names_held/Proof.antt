@@ -77,16 +77,5 @@ returns-3 c =
 pub names-held-spec : {M : Type 1} → statement M
 names-held-spec =
     tie.close
-    (tie.spec
-    Inv-loop
-    μ-loop
-    label-count-requires
-    loop-holds
-    name-held-requires
-    returns
-    new-name-requires
-    returns-2
-    add-k
-    loop-less
-    loop-again
-    returns-3)
+    (tie.spec Inv-loop μ-loop label-count-requires loop-holds name-held-requires returns new-name-requires returns-2 add-k loop-less
+        loop-again returns-3)

@@ -91,21 +91,5 @@ returns-2 c =
 pub new-name-spec : {M : Type 1} → statement M
 new-name-spec =
     tie.close
-    (tie.spec
-    mul-at
-    add-at
-    mul-byte
-    add-byte
-    byte-requires
-    add-end
-    sub-find
-    part-find-start
-    part-find-end
-    sub-find-2
-    part-find-start-2
-    part-find-end-2
-    find-requires
-    enum-told
-    enum-told-2
-    returns
-    returns-2)
+    (tie.spec mul-at add-at mul-byte add-byte byte-requires add-end sub-find part-find-start part-find-end sub-find-2 part-find-start-2
+        part-find-end-2 find-requires enum-told enum-told-2 returns returns-2)

@@ -88,16 +88,5 @@ returns-2 c =
 pub transitions-held-spec : {M : Type 1} → statement M
 transitions-held-spec =
     tie.close
-    (tie.spec
-    Inv-loop
-    μ-loop
-    transition-count-requires
-    state-count-requires
-    label-count-requires
-    loop-holds
-    transition-held-requires
-    returns
-    add-k
-    loop-less
-    loop-again
-    returns-2)
+    (tie.spec Inv-loop μ-loop transition-count-requires state-count-requires label-count-requires loop-holds transition-held-requires
+        returns add-k loop-less loop-again returns-2)

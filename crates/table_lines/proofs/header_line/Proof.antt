@@ -85,23 +85,6 @@ returns-6 c =
 pub header-line-spec : {M : Type 1} → statement M
 header-line-spec =
     tie.close
-    (tie.spec
-    read-column-requires
-    enum-known-states
-    enum-told
-    returns
-    read-column-requires-2
-    enum-known-labels
-    enum-told-2
-    returns-2
-    read-column-requires-3
-    enum-known-transitions
-    enum-told-3
-    returns-3
-    read-column-requires-4
-    enum-known-start
-    enum-told-4
-    returns-4
-    stands-requires
-    returns-5
-    returns-6)
+    (tie.spec read-column-requires enum-known-states enum-told returns read-column-requires-2 enum-known-labels enum-told-2 returns-2
+        read-column-requires-3 enum-known-transitions enum-told-3 returns-3 read-column-requires-4 enum-known-start enum-told-4 returns-4
+        stands-requires returns-5 returns-6)

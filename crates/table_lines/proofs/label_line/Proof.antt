@@ -80,17 +80,5 @@ returns-5 c =
 pub label-line-spec : {M : Type 1} → statement M
 label-line-spec =
     tie.close
-    (tie.spec
-    read-column-requires
-    enum-known-number
-    enum-told
-    returns
-    add-stands
-    stands-requires
-    returns-2
-    add-from
-    read-name-requires
-    returns-3
-    stands-requires-2
-    returns-4
-    returns-5)
+    (tie.spec read-column-requires enum-known-number enum-told returns add-stands stands-requires returns-2 add-from read-name-requires
+        returns-3 stands-requires-2 returns-4 returns-5)

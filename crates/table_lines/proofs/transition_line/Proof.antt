@@ -88,19 +88,5 @@ returns-4 c =
 pub transition-line-spec : {M : Type 1} → statement M
 transition-line-spec =
     tie.close
-    (tie.spec
-    read-column-requires
-    enum-known-from
-    enum-told
-    returns
-    add-read-column
-    read-column-requires-2
-    enum-known-label
-    enum-told-2
-    returns-2
-    add-read-column-2
-    read-column-requires-3
-    enum-known-to
-    enum-told-3
-    returns-3
-    returns-4)
+    (tie.spec read-column-requires enum-known-from enum-told returns add-read-column read-column-requires-2 enum-known-label enum-told-2
+        returns-2 add-read-column-2 read-column-requires-3 enum-known-to enum-told-3 returns-3 returns-4)

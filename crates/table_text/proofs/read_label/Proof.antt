@@ -160,27 +160,6 @@ returns-4 c =
 pub read-label-spec : {M : Type 1} → statement M
 read-label-spec =
     tie.close
-    (tie.spec
-    add-line
-    label-line-requires
-    enum-known-number
-    enum-told
-    returns
-    add-if1
-    returns-2
-    add-from
-    sub-find
-    part-find-start
-    part-find-end
-    find-requires
-    enum-told-2
-    same-length
-    returns-3
-    enum-told-3
-    sub-write-name
-    part-write-name-start
-    part-write-name-end
-    write-name-requires
-    add-t12
-    same-length-2
-    returns-4)
+    (tie.spec add-line label-line-requires enum-known-number enum-told returns add-if1 returns-2 add-from sub-find part-find-start
+        part-find-end find-requires enum-told-2 same-length returns-3 enum-told-3 sub-write-name part-write-name-start part-write-name-end
+        write-name-requires add-t12 same-length-2 returns-4)

@@ -83,17 +83,5 @@ returns-2 c =
 pub read-labels-spec : {M : Type 1} → statement M
 read-labels-spec =
     tie.close
-    (tie.spec
-    Inv-loop
-    μ-loop
-    loop-holds
-    read-label-requires
-    enum-known-progress
-    enum-told
-    same-length
-    returns
-    add-count
-    loop-less
-    loop-again
-    same-length-2
-    returns-2)
+    (tie.spec Inv-loop μ-loop loop-holds read-label-requires enum-known-progress enum-told same-length returns add-count loop-less
+        loop-again same-length-2 returns-2)

@@ -101,18 +101,5 @@ returns-3 c =
 pub read-lines-spec : {M : Type 1} → statement M
 read-lines-spec =
     tie.close
-    (tie.spec
-    read-labels-requires
-    enum-known-labels-read
-    enum-known-labels-read-2
-    read-transitions-requires
-    enum-known-transitions-read
-    enum-told
-    same-length
-    returns
-    same-length-2
-    same-length-3
-    returns-2
-    same-length-4
-    same-length-5
-    returns-3)
+    (tie.spec read-labels-requires enum-known-labels-read enum-known-labels-read-2 read-transitions-requires enum-known-transitions-read
+        enum-told same-length returns same-length-2 same-length-3 returns-2 same-length-4 same-length-5 returns-3)

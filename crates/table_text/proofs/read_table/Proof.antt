@@ -120,21 +120,6 @@ returns-5 c =
 pub read-table-spec : {M : Type 1} → statement M
 read-table-spec =
     tie.close
-    (tie.spec
-    returns
-    header-line-requires
-    enum-known-counts
-    enum-told
-    returns-2
-    header-in-range-requires
-    returns-3
-    slice-aggregate-read-lines
-    slice-aggregate-read-lines-2
-    read-lines-requires
-    is-accepted-requires
-    slice-aggregate-write-table
-    slice-aggregate-write-table-2
-    write-table-requires
-    same-length
-    returns-4
-    returns-5)
+    (tie.spec returns header-line-requires enum-known-counts enum-told returns-2 header-in-range-requires returns-3
+        slice-aggregate-read-lines slice-aggregate-read-lines-2 read-lines-requires is-accepted-requires slice-aggregate-write-table
+        slice-aggregate-write-table-2 write-table-requires same-length returns-4 returns-5)

@@ -151,23 +151,6 @@ returns-5 c =
 pub read-transition-spec : {M : Type 1} → statement M
 read-transition-spec =
     tie.close
-    (tie.spec
-    add-line
-    add-line-2
-    transition-line-requires
-    enum-known-t
-    enum-told
-    returns
-    add-stands
-    stands-requires
-    transition-in-range-requires
-    number-refused-requires
-    returns-2
-    returns-3
-    rises-requires
-    same-length
-    returns-4
-    write-transition-requires
-    add-t9
-    same-length-2
-    returns-5)
+    (tie.spec add-line add-line-2 transition-line-requires enum-known-t enum-told returns add-stands stands-requires
+        transition-in-range-requires number-refused-requires returns-2 returns-3 rises-requires same-length returns-4
+        write-transition-requires add-t9 same-length-2 returns-5)

@@ -104,21 +104,5 @@ returns-3 c =
 pub read-transitions-spec : {M : Type 1} → statement M
 read-transitions-spec =
     tie.close
-    (tie.spec
-    Inv-loop
-    μ-loop
-    loop-holds
-    read-transition-requires
-    enum-known-progress
-    enum-told
-    same-length
-    returns
-    add-count
-    loop-less
-    loop-again
-    add-t14
-    add-t15
-    same-length-2
-    returns-2
-    same-length-3
-    returns-3)
+    (tie.spec Inv-loop μ-loop loop-holds read-transition-requires enum-known-progress enum-told same-length returns add-count loop-less
+        loop-again add-t14 add-t15 same-length-2 returns-2 same-length-3 returns-3)

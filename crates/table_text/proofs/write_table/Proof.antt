@@ -75,22 +75,6 @@ returns c =
 pub write-table-spec : {M : Type 1} → statement M
 write-table-spec =
     tie.close
-    (tie.spec
-    cast-head
-    array-write-head
-    cast-head-2
-    array-write-head-2
-    cast-head-3
-    array-write-head-3
-    cast-head-4
-    array-write-head-4
-    cast-head-5
-    array-write-head-5
-    cast-head-6
-    array-write-head-6
-    slice-aggregate-write-at
-    write-at-requires
-    write-at-requires-2
-    write-at-requires-3
-    same-length
-    returns)
+    (tie.spec cast-head array-write-head cast-head-2 array-write-head-2 cast-head-3 array-write-head-3 cast-head-4 array-write-head-4
+        cast-head-5 array-write-head-5 cast-head-6 array-write-head-6 slice-aggregate-write-at write-at-requires write-at-requires-2
+        write-at-requires-3 same-length returns)

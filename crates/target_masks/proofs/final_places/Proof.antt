@@ -66,19 +66,5 @@ returns c = let l = c .before .loop in
 pub final-places-spec : {M : Type 1} → statement M
 final-places-spec =
     tie.close
-    (tie.spec
-    Inv-loop
-    μ-loop
-    node-count-requires
-    loop-holds
-    sub-k
-    add-arm
-    array-read-arm
-    other-arm-requires
-    array-read-other
-    node-at-requires
-    node-final-requires
-    array-write-finals
-    loop-less
-    loop-again
-    returns)
+    (tie.spec Inv-loop μ-loop node-count-requires loop-holds sub-k add-arm array-read-arm other-arm-requires array-read-other
+        node-at-requires node-final-requires array-write-finals loop-less loop-again returns)

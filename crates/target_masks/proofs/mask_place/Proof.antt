@@ -125,31 +125,6 @@ returns c =
 pub mask-place-spec : {M : Type 1} → statement M
 mask-place-spec =
     tie.close
-    (tie.spec
-    Inv-loop
-    μ-loop
-    node-count-requires
-    node-at-requires
-    add-is-true
-    is-true-requires
-    other-arm-requires
-    loop-holds
-    column-requires
-    add-arm
-    mul-arm
-    add-arm-2
-    mul-arm-2
-    element-copy-out-arm
-    mul-other
-    add-other
-    mul-other-2
-    element-copy-out-other
-    node-mask-requires
-    mul-masks
-    add-masks
-    mul-masks-2
-    element-write-masks
-    add-l
-    loop-less
-    loop-again
-    returns)
+    (tie.spec Inv-loop μ-loop node-count-requires node-at-requires add-is-true is-true-requires other-arm-requires loop-holds
+        column-requires add-arm mul-arm add-arm-2 mul-arm-2 element-copy-out-arm mul-other add-other mul-other-2 element-copy-out-other
+        node-mask-requires mul-masks add-masks mul-masks-2 element-write-masks add-l loop-less loop-again returns)

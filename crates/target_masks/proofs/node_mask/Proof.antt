@@ -107,33 +107,7 @@ returns-8 c = let a = c .before .before .before .before .before .before .before 
 pub node-mask-spec : {M : Type 1} → statement M
 node-mask-spec =
     tie.close
-    (tie.spec
-    enum-told
-    enum-told-2
-    enum-told-3
-    enum-known-node
-    meets-requires
-    add-bit-if
-    bit-if-requires
-    enum-known-node-2
-    meets-requires-2
-    add-bit-if-2
-    bit-if-requires-2
-    bit-if-requires-3
-    enum-known-node-3
-    passes-requires
-    bit-if-requires-4
-    enum-known-node-4
-    passes-requires-2
-    bit-if-requires-5
-    in-set-requires
-    add-bit-if-3
-    bit-if-requires-6
-    returns
-    returns-2
-    returns-3
-    returns-4
-    returns-5
-    returns-6
-    returns-7
-    returns-8)
+    (tie.spec enum-told enum-told-2 enum-told-3 enum-known-node meets-requires add-bit-if bit-if-requires enum-known-node-2 meets-requires-2
+        add-bit-if-2 bit-if-requires-2 bit-if-requires-3 enum-known-node-3 passes-requires bit-if-requires-4 enum-known-node-4
+        passes-requires-2 bit-if-requires-5 in-set-requires add-bit-if-3 bit-if-requires-6 returns returns-2 returns-3 returns-4 returns-5
+        returns-6 returns-7 returns-8)

@@ -53,13 +53,4 @@ returns c = let l = c .before .loop in
 pub target-masks-spec : {M : Type 1} → statement M
 target-masks-spec =
     tie.close
-    (tie.spec
-    Inv-loop
-    μ-loop
-    node-count-requires
-    loop-holds
-    sub-k
-    mask-place-requires
-    loop-less
-    loop-again
-    returns)
+    (tie.spec Inv-loop μ-loop node-count-requires loop-holds sub-k mask-place-requires loop-less loop-again returns)

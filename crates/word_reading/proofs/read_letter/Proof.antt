@@ -87,18 +87,5 @@ returns c =
 pub read-letter-spec : {M : Type 1} → statement M
 read-letter-spec =
     tie.close
-    (tie.spec
-    Inv-loop
-    μ-loop
-    wide-requires
-    clear-requires
-    next-state-requires
-    loop-holds
-    mul-read-places
-    element-copy-out-read-places
-    read-places-requires
-    add-next-state
-    next-state-requires-2
-    loop-less
-    loop-again
-    returns)
+    (tie.spec Inv-loop μ-loop wide-requires clear-requires next-state-requires loop-holds mul-read-places element-copy-out-read-places
+        read-places-requires add-next-state next-state-requires-2 loop-less loop-again returns)

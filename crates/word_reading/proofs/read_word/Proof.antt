@@ -98,23 +98,6 @@ returns-2 c =
 pub read-word-spec : {M : Type 1} → statement M
 read-word-spec =
     tie.close
-    (tie.spec
-    Inv-loop
-    μ-loop
-    bring-requires
-    loop-holds
-    add-loop
-    shared-slice-read-read-letter
-    read-letter-requires
-    add-read-letter
-    shared-slice-read-read-letter-2
-    read-letter-requires-2
-    add-i
-    loop-less
-    loop-again
-    shared-slice-read-read-letter-3
-    read-letter-requires-3
-    all-places-requires
-    returns
-    all-places-requires-2
-    returns-2)
+    (tie.spec Inv-loop μ-loop bring-requires loop-holds add-loop shared-slice-read-read-letter read-letter-requires add-read-letter
+        shared-slice-read-read-letter-2 read-letter-requires-2 add-i loop-less loop-again shared-slice-read-read-letter-3
+        read-letter-requires-3 all-places-requires returns all-places-requires-2 returns-2)

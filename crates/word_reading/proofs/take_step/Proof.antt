@@ -41,11 +41,4 @@ returns-2 c =
 pub take-step-spec : {M : Type 1} → statement M
 take-step-spec =
     tie.close
-    (tie.spec
-    mul-step
-    element-copy-out-step
-    label-of-requires
-    state-of-requires
-    bring-requires
-    returns
-    returns-2)
+    (tie.spec mul-step element-copy-out-step label-of-requires state-of-requires bring-requires returns returns-2)

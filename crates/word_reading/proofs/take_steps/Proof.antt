@@ -57,13 +57,4 @@ returns c =
 pub take-steps-spec : {M : Type 1} → statement M
 take-steps-spec =
     tie.close
-    (tie.spec
-    Inv-loop
-    μ-loop
-    leaving-requires
-    loop-holds
-    take-step-requires
-    add-k
-    loop-less
-    loop-again
-    returns)
+    (tie.spec Inv-loop μ-loop leaving-requires loop-holds take-step-requires add-k loop-less loop-again returns)

@@ -64,10 +64,4 @@ returns-2 c =
 pub accepts-spec : {M : Type 1} → statement M
 accepts-spec =
     tie.close
-    (tie.spec
-    check-inputs-requires
-    enum-known-why
-    returns
-    enum-told
-    answer-requires
-    returns-2)
+    (tie.spec check-inputs-requires enum-known-why returns enum-told answer-requires returns-2)

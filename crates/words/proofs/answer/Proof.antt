@@ -57,12 +57,4 @@ returns-2 c =
 pub answer-spec : {M : Type 1} → statement M
 answer-spec =
     tie.close
-    (tie.spec
-    label-count-requires
-    bad-letter-requires
-    enum-known-bad
-    enum-told
-    is-accepted-requires
-    answer-of-requires
-    returns
-    returns-2)
+    (tie.spec label-count-requires bad-letter-requires enum-known-bad enum-told is-accepted-requires answer-of-requires returns returns-2)

@@ -67,16 +67,5 @@ returns-3 c = sym (c .before .loop .inv .1 ∙ bad-over _ _ (c .before .loop .i)
 pub bad-letter-spec : {M : Type 1} → statement M
 bad-letter-spec =
     tie.close
-    (tie.spec
-    Inv-loop
-    μ-loop
-    loop-holds
-    returns
-    shared-slice-read-wide
-    wide-requires
-    is-bad-requires
-    returns-2
-    add-i
-    loop-less
-    loop-again
-    returns-3)
+    (tie.spec Inv-loop μ-loop loop-holds returns shared-slice-read-wide wide-requires is-bad-requires returns-2 add-i loop-less loop-again
+        returns-3)

@@ -69,12 +69,5 @@ returns c =
 pub is-accepted-spec : {M : Type 1} → statement M
 is-accepted-spec =
     tie.close
-    (tie.spec
-    steps-of-requires
-    shape-of-requires
-    target-masks-requires
-    final-places-requires
-    start-state-requires
-    read-word-requires
-    some-final-requires
-    returns)
+    (tie.spec steps-of-requires shape-of-requires target-masks-requires final-places-requires start-state-requires read-word-requires
+        some-final-requires returns)

@@ -38,13 +38,4 @@ returns-2 c = sym (c .before .loop .inv .1 ∙ any-over _ placeCount (c .before 
 pub some-final-spec : {M : Type 1} → statement M
 some-final-spec =
     tie.close
-    (tie.spec
-    Inv-loop
-    μ-loop
-    loop-holds
-    is-final-requires
-    returns
-    add-k
-    loop-less
-    loop-again
-    returns-2)
+    (tie.spec Inv-loop μ-loop loop-holds is-final-requires returns add-k loop-less loop-again returns-2)

@@ -45,16 +45,5 @@ returns c = tt
 pub ask-spec : {M : Type 1} → statement M
 ask-spec =
     tie.close
-    (tie.spec
-    Inv-loop
-    μ-loop
-    loop-holds
-    word-end-requires
-    sub-word
-    part-word-start
-    part-word-end
-    word-requires
-    add-from
-    loop-less
-    loop-again
-    returns)
+    (tie.spec Inv-loop μ-loop loop-holds word-end-requires sub-word part-word-start part-word-end word-requires add-from loop-less
+        loop-again returns)

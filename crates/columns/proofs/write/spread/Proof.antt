@@ -71,18 +71,5 @@ returns-2 c =
 pub spread-spec : {M : Type 1} → statement M
 spread-spec =
     tie.close
-    (tie.spec
-    Inv-loop
-    μ-loop
-    add-bytes
-    cast-bytes
-    array-write-bytes
-    loop-holds
-    sub-from
-    add-bytes-2
-    cast-bytes-2
-    array-write-bytes-2
-    loop-less
-    loop-again
-    returns
-    returns-2)
+    (tie.spec Inv-loop μ-loop add-bytes cast-bytes array-write-bytes loop-holds sub-from add-bytes-2 cast-bytes-2 array-write-bytes-2
+        loop-less loop-again returns returns-2)

@@ -85,20 +85,5 @@ returns c =
 pub write-column-spec : {M : Type 1} → statement M
 write-column-spec =
     tie.close
-    (tie.spec
-    Inv-loop
-    μ-loop
-    spread-requires
-    loop-holds
-    sub-loop
-    add-out
-    array-read-out
-    add-out-2
-    slice-write-out
-    add-i
-    loop-less
-    loop-again
-    sub-result
-    add-result
-    same-length
-    returns)
+    (tie.spec Inv-loop μ-loop spread-requires loop-holds sub-loop add-out array-read-out add-out-2 slice-write-out add-i loop-less
+        loop-again sub-result add-result same-length returns)

@@ -79,17 +79,5 @@ returns c =
 pub write-numbers-spec : {M : Type 1} → statement M
 write-numbers-spec =
     tie.close
-    (tie.spec
-    Inv-loop
-    μ-loop
-    loop-holds
-    mul-write-column
-    array-read-write-column
-    write-column-requires
-    add-i
-    loop-less
-    loop-again
-    slice-write-out
-    add-result
-    same-length
-    returns)
+    (tie.spec Inv-loop μ-loop loop-holds mul-write-column array-read-write-column write-column-requires add-i loop-less loop-again
+        slice-write-out add-result same-length returns)

@@ -47,11 +47,4 @@ returns c =
 pub explainer-build-spec : {M : Type 1} → statement M
 explainer-build-spec =
     tie.close
-    (tie.spec
-    build-requires
-    build-figure-requires
-    build-edges-requires
-    build-number-requires
-    same-length
-    same-length-2
-    returns)
+    (tie.spec build-requires build-figure-requires build-edges-requires build-number-requires same-length same-length-2 returns)

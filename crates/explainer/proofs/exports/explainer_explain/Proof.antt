@@ -59,15 +59,5 @@ returns c =
 pub explainer-explain-spec : {M : Type 1} → statement M
 explainer-explain-spec =
     tie.close
-    (tie.spec
-    explain-requires
-    explain-figure-requires
-    explain-verdict-requires
-    explain-class-requires
-    explain-edges-requires
-    explain-number-requires
-    same-length
-    same-length-2
-    same-length-3
-    same-length-4
-    returns)
+    (tie.spec explain-requires explain-figure-requires explain-verdict-requires explain-class-requires explain-edges-requires
+        explain-number-requires same-length same-length-2 same-length-3 same-length-4 returns)

@@ -31,9 +31,4 @@ returns c =
 pub explainer-read-formula-spec : {M : Type 1} → statement M
 explainer-read-formula-spec =
     tie.close
-    (tie.spec
-    read-formula-requires
-    formula-figure-requires
-    formula-number-requires
-    same-length
-    returns)
+    (tie.spec read-formula-requires formula-figure-requires formula-number-requires same-length returns)

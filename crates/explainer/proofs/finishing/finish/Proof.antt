@@ -93,21 +93,6 @@ returns-2 c = λ x held.
 pub finish-spec : {M : Type 1} → statement M
 finish-spec =
     tie.close
-    (tie.spec
-    build-requires
-    build-number-requires
-    build-figure-requires
-    same-length
-    same-length-2
-    returns
-    verdict-requires
-    verdict-figure-requires
-    class-of-requires
-    copy-requires
-    copy-requires-2
-    build-edges-requires
-    same-length-3
-    same-length-4
-    same-length-5
-    same-length-6
-    returns-2)
+    (tie.spec build-requires build-number-requires build-figure-requires same-length same-length-2 returns verdict-requires
+        verdict-figure-requires class-of-requires copy-requires copy-requires-2 build-edges-requires same-length-3 same-length-4
+        same-length-5 same-length-6 returns-2)

@@ -92,18 +92,5 @@ returns-3 c =
 pub read-both-spec : {M : Type 1} → statement M
 read-both-spec =
     tie.close
-    (tie.spec
-    read-table-requires
-    table-number-requires
-    table-figure-requires
-    same-length
-    returns
-    read-formula-requires
-    formula-number-requires
-    formula-figure-requires
-    same-length-2
-    same-length-3
-    returns-2
-    same-length-4
-    same-length-5
-    returns-3)
+    (tie.spec read-table-requires table-number-requires table-figure-requires same-length returns read-formula-requires
+        formula-number-requires formula-figure-requires same-length-2 same-length-3 returns-2 same-length-4 same-length-5 returns-3)

@@ -66,12 +66,4 @@ returns-5 c =
 pub check-inputs-spec : {M : Type 1} → statement M
 check-inputs-spec =
     tie.close
-    (tie.spec
-    returns
-    returns-2
-    is-prepared-requires
-    returns-3
-    label-count-requires
-    is-prepared-requires-2
-    returns-4
-    returns-5)
+    (tie.spec returns returns-2 is-prepared-requires returns-3 label-count-requires is-prepared-requires-2 returns-4 returns-5)

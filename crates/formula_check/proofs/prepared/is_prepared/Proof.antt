@@ -77,15 +77,5 @@ returns-5 c =
 pub is-prepared-spec : {M : Type 1} → statement M
 is-prepared-spec =
     tie.close
-    (tie.spec
-    returns
-    node-count-requires
-    returns-2
-    slots-fit-requires
-    returns-3
-    mul-zeros-from
-    add-zeros-from
-    zeros-from-requires
-    returns-4
-    spelled-requires
-    returns-5)
+    (tie.spec returns node-count-requires returns-2 slots-fit-requires returns-3 mul-zeros-from add-zeros-from zeros-from-requires returns-4
+        spelled-requires returns-5)

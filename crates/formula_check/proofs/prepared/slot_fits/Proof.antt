@@ -80,20 +80,5 @@ returns-4 c =
 pub slot-fits-spec : {M : Type 1} → statement M
 slot-fits-spec =
     tie.close
-    (tie.spec
-    mul-kind
-    add-kind
-    shared-slice-read-kind
-    returns
-    returns-2
-    masks-of-requires
-    mul-mask
-    add-mask
-    mask-requires
-    mask-fits-requires
-    mul-mask-2
-    add-mask-2
-    mask-requires-2
-    mask-fits-requires-2
-    returns-3
-    returns-4)
+    (tie.spec mul-kind add-kind shared-slice-read-kind returns returns-2 masks-of-requires mul-mask add-mask mask-requires
+        mask-fits-requires mul-mask-2 add-mask-2 mask-requires-2 mask-fits-requires-2 returns-3 returns-4)

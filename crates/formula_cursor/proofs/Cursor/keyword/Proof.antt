@@ -34,12 +34,4 @@ returns-2 c = let a = c .before .before .before .before .before .before .before 
 pub keyword-spec : {M : Type 1} → statement M
 keyword-spec =
     tie.close
-    (tie.spec
-    element-copy-out-mark
-    mark-requires
-    enum-known-d
-    enum-told
-    returns
-    element-copy-out-mark-2
-    mark-requires-2
-    returns-2)
+    (tie.spec element-copy-out-mark mark-requires enum-known-d enum-told returns element-copy-out-mark-2 mark-requires-2 returns-2)

@@ -53,14 +53,5 @@ returns-4 c =
 pub answer-spec : {M : Type 1} → statement M
 answer-spec =
     tie.close
-    (tie.spec
-    sub-t7
-    returns
-    returns-2
-    highest-classless-requires
-    enum-known-k
-    enum-told
-    write-bytes-requires
-    same-length
-    returns-3
-    returns-4)
+    (tie.spec sub-t7 returns returns-2 highest-classless-requires enum-known-k enum-told write-bytes-requires same-length returns-3
+        returns-4)

@@ -32,10 +32,4 @@ returns c =
 pub write-bytes-spec : {M : Type 1} → statement M
 write-bytes-spec =
     tie.close
-    (tie.spec
-    slice-aggregate-copy
-    copy-requires
-    cast-formula
-    slice-write-formula
-    same-length
-    returns)
+    (tie.spec slice-aggregate-copy copy-requires cast-formula slice-write-formula same-length returns)

@@ -62,22 +62,6 @@ returns c = let e = number-of-four (c .before .before .before .before .before .b
 pub half-spec : {M : Type 1} → statement M
 half-spec =
     tie.close
-    (tie.spec
-    shared-slice-read-wide
-    wide-requires
-    add-wide
-    shared-slice-read-wide-2
-    wide-requires-2
-    mul-low
-    add-low
-    add-wide-2
-    shared-slice-read-wide-3
-    wide-requires-3
-    add-wide-3
-    shared-slice-read-wide-4
-    wide-requires-4
-    mul-high
-    add-high
-    mul-result
-    add-result
-    returns)
+    (tie.spec shared-slice-read-wide wide-requires add-wide shared-slice-read-wide-2 wide-requires-2 mul-low add-low add-wide-2
+        shared-slice-read-wide-3 wide-requires-3 add-wide-3 shared-slice-read-wide-4 wide-requires-4 mul-high add-high mul-result add-result
+        returns)

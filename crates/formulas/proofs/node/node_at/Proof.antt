@@ -119,31 +119,6 @@ returns-9 c =
 pub node-at-spec : {M : Type 1} → statement M
 node-at-spec =
     tie.close
-    (tie.spec
-    mul-match
-    add-match
-    shared-slice-read-match
-    mul-mask
-    add-mask
-    mask-requires
-    mul-mask-2
-    add-mask-2
-    mask-requires-2
-    mul-mask-3
-    add-mask-3
-    mask-requires-3
-    mul-mask-4
-    add-mask-4
-    mask-requires-4
-    mul-mask-5
-    add-mask-5
-    mask-requires-5
-    returns
-    returns-2
-    returns-3
-    returns-4
-    returns-5
-    returns-6
-    returns-7
-    returns-8
-    returns-9)
+    (tie.spec mul-match add-match shared-slice-read-match mul-mask add-mask mask-requires mul-mask-2 add-mask-2 mask-requires-2 mul-mask-3
+        add-mask-3 mask-requires-3 mul-mask-4 add-mask-4 mask-requires-4 mul-mask-5 add-mask-5 mask-requires-5 returns returns-2 returns-3
+        returns-4 returns-5 returns-6 returns-7 returns-8 returns-9)

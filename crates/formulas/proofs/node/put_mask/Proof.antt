@@ -41,15 +41,4 @@ returns c = masked-all (c .before .before .pre) (c .before .loop .inv) (omega ar
 pub put-mask-spec : {M : Type 1} → statement M
 put-mask-spec =
     tie.close
-    (tie.spec
-    Inv-loop
-    μ-loop
-    loop-holds
-    cast-formula
-    add-formula
-    slice-write-formula
-    add-i
-    loop-less
-    loop-again
-    same-length
-    returns)
+    (tie.spec Inv-loop μ-loop loop-holds cast-formula add-formula slice-write-formula add-i loop-less loop-again same-length returns)

@@ -56,16 +56,5 @@ returns c =
 pub put-node-spec : {M : Type 1} → statement M
 put-node-spec =
     tie.close
-    (tie.spec
-    slot-of-requires
-    mul-formula
-    add-formula
-    slice-write-formula
-    mul-put-mask
-    add-put-mask
-    put-mask-requires
-    mul-put-mask-2
-    add-put-mask-2
-    put-mask-requires-2
-    same-length
-    returns)
+    (tie.spec slot-of-requires mul-formula add-formula slice-write-formula mul-put-mask add-put-mask put-mask-requires mul-put-mask-2
+        add-put-mask-2 put-mask-requires-2 same-length returns)

@@ -96,33 +96,7 @@ returns-9 c = c .slot-with9 .ensures ∙ sym (ap slotOfNode (c .before .before .
 pub slot-of-spec : {M : Type 1} → statement M
 slot-of-spec =
     tie.close
-    (tie.spec
-    enum-told
-    slot-with-requires
-    enum-told-2
-    slot-with-requires-2
-    enum-told-3
-    slot-with-requires-3
-    enum-known-node
-    enum-told-4
-    slot-with-requires-4
-    enum-known-condition
-    slot-with-requires-5
-    enum-known-node-2
-    enum-told-5
-    slot-with-requires-6
-    enum-known-condition-2
-    slot-with-requires-7
-    enum-known-node-3
-    slot-with-requires-8
-    enum-known-node-4
-    slot-with-requires-9
-    returns
-    returns-2
-    returns-3
-    returns-4
-    returns-5
-    returns-6
-    returns-7
-    returns-8
-    returns-9)
+    (tie.spec enum-told slot-with-requires enum-told-2 slot-with-requires-2 enum-told-3 slot-with-requires-3 enum-known-node enum-told-4
+        slot-with-requires-4 enum-known-condition slot-with-requires-5 enum-known-node-2 enum-told-5 slot-with-requires-6
+        enum-known-condition-2 slot-with-requires-7 enum-known-node-3 slot-with-requires-8 enum-known-node-4 slot-with-requires-9 returns
+        returns-2 returns-3 returns-4 returns-5 returns-6 returns-7 returns-8 returns-9)

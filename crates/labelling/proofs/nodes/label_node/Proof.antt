@@ -122,22 +122,5 @@ returns-7 c =
 pub label-node-spec : {M : Type 1} → statement M
 label-node-spec =
     tie.close
-    (tie.spec
-    state-count-requires
-    label-at-once-requires
-    enum-told
-    enum-told-2
-    enum-told-3
-    enum-told-4
-    enum-told-5
-    enum-known-node
-    until-requires
-    enum-known-node-2
-    until-requires-2
-    returns
-    returns-2
-    returns-3
-    returns-4
-    returns-5
-    returns-6
-    returns-7)
+    (tie.spec state-count-requires label-at-once-requires enum-told enum-told-2 enum-told-3 enum-told-4 enum-told-5 enum-known-node
+        until-requires enum-known-node-2 until-requires-2 returns returns-2 returns-3 returns-4 returns-5 returns-6 returns-7)

@@ -68,14 +68,4 @@ returns c = rows-all _ _ (c .before .loop .k) (c .loop-test .left) (c .before .l
 pub label-nodes-spec : {M : Type 1} → statement M
 label-nodes-spec =
     tie.close
-    (tie.spec
-    Inv-loop
-    μ-loop
-    entering-requires
-    node-count-requires
-    loop-holds
-    sub-k
-    label-row-requires
-    loop-less
-    loop-again
-    returns)
+    (tie.spec Inv-loop μ-loop entering-requires node-count-requires loop-holds sub-k label-row-requires loop-less loop-again returns)

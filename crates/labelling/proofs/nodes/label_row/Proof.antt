@@ -60,12 +60,4 @@ returns c =
 pub label-row-spec : {M : Type 1} → statement M
 label-row-spec =
     tie.close
-    (tie.spec
-    node-at-requires
-    add-row
-    row-requires
-    right-arm-requires
-    row-requires-2
-    label-node-requires
-    put-row-requires
-    returns)
+    (tie.spec node-at-requires add-row row-requires right-arm-requires row-requires-2 label-node-requires put-row-requires returns)

@@ -51,16 +51,5 @@ returns-2 c = row-all _ (c .before .loop .s) (c .loop-test .left) (c .before .lo
 pub row-spec : {M : Type 1} → statement M
 row-spec =
     tie.close
-    (tie.spec
-    Inv-loop
-    μ-loop
-    returns
-    loop-holds
-    mul-found
-    add-found
-    element-copy-out-found
-    array-write-found
-    add-s
-    loop-less
-    loop-again
-    returns-2)
+    (tie.spec Inv-loop μ-loop returns loop-holds mul-found add-found element-copy-out-found array-write-found add-s loop-less loop-again
+        returns-2)

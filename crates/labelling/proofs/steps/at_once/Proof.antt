@@ -93,26 +93,6 @@ returns-8 c = c .some-step3 .ensures ∙ sym (ap (value (c .before .before .befo
 pub at-once-spec : {M : Type 1} → statement M
 at-once-spec =
     tie.close
-    (tie.spec
-    enum-told
-    enum-told-2
-    element-copy-out-result
-    enum-told-3
-    element-copy-out-if1
-    element-copy-out-result-2
-    enum-known-node
-    some-step-requires
-    enum-known-node-2
-    some-step-requires-2
-    enum-told-4
-    element-copy-out-result-3
-    enum-known-node-3
-    some-step-requires-3
-    returns
-    returns-2
-    returns-3
-    returns-4
-    returns-5
-    returns-6
-    returns-7
-    returns-8)
+    (tie.spec enum-told enum-told-2 element-copy-out-result enum-told-3 element-copy-out-if1 element-copy-out-result-2 enum-known-node
+        some-step-requires enum-known-node-2 some-step-requires-2 enum-told-4 element-copy-out-result-3 enum-known-node-3
+        some-step-requires-3 returns returns-2 returns-3 returns-4 returns-5 returns-6 returns-7 returns-8)

@@ -44,13 +44,4 @@ returns c = flags-all _ _ (c .before .loop .s) (c .loop-test .left) (c .before .
 pub label-at-once-spec : {M : Type 1} → statement M
 label-at-once-spec =
     tie.close
-    (tie.spec
-    Inv-loop
-    μ-loop
-    loop-holds
-    at-once-requires
-    array-write-flags
-    add-s
-    loop-less
-    loop-again
-    returns)
+    (tie.spec Inv-loop μ-loop loop-holds at-once-requires array-write-flags add-s loop-less loop-again returns)

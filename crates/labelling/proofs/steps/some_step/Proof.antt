@@ -108,19 +108,5 @@ returns-2 c =
 pub some-step-spec : {M : Type 1} → statement M
 some-step-spec =
     tie.close
-    (tie.spec
-    Inv-loop
-    μ-loop
-    leaving-requires
-    loop-holds
-    mul-step
-    element-copy-out-step
-    state-of-requires
-    label-of-requires
-    element-copy-out-leads
-    leads-requires
-    returns
-    add-k
-    loop-less
-    loop-again
-    returns-2)
+    (tie.spec Inv-loop μ-loop leaving-requires loop-holds mul-step element-copy-out-step state-of-requires label-of-requires
+        element-copy-out-leads leads-requires returns add-k loop-less loop-again returns-2)

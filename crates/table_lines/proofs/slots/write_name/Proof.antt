@@ -35,11 +35,4 @@ returns c =
 pub write-name-spec : {M : Type 1} → statement M
 write-name-spec =
     tie.close
-    (tie.spec
-    mul-i
-    cast-names
-    slice-write-names
-    add-write-at
-    write-at-requires
-    same-length
-    returns)
+    (tie.spec mul-i cast-names slice-write-names add-write-at write-at-requires same-length returns)

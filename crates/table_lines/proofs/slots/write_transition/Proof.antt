@@ -53,15 +53,5 @@ returns c =
 pub write-transition-spec : {M : Type 1} → statement M
 write-transition-spec =
     tie.close
-    (tie.spec
-    mul-i
-    cast-slots
-    slice-write-slots
-    cast-slots-2
-    add-slots
-    slice-write-slots-2
-    cast-slots-3
-    add-slots-2
-    slice-write-slots-3
-    same-length
-    returns)
+    (tie.spec mul-i cast-slots slice-write-slots cast-slots-2 add-slots slice-write-slots-2 cast-slots-3 add-slots-2 slice-write-slots-3
+        same-length returns)

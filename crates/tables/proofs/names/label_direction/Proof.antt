@@ -64,15 +64,5 @@ returns c =
 pub label-direction-spec : {M : Type 1} → statement M
 label-direction-spec =
     tie.close
-    (tie.spec
-    mul-at
-    add-at
-    mul-byte
-    add-byte
-    byte-requires
-    add-end
-    sub-read-name
-    part-read-name-start
-    part-read-name-end
-    read-name-requires
-    returns)
+    (tie.spec mul-at add-at mul-byte add-byte byte-requires add-end sub-read-name part-read-name-start part-read-name-end read-name-requires
+        returns)

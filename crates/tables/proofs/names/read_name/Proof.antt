@@ -55,14 +55,4 @@ returns-5 c =
 pub read-name-spec : {M : Type 1} → statement M
 read-name-spec =
     tie.close
-    (tie.spec
-    stem-end-requires
-    returns
-    returns-2
-    shared-slice-read-if3
-    add-t10
-    returns-3
-    shared-slice-read-if4
-    add-t13
-    returns-4
-    returns-5)
+    (tie.spec stem-end-requires returns returns-2 shared-slice-read-if3 add-t10 returns-3 shared-slice-read-if4 add-t13 returns-4 returns-5)

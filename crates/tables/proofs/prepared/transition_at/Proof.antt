@@ -39,12 +39,4 @@ returns c =
 pub transition-at-spec : {M : Type 1} → statement M
 transition-at-spec =
     tie.close
-    (tie.spec
-    mul-at
-    add-byte
-    byte-requires
-    add-byte-2
-    byte-requires-2
-    add-byte-3
-    byte-requires-3
-    returns)
+    (tie.spec mul-at add-byte byte-requires add-byte-2 byte-requires-2 add-byte-3 byte-requires-3 returns)

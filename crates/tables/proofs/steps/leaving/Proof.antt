@@ -30,12 +30,4 @@ returns c = λ i. record { from = c .before .before .wide .ensures i; to = c .wi
 pub leaving-spec : {M : Type 1} → statement M
 leaving-spec =
     tie.close
-    (tie.spec
-    mul-wide
-    element-copy-out-wide
-    wide-requires
-    add-wide
-    mul-wide-2
-    element-copy-out-wide-2
-    wide-requires-2
-    returns)
+    (tie.spec mul-wide element-copy-out-wide wide-requires add-wide mul-wide-2 element-copy-out-wide-2 wide-requires-2 returns)

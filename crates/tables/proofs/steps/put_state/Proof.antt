@@ -66,11 +66,4 @@ returns-2 c =
 pub put-state-spec : {M : Type 1} → statement M
 put-state-spec =
     tie.close
-    (tie.spec
-    put-transitions-requires
-    returns
-    code-requires
-    mul-steps
-    element-write-steps
-    add-result
-    returns-2)
+    (tie.spec put-transitions-requires returns code-requires mul-steps element-write-steps add-result returns-2)

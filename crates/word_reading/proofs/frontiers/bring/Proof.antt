@@ -59,18 +59,5 @@ returns c =
 pub bring-spec : {M : Type 1} → statement M
 bring-spec =
     tie.close
-    (tie.spec
-    add-marks
-    mul-marks
-    element-copy-out-marks
-    has-requires
-    mul-kept
-    element-copy-out-kept
-    kept-requires
-    mul-frontier
-    element-write-frontier
-    bit-requires
-    add-frontier
-    mul-frontier-2
-    element-write-frontier-2
-    returns)
+    (tie.spec add-marks mul-marks element-copy-out-marks has-requires mul-kept element-copy-out-kept kept-requires mul-frontier
+        element-write-frontier bit-requires add-frontier mul-frontier-2 element-write-frontier-2 returns)
