@@ -33,18 +33,15 @@ macro_rules! entries {
 interface!(entries);
 
 pub fn read_table(text: &[u8], table: &mut [u8]) -> Reply {
-    let outcome = long_enough(table, TABLE_LENGTH, Refusal::ShortTable)
-        .and_then(|()| Table::read(text))
-        .map(|read| {
-            table[..TABLE_LENGTH].copy_from_slice(&prepared::table_bytes(&read));
-            0
-        });
+    let outcome = long_enough(table, TABLE_LENGTH).and_then(|()| Table::read(text)).map(|read| {
+        table[..TABLE_LENGTH].copy_from_slice(&prepared::table_bytes(&read));
+        0
+    });
     outcome.into()
 }
 
 pub fn read_formula(table: &[u8], text: &[u8], formula: &mut [u8]) -> Reply {
-    let outcome = long_enough(table, TABLE_LENGTH, Refusal::ShortTable)
-        .and_then(|()| long_enough(formula, FORMULA_LENGTH, Refusal::ShortFormula))
+    let outcome = both_long_enough(table, formula)
         .and_then(|()| prepared::table_of(table).ok_or(Refusal::PreparedTable))
         .and_then(|table| Formula::read(&table, text))
         .map(|read| {
@@ -100,8 +97,7 @@ pub fn explain(
     edge_count: &mut u64,
 ) -> Reply {
     let mut explained = || {
-        long_enough(table, TABLE_LENGTH, Refusal::ShortTable)?;
-        long_enough(formula, FORMULA_LENGTH, Refusal::ShortFormula)?;
+        both_long_enough(table, formula)?;
         let table = Table::read(table_text)?;
         let formula = Formula::read(&table, formula_text)?;
         let listing = Listing::of(&table, &formula);
@@ -146,13 +142,18 @@ fn write_listing(listing: &Listing, rows: &mut [u8], edges: &mut [u8]) -> Result
 
 /// Refusals 14 and 10.
 fn question(table: &[u8], formula: &[u8]) -> Result<(Table, Formula), Refusal> {
-    long_enough(table, TABLE_LENGTH, Refusal::ShortTable)?;
-    long_enough(formula, FORMULA_LENGTH, Refusal::ShortFormula)?;
+    both_long_enough(table, formula)?;
     let table = prepared::table_of(table).ok_or(Refusal::PreparedTable)?;
     let formula = prepared::formula_of(formula, table.labels());
     Ok((table, formula.ok_or(Refusal::PreparedFormula)?))
 }
 
-fn long_enough(buffer: &[u8], length: usize, short: Refusal) -> Result<(), Refusal> {
-    (buffer.len() >= length).then_some(()).ok_or(short)
+/// The table is looked at first.
+fn both_long_enough(table: &[u8], formula: &[u8]) -> Result<(), Refusal> {
+    long_enough(table, TABLE_LENGTH)?;
+    long_enough(formula, FORMULA_LENGTH)
+}
+
+fn long_enough(buffer: &[u8], length: usize) -> Result<(), Refusal> {
+    (buffer.len() >= length).then_some(()).ok_or(Refusal::ShortBuffer(length))
 }

@@ -4,15 +4,15 @@ use std::fmt;
 
 use crate::compare::{self, Case, Lent, disagreement};
 use crate::entries::{EDGE_PLACE, Entries, ROW_PLACE};
-use crate::inputs::kinds::{self, Kind, Kinds, Way, way};
+use crate::inputs::kinds::{self, Kinds, Way, way};
 use crate::inputs::lending::{self, LENGTHS, lend};
 use crate::inputs::rng::Rng;
 use crate::inputs::tables::{NAMED, NAMES_OF};
-use crate::inputs::{formulas, questions, tables, words};
+use crate::inputs::{formula_texts, formulas, questions, table_texts, tables, words};
 use crate::interface::interface;
 use crate::listing::Listing;
 use crate::prepared::{FORMULA_LENGTH, TABLE_LENGTH};
-use crate::tally::{Expected, Tally};
+use crate::tally::{Expected, Kind, Tally};
 
 /// The first input to which the answers differ, and how.
 #[derive(Debug, PartialEq, Eq)]
@@ -95,12 +95,12 @@ fn expected(entry: &str) -> (&'static [u32], Vec<Expected>) {
     let names = || kinds::expected(NAMED, &NAMES_OF);
     match entry {
         "read_table" => {
-            let texts = kinds::expected(TEXT, &tables::TEXTS);
+            let texts = kinds::expected(TEXT, &table_texts::TEXTS);
             let lengths = kinds::expected(WRITTEN, &LENGTHS);
             (&[0, 1, 2, 3, 4, 14], texts.into_iter().chain(lengths).chain(names()).collect())
         }
         "read_formula" => {
-            let texts = kinds::expected(TEXT, &formulas::TEXTS);
+            let texts = kinds::expected(TEXT, &formula_texts::TEXTS);
             let lengths = kinds::expected(WRITTEN, &LENGTHS);
             let lent = lending::expected(&lending::TABLE);
             let all = texts.into_iter().chain(lengths).chain(lent).chain(names()).collect();
@@ -118,8 +118,8 @@ fn expected(entry: &str) -> (&'static [u32], Vec<Expected>) {
             (&[0, 10, 13, 14], questions().chain(words).collect())
         }
         "explain" => {
-            let table = kinds::expected(TABLE_TEXT, &tables::TEXTS);
-            let formula = kinds::expected(FORMULA_TEXT, &formulas::TEXTS);
+            let table = kinds::expected(TABLE_TEXT, &table_texts::TEXTS);
+            let formula = kinds::expected(FORMULA_TEXT, &formula_texts::TEXTS);
             let buffers = kinds::expected(TABLE_BUFFER, &LENGTHS)
                 .into_iter()
                 .chain(kinds::expected(FORMULA_BUFFER, &LENGTHS));
@@ -159,7 +159,7 @@ pub fn read_table(rng: &mut Rng) -> Input<compare::ReadTable> {
     let length = kinds.make(rng, WRITTEN, &LENGTHS, &TABLE_LENGTH);
     let size = tables::size(rng, 40);
     let table = tables::table(rng, &mut kinds, size);
-    let text = kinds.make(rng, TEXT, &tables::TEXTS, &table);
+    let text = kinds.make(rng, TEXT, &table_texts::TEXTS, &table);
     Input { case: compare::ReadTable { text, table: lent(rng, length) }, kinds: kinds.0 }
 }
 
@@ -169,7 +169,7 @@ pub fn read_formula(rng: &mut Rng) -> Input<compare::ReadFormula> {
     let table = tables::table(rng, &mut kinds, size);
     let bytes = lend(rng, &mut kinds, &lending::TABLE, &table);
     let length = kinds.make(rng, WRITTEN, &LENGTHS, &FORMULA_LENGTH);
-    let text = kinds.make(rng, TEXT, &formulas::TEXTS, &table);
+    let text = kinds.make(rng, TEXT, &formula_texts::TEXTS, &table);
     let case = compare::ReadFormula { table: bytes, text, formula: lent(rng, length) };
     Input { case, kinds: kinds.0 }
 }
@@ -233,11 +233,11 @@ pub fn explain(rng: &mut Rng) -> Input<compare::Explain> {
         _ => (false, false),
     };
     let table_text = match any_table {
-        true => kinds.make(rng, TABLE_TEXT, &tables::TEXTS, &question.table),
+        true => kinds.make(rng, TABLE_TEXT, &table_texts::TEXTS, &question.table),
         false => question.table.text(),
     };
     let formula_text = match any_formula {
-        true => kinds.make(rng, FORMULA_TEXT, &formulas::TEXTS, &question.table),
+        true => kinds.make(rng, FORMULA_TEXT, &formula_texts::TEXTS, &question.table),
         false => {
             let tokens = formulas::tokens(rng, &question.formula, &question.table);
             formulas::spaced(rng, &tokens)

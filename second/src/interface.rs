@@ -1,9 +1,9 @@
 //! The table of the C interface, one row an entry: its type and its name here, its function in C,
 //! what it is lent in order, and what it writes beside the figure if it accepts.
 //!
-//! From a row follow the entry's type, its place among the [`Entries`](crate::entries::Entries), its
-//! call of the library, its case of the comparison and its turn among the random calls. What is left
-//! to write is a function of that name in `entries`, and one in `fuzz` that makes its inputs.
+//! From a row follow the entry's type, its place among the `Entries`, its call of the library, its
+//! case of the comparison and its turn among the random calls. What is left to write is a function of
+//! that name in `entries`, and one in `fuzz` that makes its inputs.
 
 /// Hands the rows to a macro.
 macro_rules! interface {

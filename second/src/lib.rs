@@ -1,32 +1,41 @@
 //! The second explainer: 01 by other methods than the library's, and what holds the two together.
+//!
+//! The modules stand in layers, and each uses only those above it: replies, texts and prepared bytes;
+//! verdict, listing and words; the entries of each explainer; what is printed; inputs and their
+//! counts; comparisons and times.
 #![deny(unsafe_code)]
 
-pub mod baseline;
-pub mod bench;
 pub mod columns;
-pub mod compare;
-pub mod corpus;
-pub mod digests;
-pub mod entries;
-pub mod enumeration;
+pub mod reply;
+pub mod table;
+pub mod grammar;
 pub mod expansion;
 pub mod formula;
-pub mod fuzz;
-pub mod grammar;
-pub mod inputs;
+pub mod prepared;
+
+pub mod verdict;
+pub mod listing;
+pub mod word;
+pub mod enumeration;
+pub mod run;
+
 pub mod interface;
+pub mod entries;
+pub mod baseline;
 #[allow(unsafe_code)]
 pub mod link;
-pub mod listing;
-pub mod prepared;
+
 pub mod print;
-pub mod program;
-pub mod reply;
-pub mod run;
-pub mod script;
-pub mod table;
-pub mod tally;
-pub mod trials;
-pub mod verdict;
 pub mod views;
-pub mod word;
+
+pub mod tally;
+pub mod inputs;
+pub mod corpus;
+
+pub mod compare;
+pub mod fuzz;
+pub mod trials;
+pub mod program;
+pub mod script;
+pub mod digests;
+pub mod bench;

@@ -6,9 +6,9 @@ use std::path::Path;
 use std::process::{Command, Output, Stdio};
 
 use crate::inputs::folders::{self, NUMBERS, WAYS};
-use crate::inputs::kinds::{Kind, must};
+use crate::inputs::kinds::must;
 use crate::print;
-use crate::tally::{Outcome, Tally};
+use crate::tally::{Kind, Outcome, Tally};
 use crate::trials::{self, Trials};
 
 const PART: &str = "folder";

@@ -1,7 +1,5 @@
 //! What an entry answers, and the refusals of 01's table with their numbers and figures.
 
-use crate::prepared::{FORMULA_LENGTH, TABLE_LENGTH};
-
 /// The returned number (0 if accepted) and figure.
 #[derive(Clone, Copy, Debug, PartialEq, Eq)]
 pub struct Reply {
@@ -32,8 +30,8 @@ pub enum Refusal {
     RowPlaces(usize),
     EdgePlaces(usize),
     Word(usize),
-    ShortTable,
-    ShortFormula,
+    /// A lent buffer, by the length that it must have.
+    ShortBuffer(usize),
 }
 
 impl From<Refusal> for Reply {
@@ -53,8 +51,7 @@ impl From<Refusal> for Reply {
             Refusal::RowPlaces(needed) => (11, needed),
             Refusal::EdgePlaces(needed) => (12, needed),
             Refusal::Word(index) => (13, index),
-            Refusal::ShortTable => (14, TABLE_LENGTH),
-            Refusal::ShortFormula => (14, FORMULA_LENGTH),
+            Refusal::ShortBuffer(needed) => (14, needed),
         };
         Reply { number, figure: figure as u64 }
     }

@@ -6,11 +6,11 @@ use std::path::Path;
 use std::process::{Command, Output, Stdio};
 
 use crate::inputs::folders::{Files, NUMBERS};
-use crate::inputs::kinds::{self, Kind, must};
+use crate::inputs::kinds::{self, must};
 use crate::inputs::views::{WAYS, folder, word_count};
 use crate::print;
 use crate::reply::Reply;
-use crate::tally::{Expected, Outcome, Tally};
+use crate::tally::{Expected, Kind, Outcome, Tally};
 use crate::trials::{self, Trials, shown};
 use crate::views::{self, View};
 

@@ -4,8 +4,6 @@
 use std::collections::{BTreeMap, BTreeSet};
 use std::fmt;
 
-use crate::inputs::kinds::Kind;
-
 /// An answer's number and, where it is one of a few, its figure.
 #[derive(Clone, Copy, Debug, PartialEq, Eq, PartialOrd, Ord)]
 pub struct Outcome {
@@ -33,6 +31,19 @@ impl fmt::Display for Outcome {
             None => write!(to, "{}", self.number),
             Some(figure) => write!(to, "{}, figure {figure}", self.number),
         }
+    }
+}
+
+/// A part of an input, and what it is there.
+#[derive(Clone, Copy, Debug, PartialEq, Eq, PartialOrd, Ord)]
+pub struct Kind {
+    pub part: &'static str,
+    pub name: &'static str,
+}
+
+impl fmt::Display for Kind {
+    fn fmt(&self, to: &mut fmt::Formatter) -> fmt::Result {
+        write!(to, "{}: {}", self.part, self.name)
     }
 }
 

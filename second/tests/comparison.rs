@@ -2,10 +2,9 @@
 
 use second::entries::{self, Entries, SECOND};
 use second::fuzz;
-use second::inputs::kinds::Kind;
 use second::prepared::{FORMULA_LENGTH, TABLE_LENGTH};
 use second::reply::Reply;
-use second::tally::{Outcome, Tally};
+use second::tally::{Kind, Outcome, Tally};
 
 /// What the comparison tells of an explainer that is wrong in one entry.
 fn told(wrong: Entries) -> String {

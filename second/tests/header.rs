@@ -52,7 +52,7 @@ fn constants() -> Vec<(&'static str, usize)> {
         ("ROWS_SHORT", number(Refusal::RowPlaces(0))),
         ("EDGES_SHORT", number(Refusal::EdgePlaces(0))),
         ("WORD_BAD", number(Refusal::Word(0))),
-        ("BUFFER_SHORT", number(Refusal::ShortTable)),
+        ("BUFFER_SHORT", number(Refusal::ShortBuffer(0))),
     ]
 }
 

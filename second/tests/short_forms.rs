@@ -9,7 +9,7 @@ use second::entries;
 use second::expansion::written_out;
 use second::formula::{Class, Formula, MAX_BYTES};
 use second::grammar::{Mark, Notation, derive};
-use second::inputs::formulas;
+use second::inputs::formula_texts;
 use second::inputs::kinds::Kinds;
 use second::inputs::rng::Rng;
 use second::inputs::{short, tables};
@@ -348,7 +348,7 @@ fn many(seed: u64, count: u64) -> impl Iterator<Item = (Table, Vec<u8>)> {
     (0..count).map(move |index| {
         let rng = &mut Rng::of_input(seed, "short forms", index);
         let table = tables::table(rng, &mut Kinds::default(), tables::Size::Small);
-        let text = formulas::text(rng, &table);
+        let text = formula_texts::text(rng, &table);
         (table, text)
     })
 }

@@ -3,7 +3,8 @@
 
 use super::automaton::listed;
 use super::prepared::{checked_formula, checked_table};
-use super::{read_formula, read_table};
+use super::read_formula::read_formula;
+use super::read_table::read_table;
 use crate::prepared::{FORMULA_LENGTH, TABLE_LENGTH};
 use crate::reply::{Refusal, Reply};
 
@@ -20,10 +21,10 @@ pub fn explain(
     edge_count: &mut u64,
 ) -> Reply {
     if table.len() < TABLE_LENGTH {
-        return Refusal::ShortTable.into();
+        return Refusal::ShortBuffer(TABLE_LENGTH).into();
     }
     if formula.len() < FORMULA_LENGTH {
-        return Refusal::ShortFormula.into();
+        return Refusal::ShortBuffer(FORMULA_LENGTH).into();
     }
     let (mut table_read, mut formula_read) = ([0; TABLE_LENGTH], [0; FORMULA_LENGTH]);
     let mut reply = read_table(table_text, &mut table_read);

@@ -1,13 +1,14 @@
 //! The same entries written for speed, as a measure for the benchmarks: one pass over each text,
 //! labelling by worklist over predecessors, target places as masks.
 
-mod automaton;
-mod explain;
+mod labels;
+mod prepared;
 mod graph;
 mod labelling;
-mod prepared;
-mod read_formula;
+mod automaton;
 mod read_table;
+mod read_formula;
+mod explain;
 
 pub use automaton::{accepts, build};
 pub use explain::explain;

@@ -1,6 +1,6 @@
 //! Refusals 14 and 10, and the views of prepared bytes.
 
-use super::graph::SILENT_COLUMNS;
+use super::labels::SILENT_COLUMNS;
 use crate::formula::MAX_NODES;
 use crate::prepared::{
     FORMULA_LENGTH, NAME_SLOT, NAMES, NODE_SLOT, NODES, TABLE_LENGTH, TRANSITION_SLOT, TRANSITIONS,
@@ -50,8 +50,8 @@ impl Formula {
 }
 
 pub fn question<'a>(table: &'a [u8], formula: &[u8]) -> Result<(Table<'a>, Formula), Refusal> {
-    let table = table.first_chunk().ok_or(Refusal::ShortTable)?;
-    let formula = formula.first_chunk().ok_or(Refusal::ShortFormula)?;
+    let table = table.first_chunk().ok_or(Refusal::ShortBuffer(TABLE_LENGTH))?;
+    let formula = formula.first_chunk().ok_or(Refusal::ShortBuffer(FORMULA_LENGTH))?;
     let table = checked_table(table).ok_or(Refusal::PreparedTable)?;
     let formula = checked_formula(formula, table.labels).ok_or(Refusal::PreparedFormula)?;
     Ok((table, formula))

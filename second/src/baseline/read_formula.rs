@@ -5,16 +5,16 @@ use super::prepared::{
     checked_table, complete,
 };
 use crate::formula::{MAX_BYTES, MAX_NODES};
-use crate::prepared::{FORMULA_LENGTH, NAME_SLOT, NODE_SLOT, NODES};
+use crate::prepared::{FORMULA_LENGTH, NAME_SLOT, NODE_SLOT, NODES, TABLE_LENGTH};
 use crate::reply::{Refusal, Reply};
 use crate::table::{MAX_STEM, is_name_byte};
 
 pub fn read_formula(table: &[u8], text: &[u8], formula: &mut [u8]) -> Reply {
     let Some(table) = table.first_chunk() else {
-        return Refusal::ShortTable.into();
+        return Refusal::ShortBuffer(TABLE_LENGTH).into();
     };
     let Some(lent) = formula.first_chunk_mut::<FORMULA_LENGTH>() else {
-        return Refusal::ShortFormula.into();
+        return Refusal::ShortBuffer(FORMULA_LENGTH).into();
     };
     let Some(table) = checked_table(table) else {
         return Refusal::PreparedTable.into();

@@ -6,7 +6,7 @@ use crate::table::{MAX_LABELS, MAX_STATES, MAX_STEM, MAX_TRANSITIONS, is_name_by
 
 pub fn read_table(text: &[u8], table: &mut [u8]) -> Reply {
     let Some(lent) = table.first_chunk_mut::<TABLE_LENGTH>() else {
-        return Refusal::ShortTable.into();
+        return Refusal::ShortBuffer(TABLE_LENGTH).into();
     };
     // A refusal may come on the last line and must leave every lent byte.
     let mut form = [0; TABLE_LENGTH];

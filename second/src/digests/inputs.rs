@@ -1,6 +1,6 @@
 //! The digest of the inputs themselves, a buffer by its length and the number that fills it.
 
-use super::line;
+use super::lines::line;
 use super::sha256::Sha256;
 use crate::corpus::{File, Input, Kind, Lent};
 

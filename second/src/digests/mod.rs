@@ -1,15 +1,19 @@
 //! Digests of every reply and every lent byte over a corpus, one line for each kind of input, and
 //! their comparison with the stored ones.
 
-pub mod answers;
-mod inputs;
 pub mod sha256;
+mod lines;
+mod inputs;
+pub mod answers;
 
 use std::collections::BTreeMap;
+
+pub use lines::difference;
 
 use crate::corpus::{self, Input, Kind};
 use answers::Explainer;
 use inputs::Inputs;
+use lines::line;
 use sha256::{Sha256, hex};
 
 /// Inputs of many kinds, whose digests stand in a file of the same name in `corpus/`.
@@ -64,11 +68,6 @@ impl Corpus {
     }
 }
 
-fn line(entry: &str, kind: &str, count: u64, digest: [u8; 32], numbers: &str) -> String {
-    let line = format!("{entry:<12}  {kind:<30}  {count:>6}  {}  {numbers}", hex(&digest));
-    line.trim_end().to_owned()
-}
-
 /// Of one kind; each input is shown before it is answered.
 pub fn kind_line(
     explainer: &Explainer,
@@ -121,30 +120,4 @@ pub fn inputs_line(corpus: &Corpus) -> String {
         kind.inputs().for_each(|input| inputs.add(&input));
     }
     inputs.line()
-}
-
-/// The lines that differ, stored ones after `-`, new ones after `+`. None if both have the same
-/// lines in the same order, whatever the comments say.
-pub fn difference(stored: &str, new: &str) -> Option<String> {
-    let [stored, new] = [stored, new].map(digest_lines);
-    if stored == new {
-        return None;
-    }
-    let key = |line: &str| line.split_whitespace().take(2).collect::<Vec<_>>().join(" ");
-    let mut told = Vec::new();
-    for line in stored.iter().filter(|line| !new.contains(line)) {
-        told.push(format!("- {line}"));
-        let others = new.iter().filter(|other| key(other) == key(line));
-        told.extend(others.map(|other| format!("+ {other}")));
-    }
-    let is_stored = |line: &str| stored.iter().any(|other| key(other) == key(line));
-    told.extend(new.iter().filter(|line| !is_stored(line)).map(|line| format!("+ {line}")));
-    if told.is_empty() {
-        told.push("the same lines stand in another order, or more than once".to_owned());
-    }
-    Some(told.join("\n"))
-}
-
-fn digest_lines(file: &str) -> Vec<&str> {
-    file.lines().filter(|line| !line.starts_with('#') && !line.trim().is_empty()).collect()
 }

@@ -1,7 +1,7 @@
 //! What may have happened to a text file.
 
+use super::bytes::{TELLING, random_bytes};
 use super::rng::Rng;
-use super::{TELLING, random_bytes};
 
 pub type Edit = fn(&mut Rng, &mut Vec<u8>);
 

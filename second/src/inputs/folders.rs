@@ -2,10 +2,10 @@
 //! file can be.
 
 use super::edits::{self, Edit};
-use super::kinds::{Kinds, pick};
+use super::kinds::Kinds;
 use super::questions::{Question, question};
 use super::rng::Rng;
-use super::{formulas, marks, short, tables};
+use super::{formula_texts, formulas, marks, short, table_texts, tables};
 use crate::formula::{MAX_BYTES, MAX_NODES};
 use crate::table::{MAX_STATES, MAX_TRANSITIONS, Step, Table};
 
@@ -48,55 +48,31 @@ const fn way(name: &'static str, numbers: &'static [u32], files: fn(&mut Rng) ->
 
 pub const WAYS: [Way; 74] = [
     way("whole texts", &[0], |rng| whole(rng).files()),
-    way("table of any text", &[0, 1], |rng| with_table(rng, any_table_text)),
+    way("table of any text", &[0, 1], |rng| with_table(rng, table_texts::text)),
     way("formula of any text", &[0, 6], |rng| over(rng, small_table).files()),
-    way("number out of range", &[2], |rng| with_table(rng, tables::out_of_range)),
-    way("name used twice", &[3], |rng| with_table(rng, tables::name_used_twice)),
-    way("transition not above", &[4], |rng| with_table(rng, tables::not_above)),
-    way("name that the table lacks", &[7], |rng| with_formula(rng, formulas::lacking_name)),
+    way("number out of range", &[2], |rng| with_table(rng, table_texts::out_of_range)),
+    way("name used twice", &[3], |rng| with_table(rng, table_texts::name_used_twice)),
+    way("transition not above", &[4], |rng| with_table(rng, table_texts::not_above)),
+    way("name that the table lacks", &[7], |rng| with_formula(rng, formula_texts::lacking_name)),
     way("name unknown only by its mark", &[7], |rng| with_formula(rng, marks::unknown_by_mark)),
-    way("operands of a direction", &[0], |rng| {
-        with_formula(rng, |rng, table| {
-            let tokens = marks::directed_tokens(rng, table);
-            formulas::spaced(rng, &tokens)
-        })
-    }),
-    way("table: a mark doubled", &[1], |rng| {
-        with_table(rng, |rng, table| marks::in_table(rng, table, marks::double))
-    }),
-    way("table: a blank before a mark", &[1], |rng| {
-        with_table(rng, |rng, table| marks::in_table(rng, table, marks::separate))
-    }),
-    way("table: a mark alone", &[1], |rng| {
-        with_table(rng, |rng, table| marks::in_table(rng, table, marks::leave_alone))
-    }),
-    way("table: thirteen letters before a mark", &[1], |rng| {
-        with_table(rng, |rng, table| marks::in_table(rng, table, marks::lengthen))
-    }),
+    way("operands of a direction", &[0], |rng| with_formula(rng, marks::directed)),
+    way("table: a mark doubled", &[1], |rng| mark_in_table(rng, marks::double)),
+    way("table: a blank before a mark", &[1], |rng| mark_in_table(rng, marks::separate)),
+    way("table: a mark alone", &[1], |rng| mark_in_table(rng, marks::leave_alone)),
+    way("table: thirteen letters before a mark", &[1], |rng| mark_in_table(rng, marks::lengthen)),
     way("table: another mark", &[3], |rng| {
         let table = tables::with_three_of_a_stem(rng);
         Texts { table: marks::in_table(rng, &table, marks::exchange), ..whole(rng) }.files()
     }),
     way("table: a mark added", &[1], |rng| with_table(rng, marks::added_in_table)),
-    way("formula: a mark doubled", &[6], |rng| {
-        with_formula(rng, |rng, table| marks::in_formula(rng, table, marks::double))
-    }),
-    way("formula: a blank before a mark", &[6], |rng| {
-        with_formula(rng, |rng, table| marks::in_formula(rng, table, marks::separate))
-    }),
+    way("formula: a mark doubled", &[6], |rng| mark_in_formula(rng, marks::double)),
+    way("formula: a blank before a mark", &[6], |rng| mark_in_formula(rng, marks::separate)),
     way("formula: thirteen letters before a mark", &[6], |rng| {
-        with_formula(rng, |rng, table| marks::in_formula(rng, table, marks::lengthen))
+        mark_in_formula(rng, marks::lengthen)
     }),
-    way("formula: another mark", &[7], |rng| {
-        with_formula(rng, |rng, table| marks::in_formula(rng, table, marks::exchange))
-    }),
+    way("formula: another mark", &[7], |rng| mark_in_formula(rng, marks::exchange)),
     way("formula: a mark added", &[6, 7], |rng| with_formula(rng, marks::added_in_formula)),
-    way("short forms", &[0], |rng| {
-        with_formula(rng, |rng, table| {
-            let tokens = short::tokens(rng, table);
-            formulas::spaced(rng, &tokens)
-        })
-    }),
+    way("short forms", &[0], |rng| with_formula(rng, short::line)),
     way("short forms of 39 to 41 nodes", &[0, 8], |rng| {
         with_formula(rng, short::about_forty_nodes)
     }),
@@ -118,8 +94,8 @@ pub const WAYS: [Way; 74] = [
     way("formula: `.` or `;` in DIA or BOX", &[6], |rng| with_formula(rng, short::no_set)),
     way("formula: `&` without a side", &[6], |rng| with_formula(rng, short::missing_side)),
     way("formula: `&` in a set", &[6], |rng| with_formula(rng, short::in_a_set)),
-    way("over 40 nodes", &[8], |rng| with_formula(rng, formulas::over_forty_nodes)),
-    way("node without class", &[9], |rng| with_formula(rng, formulas::without_class)),
+    way("over 40 nodes", &[8], |rng| with_formula(rng, formula_texts::over_forty_nodes)),
+    way("node without class", &[9], |rng| with_formula(rng, formula_texts::without_class)),
     way("formula of about 40 nodes", &[0, 8], |rng| {
         formula_edited(rng, |rng, text| {
             text.splice(.., std::iter::repeat_n(b'~', rng.between(38, 41)).chain([b'T']));
@@ -236,13 +212,13 @@ fn small_table(rng: &mut Rng) -> Table {
 /// A table and any text over it.
 fn over(rng: &mut Rng, table: fn(&mut Rng) -> Table) -> Texts {
     let table = table(rng);
-    let mut formula = formulas::text(rng, &table);
+    let mut formula = formula_texts::text(rng, &table);
     edits::end_or_not(rng, &mut formula);
     Texts { table: table.text(), formula }
 }
 
 /// A table's text made so of a small table or of the largest, beside a formula.
-fn with_table(rng: &mut Rng, text: fn(&mut Rng, &Table) -> Vec<u8>) -> Files {
+fn with_table(rng: &mut Rng, text: impl Fn(&mut Rng, &Table) -> Vec<u8>) -> Files {
     let table = match rng.one_in(4) {
         true => tables::longest_table(rng),
         false => small_table(rng),
@@ -250,16 +226,20 @@ fn with_table(rng: &mut Rng, text: fn(&mut Rng, &Table) -> Vec<u8>) -> Files {
     Texts { table: text(rng, &table), ..whole(rng) }.files()
 }
 
-fn any_table_text(rng: &mut Rng, table: &Table) -> Vec<u8> {
-    (pick(rng, &tables::TEXTS).make)(rng, table)
+fn mark_in_table(rng: &mut Rng, damage: marks::Damage) -> Files {
+    with_table(rng, |rng, table| marks::in_table(rng, table, damage))
 }
 
 /// A small table and a formula's text made so over it, ended by LF or not.
-fn with_formula(rng: &mut Rng, text: fn(&mut Rng, &Table) -> Vec<u8>) -> Files {
+fn with_formula(rng: &mut Rng, text: impl Fn(&mut Rng, &Table) -> Vec<u8>) -> Files {
     let table = small_table(rng);
     let mut formula = text(rng, &table);
     edits::end_or_not(rng, &mut formula);
     Texts { table: table.text(), formula }.files()
+}
+
+fn mark_in_formula(rng: &mut Rng, damage: marks::Damage) -> Files {
+    with_formula(rng, |rng, table| marks::in_formula(rng, table, damage))
 }
 
 /// So many untils one in the other: about as many rows for each state, and about half the square

@@ -1,22 +1,7 @@
 //! Ways to make a part of an input, each with a name by which its inputs are counted.
 
-use std::fmt;
-
 use super::rng::Rng;
-use crate::tally::{Expected, Outcome};
-
-/// A part of an input, and what it is there.
-#[derive(Clone, Copy, Debug, PartialEq, Eq, PartialOrd, Ord)]
-pub struct Kind {
-    pub part: &'static str,
-    pub name: &'static str,
-}
-
-impl fmt::Display for Kind {
-    fn fmt(&self, to: &mut fmt::Formatter) -> fmt::Result {
-        write!(to, "{}: {}", self.part, self.name)
-    }
-}
+use crate::tally::{Expected, Kind, Outcome};
 
 /// The kinds of an input's parts.
 #[derive(Default)]

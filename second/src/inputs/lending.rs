@@ -1,10 +1,11 @@
 //! Prepared bytes as they are lent: whole, damaged where a field begins or ends and elsewhere, one
 //! byte short or long.
 
-use super::kinds::{self, Kind, Kinds, Way, must, way};
+use super::bytes::{another_byte, random_bytes};
+use super::kinds::{self, Kinds, Way, must, way};
 use super::questions::Question;
 use super::rng::Rng;
-use super::{another_byte, formulas, random_bytes, tables};
+use super::{formulas, tables};
 use crate::formula::MAX_NODES;
 use crate::prepared::{
     self, FORMULA_LENGTH, NAME_SLOT, NAMES, NODE_SLOT, NODES, TABLE_LENGTH, TRANSITION_SLOT,
@@ -12,7 +13,7 @@ use crate::prepared::{
 };
 use crate::reply::{Refusal, Reply};
 use crate::table::{MAX_LABELS, MAX_TRANSITIONS, Table};
-use crate::tally::{Expected, Outcome};
+use crate::tally::{Expected, Kind, Outcome};
 
 /// A byte of a prepared form, if this one has it.
 pub struct Place<Of> {
@@ -82,14 +83,14 @@ const TABLE_PLACES: [Place<Table>; 29] = [
     place("first unused name slot, last byte", |_, table| {
         (table.labels() < MAX_LABELS).then_some(NAMES + (table.labels() + 1) * NAME_SLOT - 1)
     }),
-    place("some unused name slot, first byte", |rng, table| unused_name(rng, table)),
+    place("some unused name slot, first byte", unused_name),
     place("some unused name slot, last byte", |rng, table| {
         Some(unused_name(rng, table)? + NAME_SLOT - 1)
     }),
     place("last name slot, first byte", |_, _| Some(TRANSITIONS - NAME_SLOT)),
     place("last name slot, last byte", |_, _| Some(TRANSITIONS - 1)),
     place("first transition's first byte", |_, _| Some(TRANSITIONS)),
-    place("from of a transition", |rng, table| transition(rng, table)),
+    place("from of a transition", transition),
     place("label of a transition", |rng, table| Some(transition(rng, table)? + 1)),
     place("to of a transition", |rng, table| Some(transition(rng, table)? + 2)),
     place("last transition's last byte", |_, table| {
@@ -137,7 +138,7 @@ fn unused_transition(table: &Table) -> Option<usize> {
 
 const FORMULA_PLACES: [Place<Question>; 13] = [
     place("node count", |_, _| Some(0)),
-    place("kind of a node", |rng, question| node(rng, question)),
+    place("kind of a node", node),
     place("first mask, first byte", |rng, question| Some(node(rng, question)? + 1)),
     place("first mask, last byte", |rng, question| Some(node(rng, question)? + 8)),
     place("second mask, first byte", |rng, question| Some(node(rng, question)? + 9)),

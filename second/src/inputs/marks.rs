@@ -1,10 +1,9 @@
 //! The marks of names, as they may be damaged in a table's line or in a formula, and the operands of
 //! a direction.
 
-use super::formulas::{self, absent_name, is_name};
-use super::kinds::Kinds;
+use super::formulas::{absent_name, is_name, small_tokens, spaced};
 use super::rng::Rng;
-use super::tables::{marked, name, with_counts};
+use super::tables::{marked, name, with_labels};
 use crate::table::{Direction, MARKS, MAX_STEM, Table};
 
 /// Of a name.
@@ -34,8 +33,8 @@ pub fn lengthen(rng: &mut Rng, name: &mut Vec<u8>) {
 }
 
 pub fn exchange(_: &mut Rng, name: &mut Vec<u8>) {
-    if let Some(mark) = name.last_mut() {
-        *mark = other(*mark);
+    if let Some(mark) = name.pop() {
+        name.push(other(mark));
     }
 }
 
@@ -51,16 +50,10 @@ fn has_mark(name: &[u8]) -> bool {
     Direction::of(name) != Direction::None
 }
 
-/// One of so many for which this is so, if there is any.
-pub fn some(rng: &mut Rng, count: usize, is_fit: impl Fn(usize) -> bool) -> Option<usize> {
-    let fit: Vec<usize> = (0..count).filter(|&at| is_fit(at)).collect();
-    (!fit.is_empty()).then(|| rng.pick(&fit))
-}
-
 /// The table's text with the mark of some name damaged so.
 pub fn in_table(rng: &mut Rng, table: &Table, damage: Damage) -> Vec<u8> {
-    let mut table = with_labels(rng, table);
-    let label = match some(rng, table.labels(), |label| has_mark(&table.names[label])) {
+    let mut table = with_labels(rng, table, 1);
+    let label = match rng.some(table.labels(), |label| has_mark(&table.names[label])) {
         Some(label) => label,
         None => {
             let label = rng.below(table.labels());
@@ -74,24 +67,17 @@ pub fn in_table(rng: &mut Rng, table: &Table, damage: Damage) -> Vec<u8> {
 
 /// The table's text with one more mark, behind a name that has one or none.
 pub fn added_in_table(rng: &mut Rng, table: &Table) -> Vec<u8> {
-    let mut table = with_labels(rng, table);
+    let mut table = with_labels(rng, table, 1);
     let label = rng.below(table.labels());
     table.names[label].push(rng.pick(&MARKS));
     table.text()
-}
-
-fn with_labels(rng: &mut Rng, table: &Table) -> Table {
-    match table.labels() {
-        0 => with_counts(rng, &mut Kinds::default(), 4, 5, 9),
-        _ => table.clone(),
-    }
 }
 
 /// A formula's text with the mark of some name damaged so.
 pub fn in_formula(rng: &mut Rng, table: &Table, damage: Damage) -> Vec<u8> {
     let is_fit = |token: &[u8]| is_name(token) && has_mark(token);
     let (mut tokens, at) = with_name(rng, table, is_fit, |rng, table| {
-        let known = some(rng, table.labels(), |label| has_mark(&table.names[label]));
+        let known = rng.some(table.labels(), |label| has_mark(&table.names[label]));
         known.map_or_else(
             || marked(stem(rng, table), rng.pick(&MARKS)),
             |label| table.names[label].clone(),
@@ -114,7 +100,7 @@ pub fn unknown_by_mark(rng: &mut Rng, table: &Table) -> Vec<u8> {
     let (mut tokens, at) = with_name(rng, table, is_name, stem);
     let stem = stem(rng, table);
     let others = [stem.clone(), marked(stem.clone(), MARKS[0]), marked(stem, MARKS[1])];
-    let lacking = some(rng, others.len(), |which| !table.names.contains(&others[which]));
+    let lacking = rng.some(others.len(), |which| !table.names.contains(&others[which]));
     tokens[at] = match lacking {
         Some(which) => others[which].clone(),
         None => absent_name(rng),
@@ -124,7 +110,7 @@ pub fn unknown_by_mark(rng: &mut Rng, table: &Table) -> Vec<u8> {
 
 /// The stem of some name of the table, or any if it has none.
 fn stem(rng: &mut Rng, table: &Table) -> Vec<u8> {
-    let Some(label) = some(rng, table.labels(), |_| true) else {
+    let Some(label) = rng.some(table.labels(), |_| true) else {
         return name(rng, MAX_STEM);
     };
     let mut stem = table.names[label].clone();
@@ -142,8 +128,8 @@ fn with_name(
     is_fit: impl Fn(&[u8]) -> bool,
     put: fn(&mut Rng, &Table) -> Vec<u8>,
 ) -> (Vec<Vec<u8>>, usize) {
-    let tokens = formulas::small_tokens(rng, table);
-    match some(rng, tokens.len(), |at| is_fit(&tokens[at])) {
+    let tokens = small_tokens(rng, table, 9);
+    match rng.some(tokens.len(), |at| is_fit(&tokens[at])) {
         Some(at) => (tokens, at),
         None => (until(vec![put(rng, table)]), 2),
     }
@@ -155,12 +141,18 @@ fn until(set: Vec<Vec<u8>>) -> Vec<Vec<u8>> {
     [keyword, open, set, close, arm].concat()
 }
 
+/// A formula's text with operands of a direction.
+pub fn directed(rng: &mut Rng, table: &Table) -> Vec<u8> {
+    let tokens = directed_tokens(rng, table);
+    spaced(rng, &tokens)
+}
+
 /// A formula's tokens, some of whose names and `*` have become operands of a direction, alone, below
 /// `~`, in brackets and beside others.
-pub fn directed_tokens(rng: &mut Rng, table: &Table) -> Vec<Vec<u8>> {
+fn directed_tokens(rng: &mut Rng, table: &Table) -> Vec<Vec<u8>> {
     let is_operand = |token: &[u8]| is_name(token) || token == b"*";
     let mut tokens = Vec::new();
-    for token in formulas::small_tokens(rng, table) {
+    for token in small_tokens(rng, table, 9) {
         match is_operand(&token) && rng.one_in(2) {
             true => operand(rng, table, 3, &mut tokens),
             false => tokens.push(token),

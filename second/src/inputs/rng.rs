@@ -40,6 +40,12 @@ impl Rng {
         items[self.below(items.len())]
     }
 
+    /// One of so many for which this is so, if there is any.
+    pub fn some(&mut self, count: usize, is_fit: impl Fn(usize) -> bool) -> Option<usize> {
+        let fit: Vec<usize> = (0..count).filter(|&at| is_fit(at)).collect();
+        (!fit.is_empty()).then(|| self.pick(&fit))
+    }
+
     pub fn shuffle<Item>(&mut self, items: &mut [Item]) {
         for last in (1..items.len()).rev() {
             items.swap(last, self.below(last + 1));

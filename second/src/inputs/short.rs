@@ -2,12 +2,17 @@
 //! `&`, at the limits of nodes and bytes, in a class or in a name.
 
 use super::formulas::{self, absent_name, is_name, spaced, with_blanks};
-use super::marks::some;
 use super::rng::Rng;
 use crate::formula::{Class, MAX_BYTES, MAX_NODES};
 use crate::table::Table;
 
 type Tokens = Vec<Vec<u8>>;
+
+/// A line with a class that has some short form.
+pub fn line(rng: &mut Rng, table: &Table) -> Vec<u8> {
+    let tokens = tokens(rng, table);
+    spaced(rng, &tokens)
+}
 
 /// Of a line with a class, mostly of a few nodes, that has some short form.
 pub fn tokens(rng: &mut Rng, table: &Table) -> Tokens {
@@ -130,7 +135,7 @@ fn term(rng: &mut Rng, table: &Table) -> Tokens {
 pub fn lacking_name(rng: &mut Rng, table: &Table) -> Vec<u8> {
     let mut tokens = tokens(rng, table);
     let first = tokens.iter().position(|token| is_short(token)).expect("a short form");
-    match some(rng, tokens.len(), |at| at > first && is_name(&tokens[at])) {
+    match rng.some(tokens.len(), |at| at > first && is_name(&tokens[at])) {
         Some(at) => tokens[at] = absent_name(rng),
         None => {
             let head: [&[u8]; 5] = [b"AG", b"BOX", b"[", b"", b"]"];
@@ -151,7 +156,7 @@ fn damaged(
 ) -> Vec<u8> {
     loop {
         let mut tokens = tokens(rng, table);
-        if let Some(at) = some(rng, tokens.len(), |at| is_fit(&tokens[at])) {
+        if let Some(at) = rng.some(tokens.len(), |at| is_fit(&tokens[at])) {
             damage(rng, &mut tokens, at);
             return spaced(rng, &tokens);
         }
@@ -233,7 +238,7 @@ pub fn missing_side(rng: &mut Rng, table: &Table) -> Vec<u8> {
     let closes = |token: &[u8]| matches!(token, b")" | b"|" | b"&");
     let lacks_side =
         |at: usize| at == 0 || at == tokens.len() || opens(&tokens[at - 1]) || closes(&tokens[at]);
-    let at = some(rng, tokens.len() + 1, lacks_side).expect("the ends of the line");
+    let at = rng.some(tokens.len() + 1, lacks_side).expect("the ends of the line");
     tokens.insert(at, b"&".to_vec());
     spaced(rng, &tokens)
 }
@@ -246,7 +251,7 @@ pub fn in_a_set(rng: &mut Rng, table: &Table) -> Vec<u8> {
         |token| token == b"[",
         |rng, tokens, at| {
             let end = behind_set(tokens, at) - 1;
-            let joint = some(rng, end, |joint| joint > at && tokens[joint] == b"|");
+            let joint = rng.some(end, |joint| joint > at && tokens[joint] == b"|");
             match joint.filter(|_| rng.one_in(2)) {
                 Some(joint) => tokens[joint] = b"&".to_vec(),
                 None => drop(tokens.splice(end..end, [b"&".to_vec(), b"*".to_vec()])),

@@ -3,11 +3,11 @@
 
 use std::ops::RangeInclusive;
 
-use super::kinds::{Kind, Kinds};
+use super::kinds::Kinds;
 use super::rng::Rng;
 use crate::listing::{Edge, Listing, Row};
 use crate::table::{IDLE, SILENT, is_silent};
-use crate::tally::{Expected, Outcome};
+use crate::tally::{Expected, Kind, Outcome};
 use crate::word::MAX_WORD;
 
 const PART: &str = "word";
