@@ -6,6 +6,11 @@ use lib.ListN.{getD}
 use Rattle.lts.specs.Steps.{Step}
 use Rattle.tables.specs.Access.{stepIn}
 use Rattle.lts.specs.Reading.{Header, headerOf, headerLaidOut, labelLaidOut, stepOf, stepLaidOut}
+use Rattle.columns.specs.Read.{columnAt}
+use Rattle.columns.specs.declared.Column.{Column}
+use Rattle.columns.specs.declared.Column.the-variants.{Number, Bad}
+use Rattle.table_lines.specs.declared.Pair.{Pair}
+use Rattle.table_lines.specs.declared.Pair.the-variants.{Numbers, NoPair}
 use Rattle.table_lines.specs.declared.HeaderFields.{HeaderFields}
 use Rattle.table_lines.specs.declared.HeaderLine.{HeaderLine}
 use Rattle.table_lines.specs.declared.HeaderLine.the-variants.{Header as LaidHeader, NoHeader}
@@ -14,6 +19,15 @@ use Rattle.table_lines.specs.declared.LabelLine.the-variants.{Label, NoL
 use Rattle.table_lines.specs.declared.TransitionLine.{TransitionLine}
 use Rattle.table_lines.specs.declared.TransitionLine.the-variants.{Row, NoRow}
 use Rattle.lts.specs.Lines.{LineAt, NoLineAt, Labelled}
+
+-- The numbers in two columns in a row, if both hold one.
+abbrev pub pairOf : Column → Column → Pair
+pairOf (Number a) (Number b) = Numbers a b
+pairOf (Number a) Bad = NoPair
+pairOf Bad y = NoPair
+
+unfoldable pub pairAt : List ℕ → ℕ → Pair
+pairAt s at = pairOf (columnAt s at) (columnAt s (at + 6))
 
 -- The values in the words of reading.
 abbrev pub header : HeaderFields → Header

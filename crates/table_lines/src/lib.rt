@@ -7,13 +7,19 @@ ghost use Prim.Native.Nat.{_+_, _<_, _≤_};
 ghost use lib.Dec.{eqb};
 ghost use lib.ListN.{length, getD};
 ghost use Rattle.lts.specs.Reading.{headerInRange, stepInRange};
-ghost use Rattle.table_lines.specs.LineReplies.{header, HeaderAnswer, LabelAnswer, TransitionAnswer};
+ghost use Rattle.table_lines.specs.LineReplies.{pairAt, header, HeaderAnswer, LabelAnswer, TransitionAnswer};
 ghost use Rattle.tables.specs.Access.{stepIn};
 use columns::Column;
 use tables::names::read_name;
 use tables::prepared::Transition;
 
 pub mod slots;
+
+// Two numbers in a row.
+enum Pair {
+    Numbers(usize, usize),
+    NoPair,
+}
 
 // What line 1 says.
 pub struct HeaderFields {
@@ -49,31 +55,38 @@ pub fn stands(text: &[u8], at: usize, byte: u8) -> bool
     text[at] == byte
 }
 
+// The numbers in two columns in a row.
+fn read_pair(text: &[u8], at: usize) -> Pair
+    requires { ⌜ at ≤ length (now text) ⌝ }
+    ensures { λ r. ⌜ r ≡ pairAt (now (text .entry)) at ⌝ }
+{
+    let Column::Number(first) = columns::read_column(text, at) else {
+        return Pair::NoPair;
+    };
+    let Column::Number(second) = columns::read_column(text, at + 6) else {
+        return Pair::NoPair;
+    };
+    Pair::Numbers(first, second)
+}
+
 pub fn header_line(text: &[u8]) -> HeaderLine
     ensures { λ r. ⌜ HeaderAnswer (now (text .entry)) r ⌝ }
 {
-    let Column::Number(states) = columns::read_column(text, 0) else {
+    if !stands(text, 24, 10) {
         return HeaderLine::NoHeader;
-    };
-    let Column::Number(labels) = columns::read_column(text, 6) else {
-        return HeaderLine::NoHeader;
-    };
-    let Column::Number(transitions) = columns::read_column(text, 12) else {
-        return HeaderLine::NoHeader;
-    };
-    let Column::Number(start) = columns::read_column(text, 18) else {
-        return HeaderLine::NoHeader;
-    };
-    if stands(text, 24, 10) {
-        HeaderLine::Header(HeaderFields {
-            states: states,
-            labels: labels,
-            transitions: transitions,
-            start: start,
-        })
-    } else {
-        HeaderLine::NoHeader
     }
+    let Pair::Numbers(states, labels) = read_pair(text, 0) else {
+        return HeaderLine::NoHeader;
+    };
+    let Pair::Numbers(transitions, start) = read_pair(text, 12) else {
+        return HeaderLine::NoHeader;
+    };
+    HeaderLine::Header(HeaderFields {
+        states: states,
+        labels: labels,
+        transitions: transitions,
+        start: start,
+    })
 }
 
 pub fn label_line(text: &[u8], at: usize) -> LabelLine
@@ -104,10 +117,7 @@ pub fn transition_line(text: &[u8], at: usize) -> TransitionLine
     requires { ⌜ at ≤ length (now text) ⌝ }
     ensures { λ r. ⌜ TransitionAnswer (now (text .entry)) at r ⌝ }
 {
-    let Column::Number(from) = columns::read_column(text, at) else {
-        return TransitionLine::NoRow;
-    };
-    let Column::Number(label) = columns::read_column(text, at + 6) else {
+    let Pair::Numbers(from, label) = read_pair(text, at) else {
         return TransitionLine::NoRow;
     };
     let Column::Number(to) = columns::read_column(text, at + 12) else {

@@ -151,18 +151,27 @@ fn read_transitions(text: &[u8], from: usize, counts: HeaderFields, slots: &mut 
     Progress::Next(at)
 }
 
+// The first bytes of a prepared table: the counts, and the start.
+fn head_bytes(counts: HeaderFields) -> [u8; HEAD]
+    requires { ⌜ (counts .labels ≤ mostLabels) × (counts .start < 256) ⌝ }
+    ensures { λ r. ⌜ r ≡ headBytes (header counts) ⌝ }
+{
+    [
+        (counts.states % 256) as u8,
+        (counts.states / 256 % 256) as u8,
+        counts.labels as u8,
+        (counts.transitions % 256) as u8,
+        (counts.transitions / 256 % 256) as u8,
+        counts.start as u8,
+    ]
+}
+
 fn write_table(table: &mut [u8], counts: HeaderFields, names: &[u8], slots: &[u8])
     requires { ⌜ (tableLength ≤ length (now table)) × ((length (now names) ≡ namesLength) × (length (now slots) ≡ transitionsLength)) ⌝ }
     requires { ⌜ (counts .states ≤ mostStates) × ((counts .labels ≤ mostLabels) × ((counts .transitions ≤ mostTransitions) × (counts .start < 256))) ⌝ }
     ensures { λ _. ⌜ now (table .exit) ≡ overwritten (headBytes (header counts) ++ (now (names .entry) ++ now (slots .entry))) (now (table .entry)) ⌝ }
 {
-    let mut head = [0u8; HEAD];
-    head[0] = (counts.states % 256) as u8;
-    head[1] = (counts.states / 256 % 256) as u8;
-    head[2] = counts.labels as u8;
-    head[3] = (counts.transitions % 256) as u8;
-    head[4] = (counts.transitions / 256 % 256) as u8;
-    head[5] = counts.start as u8;
+    let head = head_bytes(counts);
     write_at(table, 0, &head);
     write_at(table, HEAD, names);
     write_at(table, TRANSITIONS_AT, slots);

@@ -1,90 +1,62 @@
 -- `header_line` says what header a text starts with, or that none does.
 use borrow.Author.Needs.{needs}
-use mathlib.Core.Path.{sym, _∙_}
-use borrow.Author.Tests.{eqb-true, eqb-false}
+use mathlib.Core.Path.{_≡_, sym, _∙_}
+use mathlib.Core.List.{List}
+use borrow.Author.Tests.{eqb-true, eqb-false, not-true, not-false}
+use Prim.Native.Nat.{ℕ}
+use lib.ListN.{getD}
+use native.Mathlib.Omega.{arith}
 use Rattle.lts.proofs.Laws.Layout.{header-lies, no-header}
-use Rattle.columns.proofs.Laws.ColumnsRead.{column-found, column-lacking}
+use Rattle.lts.proofs.Laws.LinesRead.{byte-within}
+use Rattle.columns.proofs.Laws.ColumnsRead.{ColumnAt}
+use Rattle.table_lines.proofs.Laws.Pairs.{pair-found, pair-lacking}
 use Rattle.table_lines.proofs.header_line.Statement.{statement}
 use Rattle.table_lines.proofs.header_line.Tie as tie
 
-read-column-requires : tie.Need-read-column-requires
-read-column-requires c κs = search needs
+abbrev text : tie.After-stands → List ℕ
+text c = c .before .before .args .text .now
 
-enum-known-states : tie.Need-enum-known-states
-enum-known-states c = search needs
+-- An LF stands behind the place of four numbers.
+ended : (c : tie.Else1) → getD (text (c .before)) 24 256 ≡ 10
+ended c = eqb-true _ _ (sym (c .before .stands .ensures) ∙ not-false _ (c .if1 .left))
 
-enum-told : tie.Need-enum-told
-enum-told c = search needs
+-- The first two are read.
+abbrev begun : tie.After-known-told → tie.Else1
+begun c = c .before .before .before .before
+
+abbrev line : tie.After-known-told → List ℕ
+line c = text (begun c .before)
+
+counts : (c : tie.After-known-told) → ColumnAt (line c) 0 (c .before .states .given .0 .0) × ColumnAt (line c) 6 (c .before .states .given .0 .1 .0)
+counts c = pair-found (line c) 0 _ _ (sym (c .before .before .before .read-pair .ensures) ∙ c .before .states .given .1)
 
 returns : tie.Need-returns
-returns c =
-    let s = c .before .before .before .before .args .text .now in
-    no-header s (λ x y z w p q r t e. column-lacking s 0 x (sym (c .before .before .read-column .ensures) ∙ c .enum-told .given .1) p)
-
-read-column-requires-2 : tie.Need-read-column-requires-2
-read-column-requires-2 c κs = search needs
-
-enum-known-labels : tie.Need-enum-known-labels
-enum-known-labels c = search needs
-
-enum-told-2 : tie.Need-enum-told-2
-enum-told-2 c = search needs
+returns c = no-header (text (c .before)) (λ x y z w p q r t e. eqb-false _ _ (sym (c .before .stands .ensures) ∙ not-true _ (c .if1 .taken)) e)
 
 returns-2 : tie.Need-returns-2
 returns-2 c =
-    let s = c .before .before .before .before .before .before .before .before .args .text .now in
-    no-header s (λ x y z w p q r t e. column-lacking s 6 y (sym (c .before .before .read-column2 .ensures) ∙ c .enum-told2 .given .1) q)
+    let s = text (c .before .before .before .before) in
+    no-header s (λ x y z w p q r t e. pair-lacking s 0 x y (sym (c .before .before .read-pair .ensures) ∙ c .enum-told .given .1) p q)
 
-read-column-requires-3 : tie.Need-read-column-requires-3
-read-column-requires-3 c κs = search needs
-
-enum-known-transitions : tie.Need-enum-known-transitions
-enum-known-transitions c = search needs
-
-enum-told-3 : tie.Need-enum-told-3
-enum-told-3 c = search needs
+read-pair-requires-2 : tie.Need-read-pair-requires-2
+read-pair-requires-2 c κs = omega (arith, byte-within (line c) 24 10 (omega arith) (ended (begun c)))
 
 returns-3 : tie.Need-returns-3
 returns-3 c =
-    let s = c .before .before .before .before .before .before .before .before .before .before .before .before .args .text .now in
-    no-header s (λ x y z w p q r t e. column-lacking s 12 z (sym (c .before .before .read-column3 .ensures) ∙ c .enum-told3 .given .1) r)
-
-read-column-requires-4 : tie.Need-read-column-requires-4
-read-column-requires-4 c κs = search needs
-
-enum-known-start : tie.Need-enum-known-start
-enum-known-start c = search needs
-
-enum-told-4 : tie.Need-enum-told-4
-enum-told-4 c = search needs
+    let s = line (c .before .before .before) in
+    no-header s (λ x y z w p q r t e. pair-lacking s 12 z w (sym (c .before .before .read-pair2 .ensures) ∙ c .enum-told2 .given .1) r t)
 
 returns-4 : tie.Need-returns-4
 returns-4 c =
-    let s = c .before .before .before .before .before .before .before .before .before .before .before .before .before .before .before .before .args .text .now in
-    no-header s (λ x y z w p q r t e. column-lacking s 18 w (sym (c .before .before .read-column4 .ensures) ∙ c .enum-told4 .given .1) t)
-
-stands-requires : tie.Need-stands-requires
-stands-requires c κs = search needs
-
-returns-5 : tie.Need-returns-5
-returns-5 c =
-    let s = c .before .before .before .before .before .before .before .before .before .before .before .before .before .before .before .before .before .before .before .args .text .now in
-    header-lies s
-    (record { states = c .before .before .before .before .before .before .before .before .before .before .before .before .before .before .before .states .given .0 .0; labels = c .before .before .before .before .before .before .before .before .before .before .before .labels .given .0 .0; transitions = c .before .before .before .before .before .before .before .transitions .given .0 .0; start = c .before .before .before .start .given .0 .0 })
-    (column-found s (0) (c .before .before .before .before .before .before .before .before .before .before .before .before .before .before .before .states .given .0 .0) (sym (c .before .before .before .before .before .before .before .before .before .before .before .before .before .before .before .before .before .read-column .ensures) ∙ c .before .before .before .before .before .before .before .before .before .before .before .before .before .before .before .states .given .1))
-    (column-found s (6) (c .before .before .before .before .before .before .before .before .before .before .before .labels .given .0 .0) (sym (c .before .before .before .before .before .before .before .before .before .before .before .before .before .read-column2 .ensures) ∙ c .before .before .before .before .before .before .before .before .before .before .before .labels .given .1))
-    (column-found s (12) (c .before .before .before .before .before .before .before .transitions .given .0 .0) (sym (c .before .before .before .before .before .before .before .before .before .read-column3 .ensures) ∙ c .before .before .before .before .before .before .before .transitions .given .1))
-    (column-found s (18) (c .before .before .before .start .given .0 .0) (sym (c .before .before .before .before .before .read-column4 .ensures) ∙ c .before .before .before .start .given .1))
-    (eqb-true _ _ (sym (c .before .stands .ensures) ∙ c .if1 .taken))
-
-returns-6 : tie.Need-returns-6
-returns-6 c =
-    let s = c .before .before .before .before .before .before .before .before .before .before .before .before .before .before .before .before .before .before .before .args .text .now in
-    no-header s (λ x y z w p q r t e. eqb-false _ _ (sym (c .before .stands .ensures) ∙ c .if1 .left) e)
+    let first = c .before .before .before .before in
+    let x = first .before .states .given .0 in
+    let y = c .before .transitions .given .0 in
+    let rest = pair-found (line first) 12 (y .0) (y .1 .0) (sym (c .before .before .before .read-pair2 .ensures) ∙ c .before .transitions .given .1) in
+    header-lies (line first) (record { states = x .0; labels = x .1 .0; transitions = y .0; start = y .1 .0 })
+    (counts first .0) (counts first .1) (rest .0) (rest .1) (ended (begun first))
 
 pub header-line-spec : {M : Type 1} → statement M
 header-line-spec =
     tie.close
-    (tie.spec read-column-requires enum-known-states enum-told returns read-column-requires-2 enum-known-labels enum-told-2 returns-2
-        read-column-requires-3 enum-known-transitions enum-told-3 returns-3 read-column-requires-4 enum-known-start enum-told-4 returns-4
-        stands-requires returns-5 returns-6)
+    (tie.spec (λ c κs. search needs) returns (λ c κs. search needs) (λ c. search needs) (λ c. search needs) returns-2 read-pair-requires-2
+    (λ c. search needs) (λ c. search needs) returns-3 returns-4)

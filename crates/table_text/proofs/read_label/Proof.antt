@@ -47,18 +47,6 @@ used-before c t h names e f g =
     let name = take (end (known c) - (a .at + 7)) (drop (a .at + 7) (a .text .now)) in
     ap (used names) (line (known c) .name) ∙ sym (used-stored (a .names .now) (a .count) names name e f g) ∙ sym (ap isSome (c .find .ensures)) ∙ h
 
-add-line : tie.Need-add-line
-add-line c = search needs
-
-label-line-requires : tie.Need-label-line-requires
-label-line-requires c κs = search needs
-
-enum-known-number : tie.Need-enum-known-number
-enum-known-number c = search needs
-
-enum-told : tie.Need-enum-told
-enum-told c = search needs
-
 returns : tie.Need-returns
 returns c =
     let start = c .before .before .before .before .before in
@@ -66,18 +54,12 @@ returns c =
     let at = start .args .at in
     λ h left names e f g. label-refused h s at left names _ (omega arith) (subst (LabelAnswer s at) (c .enum-told .given .1) (c .before .before .label-line .ensures))
 
-add-if1 : tie.Need-add-if1
-add-if1 c = search needs
-
 returns-2 : tie.Need-returns-2
 returns-2 c =
     let a = entry (c .before) .args in
     let l = line (c .before) in
     λ h left names e f g.
     label-out-of-order h (a .text .now) (a .at) left names (end (c .before) + 1) (l .bytes) (l .lies) _ (omega arith) (λ z. c .if1 .taken (omega (arith, l .numbered)))
-
-add-from : tie.Need-add-from
-add-from c = search needs
 
 sub-find : tie.Need-sub-find
 sub-find c = omega (arith, line (c .before .before) .starts)
@@ -94,12 +76,6 @@ find-requires c κs =
     let a = entry read .args in
     omega (arith, line read .ends, length-take (end read - (a .at + 7)) (drop (a .at + 7) (a .text .now)))
 
-enum-told-2 : tie.Need-enum-told-2
-enum-told-2 c = search needs
-
-same-length : tie.Need-same-length
-same-length c = search needs
-
 returns-3 : tie.Need-returns-3
 returns-3 c =
     let numbered = c .before .before .before .before .before in
@@ -109,9 +85,6 @@ returns-3 c =
     λ h left names e f g.
     label-repeated h (a .text .now) (a .at) left names (end read + 1) (l .bytes) (l .lies) _ (omega arith) (omega (arith, l .numbered, numbered .if1 .left))
     (used-before (c .before .before) true (ap (λ r. isSome (foundIn r)) (c .enum-told2 .given .1)) names e f g)
-
-enum-told-3 : tie.Need-enum-told-3
-enum-told-3 c = search needs
 
 sub-write-name : tie.Need-sub-write-name
 sub-write-name c = omega (arith, line (c .before .before .before .before .before .before .before) .starts)
@@ -132,9 +105,6 @@ add-t12 : tie.Need-add-t12
 add-t12 c =
     let read = c .before .before .before .before .before .before .before .before .before .before .before in
     omega (arith, line read .lies .within, entry read .good .0 .0)
-
-same-length-2 : tie.Need-same-length-2
-same-length-2 c = search needs
 
 returns-4 : tie.Need-returns-4
 returns-4 c =
@@ -160,6 +130,7 @@ returns-4 c =
 pub read-label-spec : {M : Type 1} → statement M
 read-label-spec =
     tie.close
-    (tie.spec add-line label-line-requires enum-known-number enum-told returns add-if1 returns-2 add-from sub-find part-find-start
-        part-find-end find-requires enum-told-2 same-length returns-3 enum-told-3 sub-write-name part-write-name-start part-write-name-end
-        write-name-requires add-t12 same-length-2 returns-4)
+    (tie.spec (λ c. search needs) (λ c κs. search needs) (λ c. search needs) (λ c. search needs) returns (λ c. search needs) returns-2
+    (λ c. search needs) sub-find part-find-start part-find-end find-requires (λ c. search needs) (λ c. search needs) returns-3
+    (λ c. search needs) sub-write-name part-write-name-start part-write-name-end write-name-requires add-t12 (λ c. search needs)
+    returns-4)

@@ -35,29 +35,11 @@ behind c = c .labels-read2 .given .0 .0
 names : (c : tie.After-labels-read2) → NamesRead (fields (named c)) (text (named c)) 25 (behind c) (name-slots (named c))
 names c = subst (LabelsRead (fields (named c)) (text (named c)) 25 (name-slots (named c))) (c .labels-read2 .given .1) (named c .before .before .read-labels .ensures)
 
-read-labels-requires : tie.Need-read-labels-requires
-read-labels-requires c κs = search needs
-
-enum-known-labels-read : tie.Need-enum-known-labels-read
-enum-known-labels-read c = search needs
-
-enum-known-labels-read-2 : tie.Need-enum-known-labels-read-2
-enum-known-labels-read-2 c = search needs
-
 read-transitions-requires : tie.Need-read-transitions-requires
 read-transitions-requires c κs =
     let read = c .before .before in
     let p = entry (named read) .pre in
     ((names read .within, p .0 .1 .1), p .1)
-
-enum-known-transitions-read : tie.Need-enum-known-transitions-read
-enum-known-transitions-read c = search needs
-
-enum-told : tie.Need-enum-told
-enum-told c = search needs
-
-same-length : tie.Need-same-length
-same-length c = search needs
 
 returns : tie.Need-returns
 returns c =
@@ -66,12 +48,6 @@ returns c =
     lines-refused (fields begun) (text begun) _ _
     (subst (LabelsRead (fields begun) (text begun) 25 (name-slots begun)) (c .before .labels-read .given .1) (after .ensures))
 
-same-length-2 : tie.Need-same-length-2
-same-length-2 c = search needs
-
-same-length-3 : tie.Need-same-length-3
-same-length-3 c = search needs
-
 returns-2 : tie.Need-returns-2
 returns-2 c =
     let after = c .before .before .before .before .before .read-transitions in
@@ -79,12 +55,6 @@ returns-2 c =
     let begun = named read in
     let refusal = subst (TransitionsRead (fields begun) (text begun) (behind read) (after .last .1 .1 .1 .0)) (c .before .transitions-read .given .1) (after .ensures) in
     lines-refused (fields begun) (text begun) _ _ (refuses-whole (names read .reads) (refusal (names read .names) (names read .counts)))
-
-same-length-4 : tie.Need-same-length-4
-same-length-4 c = search needs
-
-same-length-5 : tie.Need-same-length-5
-same-length-5 c = search needs
 
 returns-3 : tie.Need-returns-3
 returns-3 c =
@@ -101,5 +71,6 @@ returns-3 c =
 pub read-lines-spec : {M : Type 1} → statement M
 read-lines-spec =
     tie.close
-    (tie.spec read-labels-requires enum-known-labels-read enum-known-labels-read-2 read-transitions-requires enum-known-transitions-read
-        enum-told same-length returns same-length-2 same-length-3 returns-2 same-length-4 same-length-5 returns-3)
+    (tie.spec (λ c κs. search needs) (λ c. search needs) (λ c. search needs) read-transitions-requires (λ c. search needs)
+    (λ c. search needs) (λ c. search needs) returns (λ c. search needs) (λ c. search needs) returns-2 (λ c. search needs)
+    (λ c. search needs) returns-3)

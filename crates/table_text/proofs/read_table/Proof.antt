@@ -40,23 +40,11 @@ begun c = c .before .before .before .before .before .before
 returns : tie.Need-returns
 returns c = let a = c .before .before .before .args in short-replies (a .text .now) (a .table .now) (c .if1 .taken)
 
-header-line-requires : tie.Need-header-line-requires
-header-line-requires c κs = search needs
-
-enum-known-counts : tie.Need-enum-known-counts
-enum-known-counts c = search needs
-
-enum-told : tie.Need-enum-told
-enum-told c = search needs
-
 returns-2 : tie.Need-returns-2
 returns-2 c =
     let a = c .before .before .before .before .before .before .args in
     let s = a .text .now in
     refused-replies s (a .table .now) (c .before .before .before .if1 .left) (header-refused s (subst (HeaderAnswer s) (c .enum-told .given .1) (c .before .before .header-line .ensures)))
-
-header-in-range-requires : tie.Need-header-in-range-requires
-header-in-range-requires c κs = search needs
 
 returns-3 : tie.Need-returns-3
 returns-3 c =
@@ -66,12 +54,6 @@ returns-3 c =
     let (l, lies, values) = subst (HeaderAnswer s) (c .before .before .before .counts .given .1) (c .before .before .before .before .before .header-line .ensures) in
     refused-replies s (a .table .now) (c .before .before .before .before .before .before .if1 .left) (header-out-of-range s l lies h values (sym (c .before .header-in-range .ensures) ∙ not-true _ (c .if2 .taken)))
 
-slice-aggregate-read-lines : tie.Need-slice-aggregate-read-lines
-slice-aggregate-read-lines c = search needs
-
-slice-aggregate-read-lines-2 : tie.Need-slice-aggregate-read-lines-2
-slice-aggregate-read-lines-2 c = search needs
-
 read-lines-requires : tie.Need-read-lines-requires
 read-lines-requires c κs =
     let begin = c .before .before in
@@ -80,15 +62,6 @@ read-lines-requires c κs =
     let fits = bounds begin in
     ((lies .within, (refl, refl)), (fits .states, (fits .labels, fits .transitions)))
 
-is-accepted-requires : tie.Need-is-accepted-requires
-is-accepted-requires c κs = search needs
-
-slice-aggregate-write-table : tie.Need-slice-aggregate-write-table
-slice-aggregate-write-table c = search needs
-
-slice-aggregate-write-table-2 : tie.Need-slice-aggregate-write-table-2
-slice-aggregate-write-table-2 c = search needs
-
 write-table-requires : tie.Need-write-table-requires
 write-table-requires c κs =
     let answered = c .before .before .before .before in
@@ -96,9 +69,6 @@ write-table-requires c κs =
     let fits = bounds begin in
     let kept = answered .before .before .before .read-lines .kept in
     ((begin .before .before .before .before .before .before .if1 .left, (kept .1 .1 .0, kept .1 .1 .1 .0)), (fits .states, (fits .labels, (fits .transitions, fits .start))))
-
-same-length : tie.Need-same-length
-same-length c = search needs
 
 returns-4 : tie.Need-returns-4
 returns-4 c =
@@ -120,6 +90,6 @@ returns-5 c =
 pub read-table-spec : {M : Type 1} → statement M
 read-table-spec =
     tie.close
-    (tie.spec returns header-line-requires enum-known-counts enum-told returns-2 header-in-range-requires returns-3
-        slice-aggregate-read-lines slice-aggregate-read-lines-2 read-lines-requires is-accepted-requires slice-aggregate-write-table
-        slice-aggregate-write-table-2 write-table-requires same-length returns-4 returns-5)
+    (tie.spec returns (λ c κs. search needs) (λ c. search needs) (λ c. search needs) returns-2 (λ c κs. search needs) returns-3
+    (λ c. search needs) (λ c. search needs) read-lines-requires (λ c κs. search needs) (λ c. search needs) (λ c. search needs)
+    write-table-requires (λ c. search needs) returns-4 returns-5)

@@ -44,39 +44,12 @@ in-bounds c = sym (c .before .transition-in-range .ensures) ∙ not-false _ (c .
 says : (c : tie.Else2) → (l : List ℕ) × LineAt stepLaidOut (text (known (c .before))) (entry (known (c .before)) .args .at) (entry (known (c .before)) .args .at + 19) l × (stepOf l ≡ stepIn (read (known (c .before))))
 says c = numbers (known (c .before)) .ended (eqb-true _ _ (sym (c .before .before .before .stands .ensures) ∙ not-false _ (c .if2 .left)))
 
-add-line : tie.Need-add-line
-add-line c = search needs
-
-add-line-2 : tie.Need-add-line-2
-add-line-2 c = search needs
-
-transition-line-requires : tie.Need-transition-line-requires
-transition-line-requires c κs = search needs
-
-enum-known-t : tie.Need-enum-known-t
-enum-known-t c = search needs
-
-enum-told : tie.Need-enum-told
-enum-told c = search needs
-
 returns : tie.Need-returns
 returns c =
     let a = c .before .before .before .before .before .before .args in
     let s = a .text .now in
     λ left names steps e f g. transition-refused (header (a .counts)) s (a .at) left names steps _ (omega arith)
     (subst (TransitionAnswer s (a .at)) (c .enum-told .given .1) (c .before .before .transition-line .ensures))
-
-add-stands : tie.Need-add-stands
-add-stands c = search needs
-
-stands-requires : tie.Need-stands-requires
-stands-requires c κs = search needs
-
-transition-in-range-requires : tie.Need-transition-in-range-requires
-transition-in-range-requires c κs = search needs
-
-number-refused-requires : tie.Need-number-refused-requires
-number-refused-requires c κs = search needs
 
 returns-2 : tie.Need-returns-2
 returns-2 c =
@@ -101,12 +74,6 @@ returns-3 c =
     λ left names steps e f g. transition-refused (header (a .counts)) (a .text .now) (a .at) left names steps _ (omega arith)
     (numbers row .unended (eqb-false _ _ (sym (c .before .before .before .stands .ensures) ∙ not-true _ (c .if2 .taken))))
 
-rises-requires : tie.Need-rises-requires
-rises-requires c κs = search needs
-
-same-length : tie.Need-same-length
-same-length c = search needs
-
 returns-4 : tie.Need-returns-4
 returns-4 c =
     let laid = c .before .before .before in
@@ -124,12 +91,6 @@ write-transition-requires c κs =
     let r = in-range (header (entry row .args .counts)) (stepIn (read row)) (in-bounds ranged) in
     let p = entry row .pre in
     omega arith
-
-add-t9 : tie.Need-add-t9
-add-t9 c = search needs
-
-same-length-2 : tie.Need-same-length-2
-same-length-2 c = search needs
 
 returns-5 : tie.Need-returns-5
 returns-5 c =
@@ -151,6 +112,6 @@ returns-5 c =
 pub read-transition-spec : {M : Type 1} → statement M
 read-transition-spec =
     tie.close
-    (tie.spec add-line add-line-2 transition-line-requires enum-known-t enum-told returns add-stands stands-requires
-        transition-in-range-requires number-refused-requires returns-2 returns-3 rises-requires same-length returns-4
-        write-transition-requires add-t9 same-length-2 returns-5)
+    (tie.spec (λ c. search needs) (λ c. search needs) (λ c κs. search needs) (λ c. search needs) (λ c. search needs) returns
+    (λ c. search needs) (λ c κs. search needs) (λ c κs. search needs) (λ c κs. search needs) returns-2 returns-3 (λ c κs. search needs)
+    (λ c. search needs) returns-4 write-transition-requires (λ c. search needs) (λ c. search needs) returns-5)

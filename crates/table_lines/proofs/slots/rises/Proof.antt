@@ -57,4 +57,4 @@ pub rises-spec : {M : Type 1} → statement M
 rises-spec =
     tie.close
     (tie.spec returns sub-i mul-i shared-slice-read-t9 cast-t7 add-t10 shared-slice-read-t12 cast-t13 add-t14 shared-slice-read-t16 cast-t17
-        below-requires returns-2)
+    below-requires returns-2)

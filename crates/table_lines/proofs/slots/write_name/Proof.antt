@@ -9,18 +9,6 @@ use Rattle.lts.proofs.Laws.Pasted.{pasted-first}
 use Rattle.table_lines.proofs.slots.write_name.Statement.{statement}
 use Rattle.table_lines.proofs.slots.write_name.Tie as tie
 
-mul-i : tie.Need-mul-i
-mul-i c = search needs
-
-cast-names : tie.Need-cast-names
-cast-names c = search needs
-
-slice-write-names : tie.Need-slice-write-names
-slice-write-names c = search needs
-
-add-write-at : tie.Need-add-write-at
-add-write-at c = search needs
-
 write-at-requires : tie.Need-write-at-requires
 write-at-requires c κs = simp length-set (omega arith)
 
@@ -35,4 +23,4 @@ returns c =
 pub write-name-spec : {M : Type 1} → statement M
 write-name-spec =
     tie.close
-    (tie.spec mul-i cast-names slice-write-names add-write-at write-at-requires same-length returns)
+    (tie.spec (λ c. search needs) (λ c. search needs) (λ c. search needs) (λ c. search needs) write-at-requires same-length returns)

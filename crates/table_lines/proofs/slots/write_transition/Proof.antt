@@ -10,35 +10,11 @@ use Rattle.lts.specs.Sizes.{transitionLength}
 use Rattle.table_lines.proofs.slots.write_transition.Statement.{statement}
 use Rattle.table_lines.proofs.slots.write_transition.Tie as tie
 
-mul-i : tie.Need-mul-i
-mul-i c = search needs
-
-cast-slots : tie.Need-cast-slots
-cast-slots c = search needs
-
-slice-write-slots : tie.Need-slice-write-slots
-slice-write-slots c = search needs
-
-cast-slots-2 : tie.Need-cast-slots-2
-cast-slots-2 c = search needs
-
-add-slots : tie.Need-add-slots
-add-slots c = search needs
-
 slice-write-slots-2 : tie.Need-slice-write-slots-2
 slice-write-slots-2 c = simp length-set (omega arith)
 
-cast-slots-3 : tie.Need-cast-slots-3
-cast-slots-3 c = search needs
-
-add-slots-2 : tie.Need-add-slots-2
-add-slots-2 c = search needs
-
 slice-write-slots-3 : tie.Need-slice-write-slots-3
 slice-write-slots-3 c = simp length-set (omega arith)
-
-same-length : tie.Need-same-length
-same-length c = search needs
 
 returns : tie.Need-returns
 returns c =
@@ -53,5 +29,5 @@ returns c =
 pub write-transition-spec : {M : Type 1} → statement M
 write-transition-spec =
     tie.close
-    (tie.spec mul-i cast-slots slice-write-slots cast-slots-2 add-slots slice-write-slots-2 cast-slots-3 add-slots-2 slice-write-slots-3
-        same-length returns)
+    (tie.spec (λ c. search needs) (λ c. search needs) (λ c. search needs) (λ c. search needs) (λ c. search needs) slice-write-slots-2
+    (λ c. search needs) (λ c. search needs) slice-write-slots-3 (λ c. search needs) returns)
