@@ -6,9 +6,9 @@ ghost use Rattle.columns.specs.Columns.{column, numbersLine};
 ghost use Rattle.columns.specs.Write.{Spread, pasted};
 
 // A number's column: the bytes from `from` on.
-pub struct Figures {
-    pub bytes: [u8; 20],
-    pub from: usize,
+struct Figures {
+    bytes: [u8; 20],
+    from: usize,
 }
 
 fn spread(n: u64) -> Figures
@@ -33,7 +33,7 @@ fn spread(n: u64) -> Figures
 }
 
 // Writes n in six columns, or in as many as it has digits, at `at`, and answers where they end.
-pub fn write_column(n: u64, out: &mut [u8], at: usize) -> usize
+fn write_column(n: u64, out: &mut [u8], at: usize) -> usize
     requires { ⌜ at + 20 ≤ length (now out) ⌝ }
     ensures { λ r. ⌜ r ≡ at + length (column n) ⌝ }
     ensures { λ _. ⌜ now (out .exit) ≡ pasted (now (out .entry)) at (column n) ⌝ }

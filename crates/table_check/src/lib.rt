@@ -1,7 +1,6 @@
 // Whether bytes are a prepared table: the counts, each name's slot, each transition's slot, and zeros in the slots that are not used.
 use lts::sizes::HEAD;
 use lts::sizes::LABELS;
-use lts::sizes::NAME_BYTES_AT;
 use lts::sizes::NAME_SLOT;
 use lts::sizes::NAME_SLOT_END;
 use lts::sizes::STATES;
@@ -11,9 +10,9 @@ use lts::sizes::TRANSITIONS;
 use lts::sizes::TRANSITIONS_AT;
 use tables::names::Lookup;
 use tables::names::find;
+use tables::names::name_bytes;
 use tables::names::read_name;
 use tables::prepared::below;
-use tables::prepared::byte;
 use tables::prepared::label_count;
 use tables::prepared::start_state;
 use tables::prepared::state_count;
@@ -27,6 +26,7 @@ ghost use Rattle.lts.specs.Steps.{labels};
 ghost use Rattle.lts.specs.Names.{longestName};
 ghost use Rattle.lts.specs.Prepared.{tableIn, byteAt, preparedTable};
 ghost use Rattle.lts.specs.Answers.{Decides, isSome};
+ghost use Rattle.table_check.specs.Filled.{NamesFilled, TransitionsFilled};
 ghost use Rattle.lts.specs.Check.{ZerosFrom, CountsHeld, NameHeld, NewName, NamesHeld, TransitionHeld, TransitionsHeld};
 
 pub fn is_prepared(table: &[u8]) -> bool
@@ -38,12 +38,28 @@ pub fn is_prepared(table: &[u8]) -> bool
     if !counts_held(table) {
         return false;
     }
+    if !names_filled(table) {
+        return false;
+    }
+    transitions_filled(table)
+}
+
+// Whether the name slots are as they must be: the names, and zeros behind them.
+fn names_filled(table: &[u8]) -> bool
+    requires { ⌜ (tableLength ≤ length (now table)) × (labels (tableIn (now table)) ≤ mostLabels) ⌝ }
+    ensures { λ r. ⌜ Decides (NamesFilled (now (table .entry))) r ⌝ }
+{
     if !names_held(table) {
         return false;
     }
-    if !zeros(table, HEAD + label_count(table) * NAME_SLOT, TRANSITIONS_AT) {
-        return false;
-    }
+    zeros(table, HEAD + label_count(table) * NAME_SLOT, TRANSITIONS_AT)
+}
+
+// The same of the transition slots.
+fn transitions_filled(table: &[u8]) -> bool
+    requires { ⌜ (tableLength ≤ length (now table)) × (length (tableIn (now table) .transitions) ≤ mostTransitions) ⌝ }
+    ensures { λ r. ⌜ Decides (TransitionsFilled (now (table .entry))) r ⌝ }
+{
     if !transitions_held(table) {
         return false;
     }
@@ -113,13 +129,14 @@ fn name_held(table: &[u8], k: usize) -> bool
     requires { ⌜ (tableLength ≤ length (now table)) × (k < mostLabels) ⌝ }
     ensures { λ r. ⌜ Decides (NameHeld (now (table .entry)) k) r ⌝ }
 {
-    let at = NAME_BYTES_AT + k * NAME_SLOT;
+    let bytes = name_bytes(table, k);
+    let at = bytes.from;
     let name = read_name(table, at);
     let end = name.end;
     if end == at {
         return false;
     }
-    if end != at + byte(table, HEAD + k * NAME_SLOT) {
+    if end != bytes.to {
         return false;
     }
     zeros(table, end, NAME_SLOT_END + k * NAME_SLOT)
@@ -129,8 +146,9 @@ fn new_name(table: &[u8], k: usize) -> bool
     requires { ⌜ (tableLength ≤ length (now table)) × ((k < mostLabels) × (byteAt (now table) (headLength + k * nameSlotLength) ≤ longestName)) ⌝ }
     ensures { λ r. ⌜ Decides (NewName (now (table .entry)) k) r ⌝ }
 {
-    let at = NAME_BYTES_AT + k * NAME_SLOT;
-    let end = at + byte(table, HEAD + k * NAME_SLOT);
+    let bytes = name_bytes(table, k);
+    let at = bytes.from;
+    let end = bytes.to;
     let before = find(&table[HEAD..TRANSITIONS_AT], k, &table[at..end]);
     match before {
         Lookup::At(_) => false,

@@ -18,7 +18,7 @@ ghost use Rattle.lts.specs.NameEnds.{stemEnd, nameEnd, nameDirection};
 ghost use Rattle.lts.specs.Prepared.{tableIn};
 ghost use Rattle.lts.specs.HoldsTable.{HoldsTable};
 ghost use Rattle.lts.specs.Slots.{storedName, storedNames};
-ghost use Rattle.tables.specs.Access.{foundIn, directionIn};
+ghost use Rattle.tables.specs.Access.{foundIn, directionIn, NameStands};
 
 // 02: "its direction (none, in, out)"
 pub enum Direction {
@@ -31,6 +31,12 @@ pub enum Direction {
 pub struct NameRead {
     pub end: usize,
     pub direction: Direction,
+}
+
+// The bytes of a name: from `from` to before `to`.
+pub struct NameBytes {
+    pub from: usize,
+    pub to: usize,
 }
 
 pub enum Lookup {
@@ -117,13 +123,26 @@ pub fn read_name(text: &[u8], from: usize) -> NameRead
     }
 }
 
+// Where the bytes of the name in slot k of a prepared table stand.
+pub fn name_bytes(table: &[u8], k: usize) -> NameBytes
+    requires { ⌜ (tableLength ≤ length (now table)) × (k < mostLabels) ⌝ }
+    ensures { λ r. ⌜ NameStands (now (table .entry)) k r ⌝ }
+{
+    let at = NAME_BYTES_AT + k * NAME_SLOT;
+    NameBytes {
+        from: at,
+        to: at + byte(table, HEAD + k * NAME_SLOT),
+    }
+}
+
 // The direction of label k + 1 of a prepared table.
 pub fn label_direction(table: &[u8], k: usize) -> Direction
     requires { ⌜ HoldsTable (now table) × (k < labels (tableIn (now table))) ⌝ }
     ensures { λ r. ⌜ directionIn r ≡ labelDirection (tableIn (now (table .entry)) .names) (suc k) ⌝ }
 {
-    let at = NAME_BYTES_AT + k * NAME_SLOT;
-    let end = at + byte(table, HEAD + k * NAME_SLOT);
+    let bytes = name_bytes(table, k);
+    let at = bytes.from;
+    let end = bytes.to;
     let name = read_name(&table[at..end], 0);
     name.direction
 }

@@ -5,7 +5,7 @@ use lts::sizes::TARGETS_AT;
 use lts::sizes::TRANSITION;
 use lts::sizes::TRANSITIONS_AT;
 ghost use mathlib.Core.Path.{_≡_};
-ghost use Prim.Native.Nat.{_≤_, _<_};
+ghost use Prim.Native.Nat.{_+_, _*_, _≤_, _<_};
 ghost use lib.ListN.{length};
 ghost use Rattle.lts.specs.Sizes.{mostTransitions, tableLength};
 ghost use Rattle.lts.specs.Steps.{labels};
@@ -27,11 +27,19 @@ pub fn byte(table: &[u8], i: usize) -> usize
     table[i] as usize
 }
 
+// The number in two bytes, the low one first.
+fn two_bytes(table: &[u8], i: usize) -> usize
+    requires { ⌜ i + 1 < length (now table) ⌝ }
+    ensures { λ r. ⌜ Counted 65536 (byteAt (now (table .entry)) i + byteAt (now (table .entry)) (i + 1) * 256) r ⌝ }
+{
+    byte(table, i) + byte(table, i + 1) * 256
+}
+
 pub fn state_count(table: &[u8]) -> usize
     requires { ⌜ tableLength ≤ length (now table) ⌝ }
     ensures { λ r. ⌜ Counted 65536 (tableIn (now (table .entry)) .states) r ⌝ }
 {
-    byte(table, 0) + byte(table, 1) * 256
+    two_bytes(table, 0)
 }
 
 pub fn label_count(table: &[u8]) -> usize
@@ -45,7 +53,7 @@ pub fn transition_count(table: &[u8]) -> usize
     requires { ⌜ tableLength ≤ length (now table) ⌝ }
     ensures { λ r. ⌜ Counted 65536 (length (tableIn (now (table .entry)) .transitions)) r ⌝ }
 {
-    byte(table, 3) + byte(table, 4) * 256
+    two_bytes(table, 3)
 }
 
 pub fn start_state(table: &[u8]) -> usize

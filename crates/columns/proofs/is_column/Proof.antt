@@ -16,17 +16,8 @@ Inv-loop text at v n₀ i₀ n i = Compared text at v n i
 abbrev μ-loop : tie.MeasureT-loop
 μ-loop text at v n₀ i₀ n i = i
 
-add-if1 : tie.Need-add-if1 Inv-loop μ-loop
-add-if1 c = omega arith
-
-shared-slice-read-if1 : tie.Need-shared-slice-read-if1 Inv-loop μ-loop
-shared-slice-read-if1 c = omega arith
-
 cast-if1 : tie.Need-cast-if1 Inv-loop μ-loop
 cast-if1 c = omega (arith, c .shared-slice-known2 .given (c .before .before .args .at + 5))
-
-add-if1-2 : tie.Need-add-if1-2 Inv-loop μ-loop
-add-if1-2 c = omega arith
 
 returns : tie.Need-returns Inv-loop μ-loop
 returns c = let a = c .before .before .before in last-differs (a .args .text .now) (a .args .at) (a .args .v) (a .pre .0) (a .pre .1) (c .if1 .taken)
@@ -34,44 +25,45 @@ returns c = let a = c .before .before .before in last-differs (a .args .text .no
 loop-holds : tie.Need-loop-holds Inv-loop μ-loop
 loop-holds c = let a = c .before .before .before in compare-starts (a .args .text .now) (a .args .at) (a .args .v) (a .pre .0) (a .pre .1) (c .if1 .left)
 
-sub-i : tie.Need-sub-i Inv-loop μ-loop
-sub-i c = omega arith
-
-add-if2 : tie.Need-add-if2 Inv-loop μ-loop
-add-if2 c = omega arith
-
-shared-slice-read-if2 : tie.Need-shared-slice-read-if2 Inv-loop μ-loop
-shared-slice-read-if2 c = omega arith
-
 cast-if2 : tie.Need-cast-if2 Inv-loop μ-loop
 cast-if2 c = omega (arith, c .shared-slice-known3 .given (c .before .before .before .before .before .before .args .at + (c .before .before .loop .i - 1)))
 
-leading-requires : tie.Need-leading-requires Inv-loop μ-loop
-leading-requires c κs = search needs
+-- A turn of the loop: one byte less is left to compare.
+module _ (c : tie.After-leading Inv-loop μ-loop) where
+  abbrev entry : tie.Start Inv-loop μ-loop
+  entry = c .before .before .before .before .before .before .before
+
+  abbrev turn : tie.At-loop Inv-loop μ-loop
+  turn = c .before .before .before
+
+  left : Compared (entry .args .text .now) (entry .args .at) (entry .args .v) (turn .loop .n) (suc (turn .loop .i - 1))
+  left = subst (Compared (entry .args .text .now) (entry .args .at) (entry .args .v) (turn .loop .n))
+      (one-more (turn .loop .i) (c .before .before .loop-test .taken)) (turn .loop .inv)
 
 returns-2 : tie.Need-returns-2 Inv-loop μ-loop
-returns-2 c = let a = c .before .before .before .before .before .before .before .before in
-    let l = c .before .before .before .before .loop in
-    let back = one-more (l .i) (c .before .before .before .loop-test .taken) in
-    compare-differs (a .args .text .now) (a .args .at) (a .args .v) (a .pre .0) (l .n) (l .i - 1) (subst (Compared (a .args .text .now) (a .args .at) (a .args .v) (l .n)) back (l .inv)) (λ e. c .if2 .taken (e ∙ sym (c .before .leading .ensures)))
-
-loop-less : tie.Need-loop-less Inv-loop μ-loop
-loop-less c = omega arith
+returns-2 c =
+    let a = entry (c .before) in
+    let l = turn (c .before) .loop in
+    compare-differs (a .args .text .now) (a .args .at) (a .args .v) (a .pre .0) (l .n) (l .i - 1) (left (c .before))
+    (λ e. c .if2 .taken (e ∙ sym (c .before .leading .ensures)))
 
 loop-again : tie.Need-loop-again Inv-loop μ-loop
-loop-again c = let a = c .before .before .before .before .before .before .before .before in
-    let l = c .before .before .before .before .loop in
-    let back = one-more (l .i) (c .before .before .before .loop-test .taken) in
-    compare-goes-on (a .args .text .now) (a .args .at) (a .args .v) (a .pre .0) (l .n) (l .i - 1) (subst (Compared (a .args .text .now) (a .args .at) (a .args .v) (l .n)) back (l .inv)) (c .if2 .left ∙ c .before .leading .ensures)
+loop-again c =
+    let a = entry (c .before) in
+    let l = turn (c .before) .loop in
+    compare-goes-on (a .args .text .now) (a .args .at) (a .args .v) (a .pre .0) (l .n) (l .i - 1) (left (c .before))
+    (c .if2 .left ∙ c .before .leading .ensures)
 
 returns-3 : tie.Need-returns-3 Inv-loop μ-loop
-returns-3 c = let a = c .before .before .before .before .before in
+returns-3 c =
+    let a = c .before .before .before .before .before in
     let l = c .before .loop in
     let none : l .i ≡ 0 = omega arith in
-    compare-ends (a .args .text .now) (a .args .at) (a .args .v) (a .pre .0) (l .n) (subst (Compared (a .args .text .now) (a .args .at) (a .args .v) (l .n)) none (l .inv))
+    compare-ends (a .args .text .now) (a .args .at) (a .args .v) (a .pre .0) (l .n)
+    (subst (Compared (a .args .text .now) (a .args .at) (a .args .v) (l .n)) none (l .inv))
 
 pub is-column-spec : {M : Type 1} → statement M
 is-column-spec =
     tie.close
-    (tie.spec Inv-loop μ-loop add-if1 shared-slice-read-if1 cast-if1 add-if1-2 returns loop-holds sub-i add-if2 shared-slice-read-if2
-        cast-if2 leading-requires returns-2 loop-less loop-again returns-3)
+    (tie.spec Inv-loop μ-loop (λ c. omega arith) (λ c. omega arith) cast-if1 (λ c. omega arith) returns loop-holds (λ c. omega arith)
+    (λ c. omega arith) (λ c. omega arith) cast-if2 (λ c κs. search needs) returns-2 (λ c. omega arith) loop-again returns-3)

@@ -49,4 +49,4 @@ pub counts-held-spec : {M : Type 1} → statement M
 counts-held-spec =
     tie.close
     (tie.spec state-count-requires returns returns-2 label-count-requires returns-3 transition-count-requires returns-4 start-state-requires
-        returns-5 returns-6)
+    returns-5 returns-6)

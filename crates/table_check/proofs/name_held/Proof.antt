@@ -1,79 +1,74 @@
 -- `name_held` meets its contract: the longest name in the slot ends where the slot says, exactly if the slot holds one.
 use mathlib.Core.Path.{_≡_, sym, ap, _∙_, subst}
-use Prim.Native.Nat.{_+_, _*_}
+use mathlib.Core.List.{List}
+use Prim.Native.Nat.{ℕ, _+_, _*_}
 use native.Mathlib.Omega.{arith}
 use borrow.Author.Needs.{needs}
 use Rattle.lts.specs.Sizes.{headLength, nameSlotLength}
-use Rattle.lts.specs.Check.{ZerosFrom}
+use Rattle.lts.specs.NameEnds.{nameEnd}
+use Rattle.lts.specs.Prepared.{byteAt}
+use Rattle.lts.specs.Check.{ZerosFrom, NameHeld}
 use Rattle.lts.proofs.Laws.Decides.{decided-no, decided-by}
 use Rattle.lts.proofs.Laws.SlotNames.{name-few, held-end, end-held}
 use Rattle.table_check.proofs.name_held.Statement.{statement}
 use Rattle.table_check.proofs.name_held.Tie as tie
 
-mul-at : tie.Need-mul-at
-mul-at c = search needs
+-- The longest name in the slot is read.
+module _ (c : tie.After-read-name) where
+  abbrev entry : tie.Start
+  entry = c .before .before .before
 
-add-at : tie.Need-add-at
-add-at c = search needs
+  abbrev table : List ℕ
+  table = entry .args .table .now
 
-read-name-requires : tie.Need-read-name-requires
-read-name-requires c κs = search needs
+  abbrev place : ℕ
+  place = headLength + 1 + entry .args .k * nameSlotLength
+
+  abbrev size : ℕ
+  size = byteAt table (headLength + entry .args .k * nameSlotLength)
+
+  slot-ends : c .before .name-bytes .result .to ≡ place + size
+  slot-ends = let slot = c .before .name-bytes .ensures in slot .ends ∙ ap (λ n. n + size) (slot .starts)
+
+  name-ends : c .read-name .result .end ≡ nameEnd table place
+  name-ends = c .read-name .ensures .0 ∙ ap (nameEnd table) (c .before .name-bytes .ensures .starts)
+
+  held-to-end : NameHeld table (entry .args .k) → c .read-name .result .end ≡ c .before .name-bytes .result .to
+  held-to-end h = name-ends ∙ held-end table (entry .pre .0) (entry .args .k) (entry .pre .1) (c .before .name-bytes .ensures .short) h ∙ sym slot-ends
 
 returns : tie.Need-returns
 returns c =
-    let start = c .before .before .before in
-    let b = start .args .table .now in
-    let k = start .args .k in
-    let small = c .before .before .shared-slice-known .given (headLength + k * nameSlotLength) .fits in
-    decided-no (λ h. omega (arith, held-end b (start .pre .0) k (start .pre .1) small h, name-few b (start .pre .0) k (start .pre .1) small (h .name), c .before .read-name .ensures .0, c .if1 .taken))
-
-mul-byte : tie.Need-mul-byte
-mul-byte c = search needs
-
-add-byte : tie.Need-add-byte
-add-byte c = search needs
-
-byte-requires : tie.Need-byte-requires
-byte-requires c κs = search needs
-
-add-if2 : tie.Need-add-if2
-add-if2 c = search needs
+    let read = c .before in
+    let start = entry read in
+    let slot = read .before .name-bytes .ensures in
+    decided-no (λ h. omega (
+      arith,
+      held-to-end read h,
+      name-few (table read) (start .pre .0) (start .args .k) (start .pre .1) (slot .short) (h .name),
+      slot .ends,
+      c .if1 .taken,
+    ))
 
 returns-2 : tie.Need-returns-2
-returns-2 c =
-    let start = c .before .before .before .before .before in
-    let b = start .args .table .now in
-    let k = start .args .k in
-    let small = c .before .before .before .before .shared-slice-known .given (headLength + k * nameSlotLength) .fits in
-    decided-no (λ h. c .if2 .taken
-    (omega (arith, held-end b (start .pre .0) k (start .pre .1) small h, c .before .before .before .read-name .ensures .0, c .before .byte .ensures .count)))
-
-mul-zeros : tie.Need-mul-zeros
-mul-zeros c = search needs
-
-add-zeros : tie.Need-add-zeros
-add-zeros c = search needs
-
-zeros-requires : tie.Need-zeros-requires
-zeros-requires c κs = search needs
+returns-2 c = decided-no (λ h. c .if2 .taken (held-to-end (c .before .before .before) h))
 
 returns-3 : tie.Need-returns-3
 returns-3 c =
-    let start = c .before .before .before .before .before .before in
-    let b = start .args .table .now in
-    let k = start .args .k in
-    let answer = c .before .before .before .before .read-name .ensures .0 in
-    let end : c .before .before .before .before .read-name .result .end ≡ (headLength + 1 + k * nameSlotLength) + c .before .before .byte .result = c .before .if2 .left in
-    let whole = end ∙ ap (λ n. (headLength + 1 + k * nameSlotLength) + n) (c .before .before .byte .ensures .count) in
+    let some = c .before .before .before in
+    let read = some .before in
+    let start = entry read in
+    let whole = c .before .if2 .left ∙ slot-ends read in
+    let to = headLength + nameSlotLength + start .args .k * nameSlotLength in
     decided-by (c .zeros .ensures)
     (λ z. record {
-      name = end-held b (start .pre .0) k (start .pre .1) (sym answer ∙ whole) (λ e. c .before .before .before .if1 .left (answer ∙ e));
-      behind = subst (λ n. ZerosFrom b n (headLength + nameSlotLength + k * nameSlotLength)) whole z;
+      name = end-held (table read) (start .pre .0) (start .args .k) (start .pre .1) (sym (name-ends read) ∙ whole)
+          (λ e. some .if1 .left (name-ends read ∙ e ∙ sym (read .before .name-bytes .ensures .starts)));
+      behind = subst (λ n. ZerosFrom (table read) n to) whole z;
     })
-    (λ h. subst (λ n. ZerosFrom b n (headLength + nameSlotLength + k * nameSlotLength)) (sym whole) (h .behind))
+    (λ h. subst (λ n. ZerosFrom (table read) n to) (sym whole) (h .behind))
 
 pub name-held-spec : {M : Type 1} → statement M
 name-held-spec =
     tie.close
-    (tie.spec mul-at add-at read-name-requires returns mul-byte add-byte byte-requires add-if2 returns-2 mul-zeros add-zeros zeros-requires
-        returns-3)
+    (tie.spec (λ c κs. search needs) (λ c κs. search needs) returns returns-2 (λ c. search needs) (λ c. search needs) (λ c κs. search needs)
+    returns-3)

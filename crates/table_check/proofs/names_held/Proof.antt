@@ -78,4 +78,4 @@ pub names-held-spec : {M : Type 1} → statement M
 names-held-spec =
     tie.close
     (tie.spec Inv-loop μ-loop label-count-requires loop-holds name-held-requires returns new-name-requires returns-2 add-k loop-less
-        loop-again returns-3)
+    loop-again returns-3)

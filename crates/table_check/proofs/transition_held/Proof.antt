@@ -64,4 +64,4 @@ pub transition-held-spec : {M : Type 1} → statement M
 transition-held-spec =
     tie.close
     (tie.spec transition-at-requires returns returns-2 returns-3 returns-4 sub-transition-at transition-at-requires-2 below-requires
-        returns-5)
+    returns-5)

@@ -89,4 +89,4 @@ pub transitions-held-spec : {M : Type 1} → statement M
 transitions-held-spec =
     tie.close
     (tie.spec Inv-loop μ-loop transition-count-requires state-count-requires label-count-requires loop-holds transition-held-requires
-        returns add-k loop-less loop-again returns-2)
+    returns add-k loop-less loop-again returns-2)

@@ -10,7 +10,8 @@ use lib.ListN.{length, drop}
 use Rattle.columns.specs.Columns.{valueAt}
 use Rattle.lts.specs.Reply.{Reply, refusal, unless}
 use Rattle.lts.specs.Steps.{Step, Table}
-use Rattle.lts.specs.Reading.{Header, Line, missing, line, firstLine, onLine, labelLaidOut, used, stepOf, stepLaidOut, stepInRange, above, readTransitions, readLabels, readLabelsWith}
+use Rattle.lts.specs.Reading.{Header, Line, missing, line, firstLine, onLine, labelLaidOut, used, stepOf, stepLaidOut, stepInRange, above}
+use Rattle.lts.specs.Reading.{readTransitions, readLabels, readLabelsWith}
 use Rattle.lts.specs.Lines.{LineAt, NoLineAt}
 use Rattle.table_text.specs.Progress.{Refuses, numberRefused}
 use Rattle.lts.proofs.Lists.{and-true-of}
@@ -35,86 +36,104 @@ failed t number figure next e = ap (λ b. unless b number figure next) e
 
 -- Labels.
 module _ (h : Header) (s : List ℕ) (at left : ℕ) (names : List (List ℕ)) where
-  pub label-refused : (n : ℕ) → n ≡ length names + 2 → NoLineAt labelLaidOut s at → Refuses (readLabels h (suc left) names (drop at s)) (NotLaidOut n)
+  -- What is left to read, and which line it starts with.
+  abbrev labels-left : Reply Table
+  labels-left = readLabels h (suc left) names (drop at s)
+
+  abbrev here : ℕ
+  here = 2 + length names
+
+  pub label-refused : (n : ℕ) → n ≡ length names + 2 → NoLineAt labelLaidOut s at → Refuses (labels-left) (NotLaidOut n)
   unfolding readLabelsWith
   label-refused n f g = record {
     number = 1;
-    figure = 2 + length names;
-    reply = no-line labelLaidOut (2 + length names) (firstLine (drop at s)) _ g;
+    figure = here;
+    reply = no-line labelLaidOut here (firstLine (drop at s)) _ g;
     says = ap (refusal 1) (omega arith);
   }
 
   module _ (to : ℕ) (l : List ℕ) (g : LineAt labelLaidOut s at to l) where
-    label-opened : readLabels h (suc left) names (drop at s)
-        ≡ unless (eqb (valueAt 0 l) (suc (length names))) 2 (2 + length names) (unless (not (used names (drop 7 l))) 3 (2 + length names) (readLabels h left (names ++ (drop 7 l ∷ [])) (drop to s)))
-    unfolding readLabelsWith
-    label-opened = a-line labelLaidOut (2 + length names) (firstLine (drop at s)) _ l (drop to s) (g .is-line) (g .laid-out)
+    abbrev behind : Reply Table
+    behind = readLabels h left (names ++ (drop 7 l ∷ [])) (drop to s)
 
-    pub label-out-of-order : (n : ℕ) → n ≡ length names + 2 → (valueAt 0 l ≡ length names + 1 → ⊥) → Refuses (readLabels h (suc left) names (drop at s)) (OutOfRange n)
+    label-opened : labels-left ≡ unless (eqb (valueAt 0 l) (suc (length names))) 2 here (unless (not (used names (drop 7 l))) 3 here behind)
+    unfolding readLabelsWith
+    label-opened = a-line labelLaidOut here (firstLine (drop at s)) _ l (drop to s) (g .is-line) (g .laid-out)
+
+    pub label-out-of-order : (n : ℕ) → n ≡ length names + 2 → (valueAt 0 l ≡ length names + 1 → ⊥) → Refuses (labels-left) (OutOfRange n)
     label-out-of-order n f d = record {
       number = 2;
-      figure = 2 + length names;
+      figure = here;
       reply = label-opened ∙ rw (ne-eqb (valueAt 0 l) (suc (length names)) (λ z. d (omega arith)));
       says = ap (refusal 2) (omega arith);
     }
 
-    pub label-repeated : (n : ℕ) → n ≡ length names + 2 → valueAt 0 l ≡ length names + 1 → used names (drop 7 l) ≡ true → Refuses (readLabels h (suc left) names (drop at s)) (NameRepeated n)
+    pub label-repeated : (n : ℕ) → n ≡ length names + 2 → valueAt 0 l ≡ length names + 1 → used names (drop 7 l) ≡ true → Refuses (labels-left) (NameRepeated n)
     label-repeated n f d u = record {
       number = 3;
-      figure = 2 + length names;
+      figure = here;
       reply = label-opened ∙ rw (eq-eqb (valueAt 0 l) (suc (length names)) (omega arith), u);
       says = ap (refusal 3) (omega arith);
     }
 
-    pub label-accepted : valueAt 0 l ≡ length names + 1 → used names (drop 7 l) ≡ false → readLabels h (suc left) names (drop at s) ≡ readLabels h left (names ++ (drop 7 l ∷ [])) (drop to s)
+    pub label-accepted : valueAt 0 l ≡ length names + 1 → used names (drop 7 l) ≡ false → labels-left ≡ behind
     label-accepted d u = label-opened ∙ rw (eq-eqb (valueAt 0 l) (suc (length names)) (omega arith), u)
 
 -- Transitions.
 module _ (h : Header) (s : List ℕ) (at left : ℕ) (names : List (List ℕ)) (steps : List Step) where
-  pub transition-refused : (n : ℕ) → n ≡ length names + length steps + 2 → NoLineAt stepLaidOut s at → Refuses (readTransitions h names (suc left) steps (drop at s)) (NotLaidOut n)
+  -- What is left to read, and which line it starts with.
+  abbrev steps-left : Reply Table
+  steps-left = readTransitions h names (suc left) steps (drop at s)
+
+  abbrev line-of : ℕ
+  line-of = 2 + length names + length steps
+
+  -- What the line of a transition in range leads to.
+  abbrev risen : ℕ → Step → Reply Table
+  risen to st = unless (above steps st) 4 line-of (readTransitions h names left (steps ++ (st ∷ [])) (drop to s))
+
+  pub transition-refused : (n : ℕ) → n ≡ length names + length steps + 2 → NoLineAt stepLaidOut s at → Refuses (steps-left) (NotLaidOut n)
   unfolding readTransitions
   transition-refused n f g = record {
     number = 1;
-    figure = 2 + length names + length steps;
-    reply = no-line stepLaidOut (2 + length names + length steps) (firstLine (drop at s)) _ g;
+    figure = line-of;
+    reply = no-line stepLaidOut line-of (firstLine (drop at s)) _ g;
     says = ap (refusal 1) (omega arith);
   }
 
   module _ (to : ℕ) (l : List ℕ) (g : LineAt stepLaidOut s at to l) (st : Step) (v : stepOf l ≡ st) where
-    transition-opened : readTransitions h names (suc left) steps (drop at s)
-        ≡ unless (stepInRange h st) 2 (2 + length names + length steps) (unless (above steps st) 4 (2 + length names + length steps) (readTransitions h names left (steps ++ (st ∷ [])) (drop to s)))
+    transition-opened : steps-left ≡ unless (stepInRange h st) 2 line-of (risen to st)
     unfolding readTransitions
     transition-opened =
-        a-line stepLaidOut (2 + length names + length steps) (firstLine (drop at s)) _ l (drop to s) (g .is-line) (g .laid-out)
-        ∙ ap (λ x. unless (stepInRange h x) 2 (2 + length names + length steps) (unless (above steps x) 4 (2 + length names + length steps) (readTransitions h names left (steps ++ (x ∷ [])) (drop to s)))) v
+        a-line stepLaidOut line-of (firstLine (drop at s)) _ l (drop to s) (g .is-line) (g .laid-out)
+        ∙ ap (λ x. unless (stepInRange h x) 2 line-of (risen to x)) v
 
-    pub transition-out-of-range : (n : ℕ) → n ≡ length names + length steps + 2 → stepInRange h st ≡ false → Refuses (readTransitions h names (suc left) steps (drop at s)) (OutOfRange n)
+    pub transition-out-of-range : (n : ℕ) → n ≡ length names + length steps + 2 → stepInRange h st ≡ false → Refuses (steps-left) (OutOfRange n)
     transition-out-of-range n f d = record {
       number = 2;
-      figure = 2 + length names + length steps;
-      reply = transition-opened ∙ failed (stepInRange h st) 2 (2 + length names + length steps) (unless (above steps st) 4 (2 + length names + length steps) (readTransitions h names left (steps ++ (st ∷ [])) (drop to s))) d;
+      figure = line-of;
+      reply = transition-opened ∙ failed (stepInRange h st) 2 line-of (risen to st) d;
       says = ap (refusal 2) (omega arith);
     }
 
-    in-range-opened : stepInRange h st ≡ true → readTransitions h names (suc left) steps (drop at s)
-        ≡ unless (above steps st) 4 (2 + length names + length steps) (readTransitions h names left (steps ++ (st ∷ [])) (drop to s))
-    in-range-opened d =
-        transition-opened ∙ passed (stepInRange h st) 2 (2 + length names + length steps) (unless (above steps st) 4 (2 + length names + length steps) (readTransitions h names left (steps ++ (st ∷ [])) (drop to s))) d
+    in-range-opened : stepInRange h st ≡ true → steps-left ≡ risen to st
+    in-range-opened d = transition-opened ∙ passed (stepInRange h st) 2 line-of (risen to st) d
 
-    pub transition-not-rising : (n : ℕ) → n ≡ length names + length steps + 2 → stepInRange h st ≡ true → above steps st ≡ false → Refuses (readTransitions h names (suc left) steps (drop at s)) (NotRising n)
+    pub transition-not-rising : (n : ℕ) → n ≡ length names + length steps + 2 → stepInRange h st ≡ true → above steps st ≡ false → Refuses (steps-left) (NotRising n)
     transition-not-rising n f d u = record {
       number = 4;
-      figure = 2 + length names + length steps;
-      reply = in-range-opened d ∙ failed (above steps st) 4 (2 + length names + length steps) (readTransitions h names left (steps ++ (st ∷ [])) (drop to s)) u;
+      figure = line-of;
+      reply = in-range-opened d ∙ failed (above steps st) 4 line-of (readTransitions h names left (steps ++ (st ∷ [])) (drop to s)) u;
       says = ap (refusal 4) (omega arith);
     }
 
-    pub transition-accepted : stepInRange h st ≡ true → above steps st ≡ true → readTransitions h names (suc left) steps (drop at s) ≡ readTransitions h names left (steps ++ (st ∷ [])) (drop to s)
-    transition-accepted d u = in-range-opened d ∙ passed (above steps st) 4 (2 + length names + length steps) (readTransitions h names left (steps ++ (st ∷ [])) (drop to s)) u
+    pub transition-accepted : stepInRange h st ≡ true → above steps st ≡ true → steps-left ≡ readTransitions h names left (steps ++ (st ∷ [])) (drop to s)
+    transition-accepted d u = in-range-opened d ∙ passed (above steps st) 4 line-of (readTransitions h names left (steps ++ (st ∷ [])) (drop to s)) u
 
   -- A number out of range, in a line that is laid out or not.
-  pub transition-number-refused : (to : ℕ) (st : Step) (laid : Bool) → (laid ≡ true → (l : List ℕ) × LineAt stepLaidOut s at to l × (stepOf l ≡ st)) → (laid ≡ false → NoLineAt stepLaidOut s at)
-      → stepInRange h st ≡ false → (n : ℕ) → n ≡ length names + length steps + 2 → Refuses (readTransitions h names (suc left) steps (drop at s)) (numberRefused laid n)
+  pub transition-number-refused : (to : ℕ) (st : Step) (laid : Bool)
+      → (laid ≡ true → (l : List ℕ) × LineAt stepLaidOut s at to l × (stepOf l ≡ st)) → (laid ≡ false → NoLineAt stepLaidOut s at)
+      → stepInRange h st ≡ false → (n : ℕ) → n ≡ length names + length steps + 2 → Refuses (steps-left) (numberRefused laid n)
   transition-number-refused to st true x y d n f = let (l, g, v) = x refl in transition-out-of-range to l g st v n f d
   transition-number-refused to st false x y d n f = transition-refused n f (y refl)
 

@@ -47,10 +47,14 @@ module _ (h : Header) (s : List ℕ) (from : ℕ) where
   }
 
   module _ (b : List ℕ) (at count : ℕ) (r : NamesSoFar h s from b at count) where
-    names-next : count < h .labels → readLabels h (h .labels) [] (drop from s) ≡ readLabels h (suc (h .labels - (count + 1))) (r .names) (drop at s)
-    names-next k = let more : h .labels - count ≡ suc (h .labels - (count + 1)) = omega arith in r .reads ∙ ap (λ n. readLabels h n (r .names) (drop at s)) more
+    names-next : count < h .labels
+        → readLabels h (h .labels) [] (drop from s) ≡ readLabels h (suc (h .labels - (count + 1))) (r .names) (drop at s)
+    names-next k =
+        let more : h .labels - count ≡ suc (h .labels - (count + 1)) = omega arith in
+        r .reads ∙ ap (λ n. readLabels h n (r .names) (drop at s)) more
 
-    pub names-refused : count < h .labels → {t : TableReply} → Refuses (readLabels h (suc (h .labels - (count + 1))) (r .names) (drop at s)) t → Refuses (readLabels h (h .labels) [] (drop from s)) t
+    pub names-refused : count < h .labels → {t : TableReply} → Refuses (readLabels h (suc (h .labels - (count + 1))) (r .names) (drop at s)) t
+        → Refuses (readLabels h (h .labels) [] (drop from s)) t
     names-refused k f = refuses-whole (names-next k) f
 
     pub names-go-on : count < h .labels → (to : ℕ) (d : List ℕ) → NameRead h s at to (h .labels - (count + 1)) (r .names) d → NamesSoFar h s from d to (count + 1)
@@ -94,14 +98,18 @@ module _ (h : Header) (s : List ℕ) (from : ℕ) (names : List (List ℕ)) wher
   }
 
   module _ (b : List ℕ) (at count : ℕ) (r : StepsSoFar h s from names b at count) where
-    steps-next : count < h .transitions → readTransitions h names (h .transitions) [] (drop from s) ≡ readTransitions h names (suc (h .transitions - (count + 1))) (r .steps) (drop at s)
-    steps-next k = let more : h .transitions - count ≡ suc (h .transitions - (count + 1)) = omega arith in r .reads ∙ ap (λ n. readTransitions h names n (r .steps) (drop at s)) more
+    steps-next : count < h .transitions
+        → readTransitions h names (h .transitions) [] (drop from s) ≡ readTransitions h names (suc (h .transitions - (count + 1))) (r .steps) (drop at s)
+    steps-next k =
+        let more : h .transitions - count ≡ suc (h .transitions - (count + 1)) = omega arith in
+        r .reads ∙ ap (λ n. readTransitions h names n (r .steps) (drop at s)) more
 
     pub steps-refused : count < h .transitions → {t : TableReply} → Refuses (readTransitions h names (suc (h .transitions - (count + 1))) (r .steps) (drop at s)) t
         → Refuses (readTransitions h names (h .transitions) [] (drop from s)) t
     steps-refused k f = refuses-whole (steps-next k) f
 
-    pub steps-go-on : count < h .transitions → (to : ℕ) (d : List ℕ) → TransitionLineRead h s at to (h .transitions - (count + 1)) names (r .steps) d → StepsSoFar h s from names d to (count + 1)
+    pub steps-go-on : count < h .transitions → (to : ℕ) (d : List ℕ) → TransitionLineRead h s at to (h .transitions - (count + 1)) names (r .steps) d
+        → StepsSoFar h s from names d to (count + 1)
     steps-go-on k to d f = record {
       steps = r .steps ++ (f .last ∷ []);
       counts = length-append (r .steps) (f .last ∷ []) ∙ omega (arith, r .counts);
@@ -117,7 +125,8 @@ module _ (h : Header) (s : List ℕ) (from : ℕ) (names : List (List ℕ)) wher
       more-text [] n a h = absurd (omega arith)
       more-text (x ∷ l) n a h = refl
 
-      pub text-follows : at < length s → length names ≡ h .labels → (n : ℕ) → n ≡ h .labels + count + 2 → Refuses (readTransitions h names (h .transitions) [] (drop from s)) (NotLaidOut n)
+      pub text-follows : at < length s → length names ≡ h .labels → (n : ℕ) → n ≡ h .labels + count + 2
+          → Refuses (readTransitions h names (h .transitions) [] (drop from s)) (NotLaidOut n)
       unfolding readTransitions
       text-follows m c n f = record {
         number = 1;
@@ -131,7 +140,9 @@ module _ (h : Header) (s : List ℕ) (from : ℕ) (names : List (List ℕ)) wher
       steps-end m = record {
         steps = r .steps;
         counts = r .counts ∙ k;
-        reads = steps-over ∙ ap (λ l. atEnd (2 + length names + length (r .steps)) l (accepted (record { states = h .states; names = names; transitions = r .steps; start = h .start }))) (drop-of-length-le s m);
+        reads =
+            let t : Table = record { states = h .states; names = names; transitions = r .steps; start = h .start } in
+            steps-over ∙ ap (λ l. atEnd (2 + length names + length (r .steps)) l (accepted t)) (drop-of-length-le s m);
         kept = r .kept;
       }
 
@@ -146,8 +157,8 @@ line-within : (c : HeaderFields) (s : List ℕ) (from : ℕ) (b : List ℕ) (at 
     → TransitionProgress (header c) s at count b d (Next to) → (names : List (List ℕ)) → length names ≡ c .labels → to ≤ length s
 line-within c s from b at count i to d f names e = let r = i .so-far names e in f 0 names (r .steps) e (r .counts) (r .kept) .within
 
-pub line-taken : (c : HeaderFields) (s : List ℕ) (from : ℕ) (b : List ℕ) (at count : ℕ) → TransitionsSoFar c s from b at count → count < c .transitions → (to : ℕ) (d : List ℕ)
-    → TransitionProgress (header c) s at count b d (Next to) → length d ≡ length b → TransitionsSoFar c s from d to (count + 1)
+pub line-taken : (c : HeaderFields) (s : List ℕ) (from : ℕ) (b : List ℕ) (at count : ℕ) → TransitionsSoFar c s from b at count → count < c .transitions
+    → (to : ℕ) (d : List ℕ) → TransitionProgress (header c) s at count b d (Next to) → length d ≡ length b → TransitionsSoFar c s from d to (count + 1)
 line-taken c s from b at count i k to d f e = record {
   within = line-within c s from b at count i to d f (replicate (c .labels) []) (length-replicate (c .labels) []);
   few = omega arith;

@@ -39,7 +39,12 @@ module _ (s : List ℕ) where
         ∙ ap (λ (x : Header). unless (headerInRange x) 2 1 (readLabels x (x .labels) [] (drop 25 s))) v
 
     pub header-out-of-range : headerInRange h ≡ false → Refuses (readTable s) (OutOfRange 1)
-    header-out-of-range d = record { number = 2; figure = 1; reply = header-opened ∙ failed (headerInRange h) 2 1 (readLabels h (h .labels) [] (drop 25 s)) d; says = refl }
+    header-out-of-range d = record {
+      number = 2;
+      figure = 1;
+      reply = header-opened ∙ failed (headerInRange h) 2 1 (readLabels h (h .labels) [] (drop 25 s)) d;
+      says = refl;
+    }
 
     pub header-accepted : headerInRange h ≡ true → readTable s ≡ readLabels h (h .labels) [] (drop 25 s)
     header-accepted d = header-opened ∙ passed (headerInRange h) 2 1 (readLabels h (h .labels) [] (drop 25 s)) d
@@ -52,12 +57,20 @@ pub record HeaderBounds (h : Header) : Type 0 where
 
 pub header-bounds : (h : Header) → headerInRange h ≡ true → HeaderBounds h
 header-bounds h e =
-    let a = and-true-of (leb 1 (h .states) && leb (h .states) mostStates && leb (h .labels) mostLabels && leb (h .transitions) mostTransitions) (ltb (h .start) (h .states)) e in
-    let b = and-true-of (leb 1 (h .states) && leb (h .states) mostStates && leb (h .labels) mostLabels) (leb (h .transitions) mostTransitions) (a .0) in
-    let c = and-true-of (leb 1 (h .states) && leb (h .states) mostStates) (leb (h .labels) mostLabels) (b .0) in
+    let states : Bool = leb 1 (h .states) && leb (h .states) mostStates in
+    let labels : Bool = leb (h .labels) mostLabels in
+    let transitions : Bool = leb (h .transitions) mostTransitions in
+    let a = and-true-of (states && labels && transitions) (ltb (h .start) (h .states)) e in
+    let b = and-true-of (states && labels) transitions (a .0) in
+    let c = and-true-of states labels (b .0) in
     let d = and-true-of (leb 1 (h .states)) (leb (h .states) mostStates) (c .0) in
-    let states = leb-true (h .states) 256 (d .1) in
-    record { states = states; labels = leb-true (h .labels) 40 (c .1); transitions = leb-true (h .transitions) 1024 (b .1); start = omega (arith, ltb-true (h .start) (h .states) (a .1)) }
+    let few = leb-true (h .states) 256 (d .1) in
+    record {
+      states = few;
+      labels = leb-true (h .labels) 40 (c .1);
+      transitions = leb-true (h .transitions) 1024 (b .1);
+      start = omega (arith, ltb-true (h .start) (h .states) (a .1));
+    }
 
 -- The parts of the prepared bytes.
 pub table-bytes : (h : Header) (names : List (List ℕ)) (steps : List Step) → length names ≡ h .labels → length steps ≡ h .transitions
@@ -77,7 +90,8 @@ module _ (h : Header) (s names slots : List ℕ) where
     bytes = λ t e. absurd (false≢true (ap isAccepted (sym (r .reply) ∙ e)));
   }
 
-  pub lines-accepted : (t : Table) → readLabels h (h .labels) [] (drop 25 s) ≡ accepted t → headBytes h ++ (names ++ slots) ≡ tableBytes t → LinesRead h s names slots Accepted
+  pub lines-accepted : (t : Table) → readLabels h (h .labels) [] (drop 25 s) ≡ accepted t → headBytes h ++ (names ++ slots) ≡ tableBytes t
+      → LinesRead h s names slots Accepted
   lines-accepted t e f = record { replies = sym (ap (answers (λ t. tt)) e); bytes = λ u g. f ∙ ap (λ r. tableBytes (acceptedOr t r)) (sym e ∙ g) }
 
 -- What is lent stays, or is written, as the reply says.
@@ -86,7 +100,8 @@ module _ (b : List ℕ) (u : Reply (Unit {0})) where
   left-unwritten (accepted t) e f = absurd (true≢false (sym (ap isAccepted e) ∙ f))
   left-unwritten (refusal number figure) e f = refl
 
-  left-written : (a : Reply Table) → u ≡ answers (λ t. tt) a → isAccepted u ≡ true → (x : List ℕ) → ((t : Table) → a ≡ accepted t → x ≡ tableBytes t) → overwritten x b ≡ leftIn tableBytes a b
+  left-written : (a : Reply Table) → u ≡ answers (λ t. tt) a → isAccepted u ≡ true → (x : List ℕ) → ((t : Table) → a ≡ accepted t → x ≡ tableBytes t)
+      → overwritten x b ≡ leftIn tableBytes a b
   left-written (accepted t) e f x g = ap (λ y. overwritten y b) (g t refl)
   left-written (refusal number figure) e f x g = absurd (false≢true (sym (ap isAccepted e) ∙ f))
 
@@ -108,15 +123,23 @@ module _ (s b : List ℕ) where
         let refused = reading-is ∙ r .reply in
         (r .says ∙ ap (answers (λ t. tt)) (sym refused), ap (λ x. leftIn tableBytes x b) (sym refused))
 
-    module _ (f : Header) (names slots : List ℕ) (t : TableReply) (r : LinesRead f s names slots t) (e : readTable s ≡ readLabels f (f .labels) [] (drop 25 s)) where
+    module _ (f : Header) (names slots : List ℕ) (t : TableReply) (r : LinesRead f s names slots t)
+        (e : readTable s ≡ readLabels f (f .labels) [] (drop 25 s)) where
+      abbrev lines : Reply Table
+      lines = readLabels f (f .labels) [] (drop 25 s)
+
       lines-replied : tableReply t ≡ tableReplied s b
       lines-replied = r .replies ∙ ap (answers (λ t. tt)) (sym (reading-is ∙ e))
 
-      pub unwritten-replies : isAccepted (tableReply t) ≡ false → (tableReply t ≡ tableReplied s b) × (b ≡ tableLeft s b)
-      unwritten-replies g = (lines-replied, left-unwritten b (tableReply t) (readLabels f (f .labels) [] (drop 25 s)) (r .replies) g ∙ ap (λ x. leftIn tableBytes x b) (sym (reading-is ∙ e)))
+      lines-left : leftIn tableBytes lines b ≡ tableLeft s b
+      lines-left = ap (λ x. leftIn tableBytes x b) (sym (reading-is ∙ e))
 
-      pub written-replies : isAccepted (tableReply t) ≡ true → (d : List ℕ) → d ≡ overwritten (headBytes f ++ (names ++ slots)) b → (tableReply t ≡ tableReplied s b) × (d ≡ tableLeft s b)
+      pub unwritten-replies : isAccepted (tableReply t) ≡ false → (tableReply t ≡ tableReplied s b) × (b ≡ tableLeft s b)
+      unwritten-replies g = (lines-replied, left-unwritten b (tableReply t) lines (r .replies) g ∙ lines-left)
+
+      pub written-replies : isAccepted (tableReply t) ≡ true → (d : List ℕ) → d ≡ overwritten (headBytes f ++ (names ++ slots)) b
+          → (tableReply t ≡ tableReplied s b) × (d ≡ tableLeft s b)
       written-replies g d k = (
         lines-replied,
-        k ∙ left-written b (tableReply t) (readLabels f (f .labels) [] (drop 25 s)) (r .replies) g (headBytes f ++ (names ++ slots)) (r .bytes) ∙ ap (λ x. leftIn tableBytes x b) (sym (reading-is ∙ e)),
+        k ∙ left-written b (tableReply t) lines (r .replies) g (headBytes f ++ (names ++ slots)) (r .bytes) ∙ lines-left,
       )

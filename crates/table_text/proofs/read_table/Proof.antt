@@ -6,32 +6,46 @@ use borrow.Author.Tests.{not-true, not-false}
 use mathlib.Core.Bool.{true}
 use lib.ListN.{drop}
 use mathlib.Core.List.{List, []}
-use Rattle.table_text.proofs.Laws.Tables.{header-refused, header-out-of-range, header-accepted, HeaderBounds, header-bounds, short-replies, refused-replies, unwritten-replies, written-replies}
+use Rattle.table_text.proofs.Laws.Tables.{header-refused, header-out-of-range, header-accepted, HeaderBounds, header-bounds}
+use Rattle.table_text.proofs.Laws.Tables.{short-replies, refused-replies, unwritten-replies, written-replies}
 use Rattle.lts.specs.Reading.{Header, headerInRange, readLabels, readTable}
 use Rattle.table_lines.specs.LineReplies.{header, HeaderAnswer}
+use Rattle.table_lines.specs.declared.HeaderLine.the-variants.{Header as LaidHeader}
 use Rattle.table_text.proofs.read_table.Statement.{statement}
 use Rattle.table_text.proofs.read_table.Tie as tie
 
--- A header in range.
-abbrev entry : tie.Else2 → tie.Start
-entry c = c .before .before .before .before .before .before .before .before .before
+-- The lent bytes are long enough.
+module _ (c : tie.Else1) where
+  abbrev text : List ℕ
+  text = c .before .before .before .args .text .now
 
-abbrev text : tie.Else2 → List ℕ
-text c = entry c .args .text .now
+  abbrev lent : List ℕ
+  lent = c .before .before .before .args .table .now
 
-abbrev fields : tie.Else2 → Header
-fields c = header (c .before .before .before .counts .given .0 .0)
+-- A header is read.
+module _ (c : tie.After-known-told) where
+  abbrev longer : tie.Else1
+  longer = c .before .before .before .before
 
-in-range : (c : tie.Else2) → headerInRange (fields c) ≡ true
-in-range c = sym (c .before .header-in-range .ensures) ∙ not-false _ (c .if2 .left)
+  abbrev fields : Header
+  fields = header (c .before .counts .given .0 .0)
 
-bounds : (c : tie.Else2) → HeaderBounds (fields c)
-bounds c = header-bounds (fields c) (in-range c)
+  said : HeaderAnswer (text longer) (LaidHeader (c .before .counts .given .0 .0))
+  said = subst (HeaderAnswer (text longer)) (c .before .counts .given .1) (c .before .before .before .header-line .ensures)
 
-labels-left : (c : tie.Else2) → readTable (text c) ≡ readLabels (fields c) (fields c .labels) [] (drop 25 (text c))
-labels-left c =
-    let (l, lies, values) = subst (HeaderAnswer (text c)) (c .before .before .before .counts .given .1) (c .before .before .before .before .before .header-line .ensures) in
-    header-accepted (text c) l lies (fields c) values (in-range c)
+-- It is in range.
+module _ (c : tie.Else2) where
+  abbrev known : tie.After-known-told
+  known = c .before .before
+
+  in-range : headerInRange (fields known) ≡ true
+  in-range = sym (c .before .header-in-range .ensures) ∙ not-false _ (c .if2 .left)
+
+  bounds : HeaderBounds (fields known)
+  bounds = header-bounds (fields known) in-range
+
+  labels-left : readTable (text (longer known)) ≡ readLabels (fields known) (fields known .labels) [] (drop 25 (text (longer known)))
+  labels-left = let (l, lies, values) = said known in header-accepted (text (longer known)) l lies (fields known) values in-range
 
 -- The lines behind it are read.
 abbrev begun : tie.After-is-accepted → tie.Else2
@@ -42,23 +56,22 @@ returns c = let a = c .before .before .before .args in short-replies (a .text .n
 
 returns-2 : tie.Need-returns-2
 returns-2 c =
-    let a = c .before .before .before .before .before .before .args in
-    let s = a .text .now in
-    refused-replies s (a .table .now) (c .before .before .before .if1 .left) (header-refused s (subst (HeaderAnswer s) (c .enum-told .given .1) (c .before .before .header-line .ensures)))
+    let enough = c .before .before .before in
+    refused-replies (text enough) (lent enough) (enough .if1 .left)
+    (header-refused (text enough) (subst (HeaderAnswer (text enough)) (c .enum-told .given .1) (c .before .before .header-line .ensures)))
 
 returns-3 : tie.Need-returns-3
 returns-3 c =
-    let a = c .before .before .before .before .before .before .before .before .before .args in
-    let s = a .text .now in
-    let h = header (c .before .before .before .counts .given .0 .0) in
-    let (l, lies, values) = subst (HeaderAnswer s) (c .before .before .before .counts .given .1) (c .before .before .before .before .before .header-line .ensures) in
-    refused-replies s (a .table .now) (c .before .before .before .before .before .before .if1 .left) (header-out-of-range s l lies h values (sym (c .before .header-in-range .ensures) ∙ not-true _ (c .if2 .taken)))
+    let read = c .before .before in
+    let enough = longer read in
+    let (l, lies, values) = said read in
+    refused-replies (text enough) (lent enough) (enough .if1 .left)
+    (header-out-of-range (text enough) l lies (fields read) values (sym (c .before .header-in-range .ensures) ∙ not-true _ (c .if2 .taken)))
 
 read-lines-requires : tie.Need-read-lines-requires
 read-lines-requires c κs =
     let begin = c .before .before in
-    let s = text begin in
-    let (l, lies, values) = subst (HeaderAnswer s) (begin .before .before .before .counts .given .1) (begin .before .before .before .before .before .header-line .ensures) in
+    let (l, lies, values) = said (known begin) in
     let fits = bounds begin in
     ((lies .within, (refl, refl)), (fits .states, (fits .labels, fits .transitions)))
 
@@ -68,24 +81,24 @@ write-table-requires c κs =
     let begin = begun answered in
     let fits = bounds begin in
     let kept = answered .before .before .before .read-lines .kept in
-    ((begin .before .before .before .before .before .before .if1 .left, (kept .1 .1 .0, kept .1 .1 .1 .0)), (fits .states, (fits .labels, (fits .transitions, fits .start))))
+    ((longer (known begin) .if1 .left, (kept .1 .1 .0, kept .1 .1 .1 .0)), (fits .states, (fits .labels, (fits .transitions, fits .start))))
 
 returns-4 : tie.Need-returns-4
 returns-4 c =
     let taken = c .before .before .before .before .before .before in
     let answered = taken .before in
     let begin = begun answered in
-    let long = begin .before .before .before .before .before .before .if1 .left in
-    written-replies (text begin) (entry begin .args .table .now) long (fields begin) _ _ _ (answered .before .before .before .read-lines .ensures) (labels-left begin)
+    let enough = longer (known begin) in
+    written-replies (text enough) (lent enough) (enough .if1 .left) (fields (known begin)) _ _ _
+    (answered .before .before .before .read-lines .ensures) (labels-left begin)
     (sym (answered .is-accepted .ensures) ∙ taken .if3 .taken) _ (c .before .before .write-table .ensures)
 
 returns-5 : tie.Need-returns-5
 returns-5 c =
-    let answered = c .before in
-    let begin = begun answered in
-    let long = begin .before .before .before .before .before .before .if1 .left in
-    unwritten-replies (text begin) (entry begin .args .table .now) long (fields begin) _ _ _ (answered .before .before .before .read-lines .ensures) (labels-left begin)
-    (sym (answered .is-accepted .ensures) ∙ c .if3 .left)
+    let begin = begun (c .before) in
+    let enough = longer (known begin) in
+    unwritten-replies (text enough) (lent enough) (enough .if1 .left) (fields (known begin)) _ _ _
+    (c .before .before .before .before .read-lines .ensures) (labels-left begin) (sym (c .before .is-accepted .ensures) ∙ c .if3 .left)
 
 pub read-table-spec : {M : Type 1} → statement M
 read-table-spec =

@@ -41,7 +41,10 @@ known c = c .before .before .before
 in-bounds : (c : tie.Else1) → stepInRange (header (entry (known c) .args .counts)) (stepIn (read (known c))) ≡ true
 in-bounds c = sym (c .before .transition-in-range .ensures) ∙ not-false _ (c .if1 .left)
 
-says : (c : tie.Else2) → (l : List ℕ) × LineAt stepLaidOut (text (known (c .before))) (entry (known (c .before)) .args .at) (entry (known (c .before)) .args .at + 19) l × (stepOf l ≡ stepIn (read (known (c .before))))
+abbrev SaidAt : tie.After-known-told → ℕ → Type 0
+SaidAt c at = (l : List ℕ) × LineAt stepLaidOut (text c) at (at + 19) l × (stepOf l ≡ stepIn (read c))
+
+says : (c : tie.Else2) → SaidAt (known (c .before)) (entry (known (c .before)) .args .at)
 says c = numbers (known (c .before)) .ended (eqb-true _ _ (sym (c .before .before .before .stands .ensures) ∙ not-false _ (c .if2 .left)))
 
 returns : tie.Need-returns
@@ -81,8 +84,8 @@ returns-4 c =
     let a = entry row .args in
     let t = stepIn (read row) in
     let (l, lies, values) = says laid in
-    λ left names steps e f g. transition-not-rising (header (a .counts)) (a .text .now) (a .at) left names steps (a .at + 19) l lies t values _ (omega arith) (in-bounds (laid .before))
-    (sym (rises-stored (a .slots .now) (a .count) steps t f g) ∙ sym (c .before .rises .ensures) ∙ not-true _ (c .if3 .taken))
+    λ left names steps e f g. transition-not-rising (header (a .counts)) (a .text .now) (a .at) left names steps (a .at + 19) l lies t values _ (omega arith)
+    (in-bounds (laid .before)) (sym (rises-stored (a .slots .now) (a .count) steps t f g) ∙ sym (c .before .rises .ensures) ∙ not-true _ (c .if3 .taken))
 
 write-transition-requires : tie.Need-write-transition-requires
 write-transition-requires c κs =
@@ -106,7 +109,8 @@ returns-5 c =
       within = lies .within;
       reads = transition-accepted (header (a .counts)) (a .text .now) (a .at) left names steps (a .at + 19) l lies t values (in-bounds (laid .before))
           (sym (rises-stored (a .slots .now) (a .count) steps t f g) ∙ sym (risen .before .rises .ensures) ∙ not-false _ (risen .if3 .left));
-      kept = c .before .before .write-transition .ensures ∙ ap (λ b. pasted b (a .count * transitionLength) (transitionSlot t)) g ∙ step-written steps t (a .count) f (start .pre .0 .1 .1);
+      kept = c .before .before .write-transition .ensures ∙ ap (λ b. pasted b (a .count * transitionLength) (transitionSlot t)) g
+          ∙ step-written steps t (a .count) f (start .pre .0 .1 .1);
     }
 
 pub read-transition-spec : {M : Type 1} → statement M

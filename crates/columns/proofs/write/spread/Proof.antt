@@ -72,4 +72,4 @@ pub spread-spec : {M : Type 1} → statement M
 spread-spec =
     tie.close
     (tie.spec Inv-loop μ-loop add-bytes cast-bytes array-write-bytes loop-holds sub-from add-bytes-2 cast-bytes-2 array-write-bytes-2
-        loop-less loop-again returns returns-2)
+    loop-less loop-again returns returns-2)

@@ -86,4 +86,4 @@ pub write-column-spec : {M : Type 1} → statement M
 write-column-spec =
     tie.close
     (tie.spec Inv-loop μ-loop spread-requires loop-holds sub-loop add-out array-read-out add-out-2 slice-write-out add-i loop-less
-        loop-again sub-result add-result same-length returns)
+    loop-again sub-result add-result same-length returns)

@@ -1,8 +1,4 @@
-use Rattle.columns.proofs.write.write_numbers.Statement.{statement}
-use Rattle.columns.proofs.write.write_numbers.Tie as tie
-use Rattle.columns.proofs.write.write_numbers.Reads as reads
-use Rattle.columns.proofs.write.write_numbers.Lts as lts
-use Rattle.columns.proofs.write.write_column.Reads as write-column-reads
+-- `write_numbers` leaves the line of its numbers `pasted`: the invariant is that the columns of the first i are.
 use mathlib.Core.Path.{_≡_, refl, sym, ap, _∙_, subst}
 use mathlib.Core.List.{_∷_, []}
 use Prim.Native.Nat.{_+_, _*_, _-_, _≤_, _<_}
@@ -12,6 +8,8 @@ use lib.ListN.{length, getD, take, set, length-set}
 use Rattle.columns.specs.Columns.{column, numbersLine}
 use Rattle.columns.specs.Write.{pasted}
 use Rattle.columns.proofs.Laws.Pasting.{Pasting, pasting-none, pasting-more, pasting-length, set-pasted, columns, columns-more, columns-line}
+use Rattle.columns.proofs.write.write_numbers.Statement.{statement}
+use Rattle.columns.proofs.write.write_numbers.Tie as tie
 
 abbrev Inv-loop : tie.InvT-loop
 Inv-loop count out₀ at values end₀ i₀ out end i = Pasting out₀ at (columns (take i values)) out end × (i ≤ count) × (end ≤ at + 20 * i)
@@ -19,31 +17,12 @@ Inv-loop count out₀ at values end₀ i₀ out end i = Pasting out₀ at (colum
 abbrev μ-loop : tie.MeasureT-loop
 μ-loop count out₀ at values end₀ i₀ out end i = count - i
 
--- src/write.rt:61:5
 loop-holds : tie.Need-loop-holds Inv-loop μ-loop
 loop-holds c = (pasting-none _ _ (omega arith), omega arith, omega arith)
 
--- src/write.rt:62:28
-mul-write-column : tie.Need-mul-write-column Inv-loop μ-loop
-mul-write-column c = omega arith
-
--- src/write.rt:62:28
-array-read-write-column : tie.Need-array-read-write-column Inv-loop μ-loop
-array-read-write-column c = omega arith
-
--- src/write.rt:62:9
 write-column-requires : tie.Need-write-column-requires Inv-loop μ-loop
 write-column-requires c κs = omega (arith, pasting-length (c .before .before .loop .inv .0), c .before .before .loop .inv .2)
 
--- src/write.rt:63:9
-add-i : tie.Need-add-i Inv-loop μ-loop
-add-i c = omega arith
-
--- src/write.rt:61:5
-loop-less : tie.Need-loop-less Inv-loop μ-loop
-loop-less c = omega arith
-
--- src/write.rt:61:5
 loop-again : tie.Need-loop-again Inv-loop μ-loop
 loop-again c =
     let l = c .before .before .before .before .before .loop in
@@ -53,19 +32,12 @@ loop-again c =
     let p = pasting-more (l .inv .0) (column (getD (a .t1) (l .i) 0)) (w .last .1 .0) (w .result) (w .ensures .1 .0) (w .ensures .0) (omega (arith, l .inv .2)) in
     (subst (λ t. Pasting (a .out .now) (a .at) t (w .last .1 .0) (w .result)) (columns-more (a .t1) (l .i) there) p, omega arith, omega (arith, l .inv .2))
 
--- src/write.rt:65:5
 slice-write-out : tie.Need-slice-write-out Inv-loop μ-loop
 slice-write-out c = omega (arith, pasting-length (c .before .loop .inv .0), c .before .loop .inv .2)
 
--- src/write.rt:66:5
-add-result : tie.Need-add-result Inv-loop μ-loop
-add-result c = omega arith
-
--- src/write.rt:54:1
 same-length : tie.Need-same-length Inv-loop μ-loop
 same-length c = length-set (c .before .loop .out) (c .before .loop .end) 10 ∙ pasting-length (c .before .loop .inv .0)
 
--- src/write.rt:54:1
 returns : tie.Need-returns Inv-loop μ-loop
 returns c =
     let l = c .before .loop in
@@ -79,5 +51,5 @@ returns c =
 pub write-numbers-spec : {M : Type 1} → statement M
 write-numbers-spec =
     tie.close
-    (tie.spec Inv-loop μ-loop loop-holds mul-write-column array-read-write-column write-column-requires add-i loop-less loop-again
-        slice-write-out add-result same-length returns)
+    (tie.spec Inv-loop μ-loop loop-holds (λ c. omega arith) (λ c. omega arith) write-column-requires (λ c. omega arith) (λ c. omega arith)
+    loop-again slice-write-out (λ c. omega arith) same-length returns)

@@ -99,4 +99,4 @@ pub same-name-spec : {M : Type 1} → statement M
 same-name-spec =
     tie.close
     (tie.spec Inv-loop μ-loop mul-if1 shared-slice-read-if1 cast-if1 returns mul-at add-at loop-holds add-if2 shared-slice-read-if2
-        shared-slice-read-if2-2 returns-2 add-i loop-less loop-again returns-3)
+    shared-slice-read-if2-2 returns-2 add-i loop-less loop-again returns-3)

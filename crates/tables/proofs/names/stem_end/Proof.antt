@@ -89,4 +89,4 @@ pub stem-end-spec : {M : Type 1} → statement M
 stem-end-spec =
     tie.close
     (tie.spec Inv-loop μ-loop returns shared-slice-read-is-lower cast-is-lower is-lower-requires returns-2 loop-holds add-to returns-3
-        shared-slice-read-is-name-byte cast-is-name-byte is-name-byte-requires returns-4 add-n loop-less loop-again add-result returns-5)
+    shared-slice-read-is-name-byte cast-is-name-byte is-name-byte-requires returns-4 add-n loop-less loop-again add-result returns-5)

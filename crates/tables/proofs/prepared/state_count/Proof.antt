@@ -4,21 +4,12 @@ use borrow.Author.Needs.{needs}
 use Rattle.tables.proofs.prepared.state_count.Statement.{statement}
 use Rattle.tables.proofs.prepared.state_count.Tie as tie
 
-byte-requires : tie.Need-byte-requires
-byte-requires c κs = search needs
-
-byte-requires-2 : tie.Need-byte-requires-2
-byte-requires-2 c κs = search needs
-
-mul-result : tie.Need-mul-result
-mul-result c = search needs
-
-add-result : tie.Need-add-result
-add-result c = search needs
+two-bytes-requires : tie.Need-two-bytes-requires
+two-bytes-requires c κs = search needs
 
 returns : tie.Need-returns
 unfolding tableIn
-returns c = search needs
+returns c = c .two-bytes .ensures
 
 pub state-count-spec : {M : Type 1} → statement M
-state-count-spec = tie.close (tie.spec byte-requires byte-requires-2 mul-result add-result returns)
+state-count-spec = tie.close (tie.spec two-bytes-requires returns)

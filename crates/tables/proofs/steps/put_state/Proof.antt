@@ -31,7 +31,9 @@ put-transitions-requires c κs =
     let start = c .before .before .before in
     let few = exits-at-most (tableIn (start .args .table .now) .transitions) (start .args .s + 1) in
     let taken = c .before .if1 .taken in
-    (start .pre .0, ((omega arith, omega (arith, few, start .pre .1 .0 .1)), (start .pre .1 .1 .0, omega (arith, few, start .pre .0 .in-range .few-transitions, start .pre .1 .0 .1, start .pre .1 .1 .1))))
+    let bound = start .pre .1 .0 .1 in
+    let most = start .pre .0 .in-range .few-transitions in
+    (start .pre .0, ((omega arith, omega (arith, few, bound)), (start .pre .1 .1 .0, omega (arith, few, most, bound, start .pre .1 .1 .1))))
 
 returns : tie.Need-returns
 returns c =

@@ -1,0 +1,19 @@
+-- What the tests of name slots and of transition slots hand to the check of the whole table.
+use mathlib.Core.List.{List}
+use Prim.Native.Nat.{ℕ, _+_, _*_}
+use lib.ListN.{length}
+use Rattle.lts.specs.Sizes.{headLength, nameSlotLength, transitionLength, transitionsAt, tableLength}
+use Rattle.lts.specs.Steps.{labels}
+use Rattle.lts.specs.Prepared.{tableIn}
+use Rattle.lts.specs.Check.{ZerosFrom, NamesHeld, TransitionsHeld}
+
+-- Slots in use are as they must be, and zeros stand behind them.
+pub record Filled (Held : Type 0) (b : List ℕ) (from to : ℕ) : Type 0 where
+  pub held : Held
+  pub behind : ZerosFrom b from to
+
+abbrev pub NamesFilled : List ℕ → Type 0
+NamesFilled b = Filled (NamesHeld b) b (headLength + labels (tableIn b) * nameSlotLength) transitionsAt
+
+abbrev pub TransitionsFilled : List ℕ → Type 0
+TransitionsFilled b = Filled (TransitionsHeld b) b (transitionsAt + length (tableIn b .transitions) * transitionLength) tableLength
