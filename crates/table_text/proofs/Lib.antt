@@ -1,1 +1,1 @@
-pub mod Laws
+mod Laws

@@ -44,7 +44,7 @@ pub enum TableReply {
 }
 
 // Where the next line starts; or what the entry answers.
-pub enum Progress {
+enum Progress {
     Next(usize),
     Refused(TableReply),
 }

@@ -40,6 +40,10 @@ line c = subst (LabelAnswer (entry c .args .text .now) (entry c .args .at)) (c .
 abbrev known : tie.After-find → tie.After-known-told
 known c = c .before .before .before .before
 
+-- It was not found.
+abbrev fresh : tie.After-enum-told3 → tie.After-known-told
+fresh c = known (c .before .before)
+
 used-before : (c : tie.After-find) (t : Bool) → isSome (foundIn (c .find .result)) ≡ t → (names : List (List ℕ)) → length names ≡ entry (known c) .args .count
     → every isName names ≡ true → entry (known c) .args .names .now ≡ nameBytes names → used names (drop 7 (line (known c) .bytes)) ≡ t
 used-before c t h names e f g =
@@ -52,14 +56,16 @@ returns c =
     let start = c .before .before .before .before .before in
     let s = start .args .text .now in
     let at = start .args .at in
-    λ h left names e f g. label-refused h s at left names _ (omega arith) (subst (LabelAnswer s at) (c .enum-told .given .1) (c .before .before .label-line .ensures))
+    λ h left names e f g. label-refused h s at left names _ (omega arith)
+    (subst (LabelAnswer s at) (c .enum-told .given .1) (c .before .before .label-line .ensures))
 
 returns-2 : tie.Need-returns-2
 returns-2 c =
     let a = entry (c .before) .args in
     let l = line (c .before) in
     λ h left names e f g.
-    label-out-of-order h (a .text .now) (a .at) left names (end (c .before) + 1) (l .bytes) (l .lies) _ (omega arith) (λ z. c .if1 .taken (omega (arith, l .numbered)))
+    label-out-of-order h (a .text .now) (a .at) left names (end (c .before) + 1) (l .bytes) (l .lies) _ (omega arith)
+    (λ z. c .if1 .taken (omega (arith, l .numbered)))
 
 sub-find : tie.Need-sub-find
 sub-find c = omega (arith, line (c .before .before) .starts)
@@ -87,23 +93,23 @@ returns-3 c =
     (used-before (c .before .before) true (ap (λ r. isSome (foundIn r)) (c .enum-told2 .given .1)) names e f g)
 
 sub-write-name : tie.Need-sub-write-name
-sub-write-name c = omega (arith, line (c .before .before .before .before .before .before .before) .starts)
+sub-write-name c = omega (arith, line (fresh (c .before)) .starts)
 
 part-write-name-start : tie.Need-part-write-name-start
-part-write-name-start c = omega (arith, line (c .before .before .before .before .before .before .before) .starts)
+part-write-name-start c = omega (arith, line (fresh (c .before)) .starts)
 
 part-write-name-end : tie.Need-part-write-name-end
-part-write-name-end c = omega (arith, line (c .before .before .before .before .before .before .before) .lies .within)
+part-write-name-end c = omega (arith, line (fresh (c .before)) .lies .within)
 
 write-name-requires : tie.Need-write-name-requires
 write-name-requires c κs =
-    let read = c .before .before .before .before .before .before .before .before in
+    let read = fresh (c .before .before) in
     let a = entry read .args in
     omega (arith, line read .ends, length-take (end read - (a .at + 7)) (drop (a .at + 7) (a .text .now)), entry read .pre)
 
 add-t12 : tie.Need-add-t12
 add-t12 c =
-    let read = c .before .before .before .before .before .before .before .before .before .before .before in
+    let read = fresh (c .before .before .before .before .before) in
     omega (arith, line read .lies .within, entry read .good .0 .0)
 
 returns-4 : tie.Need-returns-4
@@ -116,13 +122,13 @@ returns-4 c =
     let l = line read in
     let bytes = l .bytes in
     let named = and-true-of (sameBytes bytes (labelLine (valueAt 0 bytes) (drop 7 bytes))) (isName (drop 7 bytes)) (l .lies .laid-out) .1 in
-    let fresh = used-before found false (ap (λ r. isSome (foundIn r)) (told .enum-told3 .given .1)) in
+    let unused = used-before found false (ap (λ r. isSome (foundIn r)) (told .enum-told3 .given .1)) in
     λ h left names e f g. record {
       name = drop 7 bytes;
       is-name = named;
       within = l .lies .within;
       reads = label-accepted h (start .args .text .now) (start .args .at) left names (end read + 1) bytes (l .lies)
-          (omega (arith, l .numbered, found .before .before .before .if1 .left)) (fresh names e f g);
+          (omega (arith, l .numbered, found .before .before .before .if1 .left)) (unused names e f g);
       kept = c .before .before .write-name .ensures ∙ ap₂ (λ x y. pasted x (count * nameSlotLength) (counted y)) g (sym (l .name))
           ∙ name-written names (drop 7 bytes) count e (start .pre .1 .1) f (name-short (drop 7 bytes) named .1);
     }

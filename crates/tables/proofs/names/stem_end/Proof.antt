@@ -14,6 +14,16 @@ Inv-loop text from n₀ n = StemSoFar text from n
 abbrev μ-loop : tie.MeasureT-loop
 μ-loop text from n₀ n = 12 - n
 
+abbrev entry : tie.Else1 Inv-loop μ-loop → tie.Start Inv-loop μ-loop
+entry c = c .before .before
+
+-- The loop, and the byte that a turn of it tests.
+abbrev begun : tie.At-loop Inv-loop μ-loop → tie.Start Inv-loop μ-loop
+begun c = entry (c .before .before .before .before)
+
+abbrev turn : tie.After-is-name-byte Inv-loop μ-loop → tie.At-loop Inv-loop μ-loop
+turn c = c .before .before .before .before
+
 returns : tie.Need-returns Inv-loop μ-loop
 returns c = no-text (c .before .before .args .text .now) (c .before .before .args .from) (c .if1 .taken)
 
@@ -28,20 +38,20 @@ is-lower-requires c κs = search needs
 
 returns-2 : tie.Need-returns-2 Inv-loop μ-loop
 returns-2 c =
-    let start = c .before .before .before .before .before in
-    no-letter (start .args .text .now) (start .args .from) (c .before .before .before .if1 .left) (sym (c .before .is-lower .ensures) ∙ not-true _ (c .if2 .taken))
+    let some = c .before .before .before in
+    no-letter (entry some .args .text .now) (entry some .args .from) (some .if1 .left) (sym (c .before .is-lower .ensures) ∙ not-true _ (c .if2 .taken))
 
 loop-holds : tie.Need-loop-holds Inv-loop μ-loop
 loop-holds c =
-    let start = c .before .before .before .before .before in
-    run-starts (start .args .text .now) (start .args .from) (c .before .before .before .if1 .left) (sym (c .before .is-lower .ensures) ∙ not-false _ (c .if2 .left))
+    let some = c .before .before .before in
+    run-starts (entry some .args .text .now) (entry some .args .from) (some .if1 .left) (sym (c .before .is-lower .ensures) ∙ not-false _ (c .if2 .left))
 
 add-to : tie.Need-add-to Inv-loop μ-loop
 add-to c = omega arith
 
 returns-3 : tie.Need-returns-3 Inv-loop μ-loop
 returns-3 c =
-    let start = c .before .before .before .before .before .before .before .before in
+    let start = begun (c .before .before) in
     let l = c .before .before .loop in
     run-at-end (start .args .text .now) (start .args .from) (l .n) (l .inv) (c .if3 .taken)
 
@@ -50,17 +60,18 @@ shared-slice-read-is-name-byte c = omega arith
 
 cast-is-name-byte : tie.Need-cast-is-name-byte Inv-loop μ-loop
 cast-is-name-byte c =
-    let start = c .before .before .before .before .before .before .before .before .before in
-    record { fits = omega (arith, c .shared-slice-known3 .given (start .args .from + c .before .before .before .loop .n) .fits) }
+    let here = c .before .before .before in
+    record { fits = omega (arith, c .shared-slice-known3 .given (begun here .args .from + here .loop .n) .fits) }
 
 is-name-byte-requires : tie.Need-is-name-byte-requires Inv-loop μ-loop
 is-name-byte-requires c κs = search needs
 
 returns-4 : tie.Need-returns-4 Inv-loop μ-loop
 returns-4 c =
-    let start = c .before .before .before .before .before .before .before .before .before .before .before in
-    let l = c .before .before .before .before .before .loop in
-    run-stops (start .args .text .now) (start .args .from) (l .n) (l .inv) (c .before .before .before .before .loop-test .taken) (c .before .before .before .if3 .left)
+    let read = c .before in
+    let start = begun (turn read) in
+    let l = turn read .loop in
+    run-stops (start .args .text .now) (start .args .from) (l .n) (l .inv) (read .before .before .before .loop-test .taken) (read .before .before .if3 .left)
     (sym (c .before .is-name-byte .ensures) ∙ not-true _ (c .if4 .taken))
 
 add-n : tie.Need-add-n Inv-loop μ-loop
@@ -71,9 +82,10 @@ loop-less c = omega arith
 
 loop-again : tie.Need-loop-again Inv-loop μ-loop
 loop-again c =
-    let start = c .before .before .before .before .before .before .before .before .before .before .before in
-    let l = c .before .before .before .before .before .loop in
-    run-goes-on (start .args .text .now) (start .args .from) (l .n) (l .inv) (c .before .before .before .before .loop-test .taken) (c .before .before .before .if3 .left)
+    let read = c .before in
+    let start = begun (turn read) in
+    let l = turn read .loop in
+    run-goes-on (start .args .text .now) (start .args .from) (l .n) (l .inv) (read .before .before .before .loop-test .taken) (read .before .before .if3 .left)
     (sym (c .before .is-name-byte .ensures) ∙ not-false _ (c .if4 .left))
 
 add-result : tie.Need-add-result Inv-loop μ-loop
@@ -81,7 +93,7 @@ add-result c = omega (arith, c .before .loop .inv .within)
 
 returns-5 : tie.Need-returns-5 Inv-loop μ-loop
 returns-5 c =
-    let start = c .before .before .before .before .before .before .before in
+    let start = begun (c .before) in
     let l = c .before .loop in
     run-full (start .args .text .now) (start .args .from) (l .n) (l .inv) (c .loop-test .left)
 
