@@ -37,8 +37,10 @@ loop-less : tie.Need-loop-less Inv-loop μ-loop
 loop-less c = omega arith
 
 loop-again : tie.Need-loop-again Inv-loop μ-loop
-loop-again c = let l = c .before .before .before .loop in
-    value-goes-on (l .inv) (c .before .before .before .before .before .pre) (c .before .before .loop-test .taken) (c .digit .result) (c .digit .ensures .0) (c .digit .ensures .1)
+loop-again c =
+    let turn = c .before .before .before in
+    let read = c .digit in
+    value-goes-on (turn .loop .inv) (turn .before .before .pre) (c .before .before .loop-test .taken) (read .result) (read .ensures .0) (read .ensures .1)
 
 returns : tie.Need-returns Inv-loop μ-loop
 returns c = value-ends (c .before .loop .inv) (c .before .before .before .pre) (c .loop-test .left)

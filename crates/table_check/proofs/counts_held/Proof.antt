@@ -31,17 +31,21 @@ start-state-requires c κs = search needs
 
 returns-5 : tie.Need-returns-5
 returns-5 c =
-    let states = c .before .before .before .before .before .before .before .before .state-count .ensures .count in
+    let some = c .before .before .before .before .before .before in
+    let states = some .before .before .state-count .ensures .count in
     decided-no (λ h. omega (arith, h .starts, states, c .before .start-state .ensures .count, c .if5 .taken))
 
 returns-6 : tie.Need-returns-6
 returns-6 c =
-    let states = c .before .before .before .before .before .before .before .before .state-count .ensures .count in
+    let few-steps = c .before .before in
+    let few-names = few-steps .before .before in
+    let some = few-names .before .before in
+    let states = some .before .before .state-count .ensures .count in
     decided-yes (record {
-      some-state = omega (arith, states, c .before .before .before .before .before .before .before .if1 .left);
-      few-states = omega (arith, states, c .before .before .before .before .before .before .if2 .left);
-      few-labels = omega (arith, c .before .before .before .before .before .label-count .ensures .count, c .before .before .before .before .if3 .left);
-      few-transitions = omega (arith, c .before .before .before .transition-count .ensures .count, c .before .before .if4 .left);
+      some-state = omega (arith, states, some .before .if1 .left);
+      few-states = omega (arith, states, some .if2 .left);
+      few-labels = omega (arith, few-names .before .label-count .ensures .count, few-names .if3 .left);
+      few-transitions = omega (arith, few-steps .before .transition-count .ensures .count, few-steps .if4 .left);
       starts = omega (arith, states, c .before .start-state .ensures .count, c .if5 .left);
     })
 

@@ -44,7 +44,9 @@ returns : tie.Need-returns
 returns c = ill-formed (c .before .before .args .table .now) (λ w. omega (arith, w .long, c .if1 .taken))
 
 returns-2 : tie.Need-returns-2
-returns-2 c = ill-formed (c .before .before .before .before .args .table .now) (λ w. c .before .counts-held .ensures .no (not-true _ (c .if2 .taken)) (w .counts))
+returns-2 c =
+    ill-formed (c .before .before .before .before .args .table .now)
+    (λ w. c .before .counts-held .ensures .no (not-true _ (c .if2 .taken)) (w .counts))
 
 names-filled-requires : tie.Need-names-filled-requires
 names-filled-requires c κs = (c .before .before .if1 .left, counted c .few-labels)

@@ -43,15 +43,16 @@ new-name-requires c κs =
     let k = c .before .before .before .loop .k in
     let inv = c .before .before .before .loop .inv in
     let few : k < mostLabels = omega (arith, inv .1, start .pre .1, c .before .before .loop-test .taken) in
-    let small : byteAt b (headLength + k * nameSlotLength) < 256 = omega (arith, c .before .before .before .before .before .shared-slice-known .given (headLength + k * nameSlotLength)) in
+    let byte = c .before .before .before .before .before .shared-slice-known .given in
+    let small : byteAt b (headLength + k * nameSlotLength) < 256 = omega (arith, byte (headLength + k * nameSlotLength)) in
     let held = c .before .name-held .ensures .yes (not-false _ (c .if1 .left)) in
     (start .pre .0, (few, name-few b (start .pre .0) k few small (held .name) .1))
 
 returns-2 : tie.Need-returns-2 Inv-loop μ-loop
 returns-2 c =
-    let inv = c .before .before .before .before .before .loop .inv in
-    decided-no (λ h. c .before .new-name .ensures .no (not-true _ (c .if2 .taken))
-    (h (c .before .before .before .before .before .loop .k) (omega (arith, inv .1, c .before .before .before .before .loop-test .taken)) .1))
+    let begun = c .before .before .before .before in
+    let turn = begun .before .loop in
+    decided-no (λ h. c .before .new-name .ensures .no (not-true _ (c .if2 .taken)) (h (turn .k) (omega (arith, turn .inv .1, begun .loop-test .taken)) .1))
 
 add-k : tie.Need-add-k Inv-loop μ-loop
 add-k c = omega arith
@@ -61,12 +62,13 @@ loop-less c = omega arith
 
 loop-again : tie.Need-loop-again Inv-loop μ-loop
 loop-again c =
-    let b = c .before .before .before .before .before .before .before .before .args .table .now in
-    let inv = c .before .before .before .before .before .loop .inv in (
+    let named = c .before .before in
+    let turn = named .before .before .before in
+    let b = turn .before .before .before .args .table .now in (
       omega arith,
-      inv .1,
-      below-more (λ j. NameHeld b j × NewName b j) (c .before .before .before .before .before .loop .k) (inv .2)
-          (c .before .before .before .name-held .ensures .yes (not-false _ (c .before .before .if1 .left)), c .before .new-name .ensures .yes (not-false _ (c .if2 .left))),
+      turn .loop .inv .1,
+      below-more (λ j. NameHeld b j × NewName b j) (turn .loop .k) (turn .loop .inv .2)
+          (named .before .name-held .ensures .yes (not-false _ (named .if1 .left)), c .before .new-name .ensures .yes (not-false _ (c .if2 .left))),
     )
 
 returns-3 : tie.Need-returns-3 Inv-loop μ-loop

@@ -27,7 +27,8 @@ begun c = c .before .before .before .before
 abbrev line : tie.After-known-told → List ℕ
 line c = text (begun c .before)
 
-counts : (c : tie.After-known-told) → ColumnAt (line c) 0 (c .before .states .given .0 .0) × ColumnAt (line c) 6 (c .before .states .given .0 .1 .0)
+counts : (c : tie.After-known-told)
+    → ColumnAt (line c) 0 (c .before .states .given .0 .0) × ColumnAt (line c) 6 (c .before .states .given .0 .1 .0)
 counts c = pair-found (line c) 0 _ _ (sym (c .before .before .before .read-pair .ensures) ∙ c .before .states .given .1)
 
 returns : tie.Need-returns

@@ -27,7 +27,9 @@ returns-2 c = sym (ap₂ pairOf (first (c .before .before .before)) (sym (c .bef
 
 returns-3 : tie.Need-returns-3
 unfolding pairAt
-returns-3 c = sym (ap₂ pairOf (first (c .before .before .before .before)) (sym (c .before .before .before .read-column2 .ensures) ∙ c .before .second .given .1))
+returns-3 c =
+    let known = c .before .before .before .before in
+    sym (ap₂ pairOf (first known) (sym (c .before .before .before .read-column2 .ensures) ∙ c .before .second .given .1))
 
 pub read-pair-spec : {M : Type 1} → statement M
 read-pair-spec =

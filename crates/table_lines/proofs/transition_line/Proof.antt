@@ -16,7 +16,8 @@ text c = c .before .before .before .before .before .args .text .now
 abbrev place : tie.After-known-told → ℕ
 place c = c .before .before .before .before .before .args .at
 
-labelled : (c : tie.After-known-told) → ColumnAt (text c) (place c) (c .before .from .given .0 .0) × ColumnAt (text c) (place c + 6) (c .before .from .given .0 .1 .0)
+labelled : (c : tie.After-known-told)
+    → ColumnAt (text c) (place c) (c .before .from .given .0 .0) × ColumnAt (text c) (place c + 6) (c .before .from .given .0 .1 .0)
 labelled c = pair-found (text c) (place c) _ _ (sym (c .before .before .before .read-pair .ensures) ∙ c .before .from .given .1)
 
 returns : tie.Need-returns

@@ -38,7 +38,8 @@ abbrev slots : tie.After-read-label Inv-loop μ-loop → List ℕ
 slots c = c .read-label .last .1 .1 .0
 
 line-reads : (c : tie.After-read-label Inv-loop μ-loop) (r : Progress) → c .read-label .result ≡ r
-    → NameReads (fields (turn c)) (text (turn c)) (turn c .loop .at) (fields (turn c) .labels - (turn c .loop .count + 1)) (turn c .loop .inv .0 .names) (slots c) r
+    → NameReads (fields (turn c)) (text (turn c)) (turn c .loop .at) (fields (turn c) .labels - (turn c .loop .count + 1))
+    (turn c .loop .inv .0 .names) (slots c) r
 line-reads c r e =
     let l = turn c .loop in
     let so-far = l .inv .0 in
@@ -72,8 +73,8 @@ loop-again : tie.Need-loop-again Inv-loop μ-loop
 loop-again c =
     let read = c .before .before .before .before .before in
     let l = turn read .loop in (
-      names-go-on (fields (turn read)) (text (turn read)) (entry (turn read) .args .from) (l .names) (l .at) (l .count) (l .inv .0) (read .before .before .if1 .taken)
-          (c .before .progress .given .0 .0) (slots read) (line-reads read _ (c .before .progress .given .1)),
+      names-go-on (fields (turn read)) (text (turn read)) (entry (turn read) .args .from) (l .names) (l .at) (l .count) (l .inv .0)
+          (read .before .before .if1 .taken) (c .before .progress .given .0 .0) (slots read) (line-reads read _ (c .before .progress .given .1)),
       read .read-label .kept .1 .1 .0 ∙ l .inv .1,
     )
 
@@ -83,7 +84,8 @@ same-length-2 c = let last = c .before .before in last .loop .inv .1 ∙ sym (ap
 returns-2 : tie.Need-returns-2 Inv-loop μ-loop
 returns-2 c =
     let last = c .before .before in
-    names-end (fields last) (text last) (entry last .args .from) (last .loop .names) (last .loop .at) (last .loop .count) (last .loop .inv .0) (c .if1 .left)
+    let l = last .loop in
+    names-end (fields last) (text last) (entry last .args .from) (l .names) (l .at) (l .count) (l .inv .0) (c .if1 .left)
 
 pub read-labels-spec : {M : Type 1} → statement M
 read-labels-spec =

@@ -33,7 +33,9 @@ abbrev behind : tie.After-labels-read2 → ℕ
 behind c = c .labels-read2 .given .0 .0
 
 names : (c : tie.After-labels-read2) → NamesRead (fields (named c)) (text (named c)) 25 (behind c) (name-slots (named c))
-names c = subst (LabelsRead (fields (named c)) (text (named c)) 25 (name-slots (named c))) (c .labels-read2 .given .1) (named c .before .before .read-labels .ensures)
+names c =
+    subst (LabelsRead (fields (named c)) (text (named c)) 25 (name-slots (named c))) (c .labels-read2 .given .1)
+    (named c .before .before .read-labels .ensures)
 
 read-transitions-requires : tie.Need-read-transitions-requires
 read-transitions-requires c κs =
@@ -53,7 +55,8 @@ returns-2 c =
     let after = c .before .before .before .before .before .read-transitions in
     let read = c .before .before .before .before .before .before .before .before in
     let begun = named read in
-    let refusal = subst (TransitionsRead (fields begun) (text begun) (behind read) (after .last .1 .1 .1 .0)) (c .before .transitions-read .given .1) (after .ensures) in
+    let slots = after .last .1 .1 .1 .0 in
+    let refusal = subst (TransitionsRead (fields begun) (text begun) (behind read) slots) (c .before .transitions-read .given .1) (after .ensures) in
     lines-refused (fields begun) (text begun) _ _ (refuses-whole (names read .reads) (refusal (names read .names) (names read .counts)))
 
 returns-3 : tie.Need-returns-3

@@ -1,10 +1,9 @@
-use Rattle.columns.proofs.write.spread.Statement.{statement}
-use Rattle.columns.proofs.write.spread.Tie as tie
-use Rattle.columns.proofs.write.spread.Reads as reads
-use Rattle.columns.proofs.write.spread.Lts as lts
+-- `spread` meets its contract: the invariant is `Written`, the digits that stand so far.
 use mathlib.Core.Path.{_≡_, subst}
 use native.Mathlib.Omega.{arith}
 use Rattle.columns.proofs.Laws.Figures.{written-first, written-room, written-next, written-column, Written}
+use Rattle.columns.proofs.write.spread.Statement.{statement}
+use Rattle.columns.proofs.write.spread.Tie as tie
 
 abbrev Inv-loop : tie.InvT-loop
 Inv-loop n bytes₀ from₀ rest₀ bytes from rest = Written n bytes from rest
@@ -12,47 +11,36 @@ Inv-loop n bytes₀ from₀ rest₀ bytes from rest = Written n bytes from rest
 abbrev μ-loop : tie.MeasureT-loop
 μ-loop n bytes₀ from₀ rest₀ bytes from rest = rest
 
--- src/write.rt:19:18
 add-bytes : tie.Need-add-bytes Inv-loop μ-loop
 add-bytes c = omega arith
 
--- src/write.rt:19:17
 cast-bytes : tie.Need-cast-bytes Inv-loop μ-loop
 cast-bytes c = omega arith
 
--- src/write.rt:19:5
 array-write-bytes : tie.Need-array-write-bytes Inv-loop μ-loop
 array-write-bytes c = omega arith
 
--- src/write.rt:22:5
 loop-holds : tie.Need-loop-holds Inv-loop μ-loop
 loop-holds c = written-first (c .args .n) (omega arith)
 
--- src/write.rt:23:9
 sub-from : tie.Need-sub-from Inv-loop μ-loop
 sub-from c = omega (arith, written-room (c .before .loop .inv) (c .loop-test .taken))
 
--- src/write.rt:24:24
 add-bytes-2 : tie.Need-add-bytes-2 Inv-loop μ-loop
 add-bytes-2 c = omega arith
 
--- src/write.rt:24:23
 cast-bytes-2 : tie.Need-cast-bytes-2 Inv-loop μ-loop
 cast-bytes-2 c = omega arith
 
--- src/write.rt:24:9
 array-write-bytes-2 : tie.Need-array-write-bytes-2 Inv-loop μ-loop
 array-write-bytes-2 c = omega arith
 
--- src/write.rt:22:5
 loop-less : tie.Need-loop-less Inv-loop μ-loop
 loop-less c = omega arith
 
--- src/write.rt:22:5
 loop-again : tie.Need-loop-again Inv-loop μ-loop
 loop-again c = written-next (c .before .loop .inv) (c .loop-test .taken)
 
--- src/write.rt:15:1
 returns : tie.Need-returns Inv-loop μ-loop
 returns c =
     let l = c .before .before .loop in
@@ -60,7 +48,6 @@ returns c =
     let w : Written (c .before .before .before .args .n) (l .bytes) (l .from) 0 = subst (Written _ _ _) done (l .inv) in
     record { figures = written-column _ _ _ w 14 (omega arith) (omega (arith, w .within)); within = omega arith; size = w .size }
 
--- src/write.rt:15:1
 returns-2 : tie.Need-returns-2 Inv-loop μ-loop
 returns-2 c =
     let l = c .before .before .loop in

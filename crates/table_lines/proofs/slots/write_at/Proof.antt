@@ -23,7 +23,8 @@ loop-again c =
     let a = c .before .before .before .args in
     let l = c .before .before .loop in (
       ap (λ b. set b (a .at + l .i) (getD (a .part .now) (l .i) 0)) (l .inv .0)
-          ∙ paste-suc (a .bytes .now) (a .at) (a .part .now) (l .i) 0 (omega arith) (omega arith) ∙ ap (paste (a .bytes .now) (a .at) (a .part .now)) (sym (add-one (l .i))),
+          ∙ paste-suc (a .bytes .now) (a .at) (a .part .now) (l .i) 0 (omega arith) (omega arith)
+          ∙ ap (paste (a .bytes .now) (a .at) (a .part .now)) (sym (add-one (l .i))),
       omega arith,
       length-set (l .bytes) (a .at + l .i) (getD (a .part .now) (l .i) 0) ∙ l .inv .2,
     )
@@ -37,7 +38,8 @@ returns c =
     let l = c .before .loop in
     let all : l .i ≡ length (a .part .now) = omega arith in
     let rest = drop (a .at + length (a .part .now)) (a .bytes .now) in
-    l .inv .0 ∙ ap (paste (a .bytes .now) (a .at) (a .part .now)) all ∙ ap (λ p. (take (a .at) (a .bytes .now) ++ p) ++ rest) (take-length (a .part .now))
+    l .inv .0 ∙ ap (paste (a .bytes .now) (a .at) (a .part .now)) all
+    ∙ ap (λ p. (take (a .at) (a .bytes .now) ++ p) ++ rest) (take-length (a .part .now))
     ∙ append-assoc (take (a .at) (a .bytes .now)) (a .part .now) rest
 
 pub write-at-spec : {M : Type 1} → statement M

@@ -25,7 +25,8 @@ returns : tie.Need-returns Inv-loop μ-loop
 returns c =
     let a = c .before .before .before .before .before .before .args in
     let loop = c .before .before .before .loop in
-    sought-found (a .slots .now) (a .count) (a .name .now) (loop .k) (loop .inv) (c .before .before .loop-test .taken) (sym (c .before .same-name .ensures) ∙ c .if1 .taken)
+    sought-found (a .slots .now) (a .count) (a .name .now) (loop .k) (loop .inv) (c .before .before .loop-test .taken)
+    (sym (c .before .same-name .ensures) ∙ c .if1 .taken)
 
 add-k : tie.Need-add-k Inv-loop μ-loop
 add-k c = omega arith
@@ -37,7 +38,8 @@ loop-again : tie.Need-loop-again Inv-loop μ-loop
 loop-again c =
     let a = c .before .before .before .before .before .before .args in
     let loop = c .before .before .before .loop in
-    sought-goes-on (a .slots .now) (a .count) (a .name .now) (loop .k) (loop .inv) (c .before .before .loop-test .taken) (sym (c .before .same-name .ensures) ∙ c .if1 .left)
+    sought-goes-on (a .slots .now) (a .count) (a .name .now) (loop .k) (loop .inv) (c .before .before .loop-test .taken)
+    (sym (c .before .same-name .ensures) ∙ c .if1 .left)
 
 returns-2 : tie.Need-returns-2 Inv-loop μ-loop
 returns-2 c =

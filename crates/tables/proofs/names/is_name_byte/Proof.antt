@@ -11,7 +11,8 @@ use Rattle.tables.proofs.names.is_name_byte.Tie as tie
 
 -- No letter: the rest decides, test by test.
 no-letter : (b : ℕ) (s d : Bool) → isLower b ≡ false → eqb b 95 ≡ s → (leb 48 b && leb b 57) ≡ d → (s || d) ≡ isNameByte b
-no-letter b s d l e f = sym (ap (λ (t : Bool). t || (eqb b 95 || (leb 48 b && leb b 57))) l ∙ (ap (λ (t : Bool). t || (leb 48 b && leb b 57)) e ∙ ap (λ (t : Bool). s || t) f))
+no-letter b s d l e f =
+    sym (ap (λ (t : Bool). t || (eqb b 95 || (leb 48 b && leb b 57))) l ∙ (ap (λ (t : Bool). t || (leb 48 b && leb b 57)) e ∙ ap (λ (t : Bool). s || t) f))
 
 is-lower-requires : tie.Need-is-lower-requires
 is-lower-requires c κs = search needs

@@ -18,7 +18,8 @@ returns-2 : tie.Need-returns-2
 returns-2 c =
     let a = c .before .before .before .before .args in
     let stem = c .before .before .stem-end in
-    bare-read (a .text .now) (a .from) (stem .result) (stem .ensures) (c .before .if1 .left) (no-mark-at-end (a .text .now) (stem .result) (c .if2 .taken))
+    bare-read (a .text .now) (a .from) (stem .result) (stem .ensures) (c .before .if1 .left)
+    (no-mark-at-end (a .text .now) (stem .result) (c .if2 .taken))
 
 shared-slice-read-if3 : tie.Need-shared-slice-read-if3
 shared-slice-read-if3 c = search needs
@@ -28,9 +29,10 @@ add-t10 c = search needs
 
 returns-3 : tie.Need-returns-3
 returns-3 c =
-    let a = c .before .before .before .before .before .before .args in
-    let stem = c .before .before .before .before .stem-end in
-    mark-read (a .text .now) (a .from) (stem .result) (stem .ensures) (c .before .before .before .if1 .left) 63 (c .before .before .if2 .left) (c .if3 .taken) refl
+    let some = c .before .before in
+    let ended = some .before .before in
+    let a = ended .before .before .args in
+    mark-read (a .text .now) (a .from) (ended .stem-end .result) (ended .stem-end .ensures) (some .before .if1 .left) 63 (some .if2 .left) (c .if3 .taken) refl
 
 shared-slice-read-if4 : tie.Need-shared-slice-read-if4
 shared-slice-read-if4 c = search needs
@@ -40,17 +42,19 @@ add-t13 c = search needs
 
 returns-4 : tie.Need-returns-4
 returns-4 c =
-    let a = c .before .before .before .before .before .before .before .before .args in
-    let stem = c .before .before .before .before .before .before .stem-end in
-    mark-read (a .text .now) (a .from) (stem .result) (stem .ensures) (c .before .before .before .before .before .if1 .left) 33 (c .before .before .before .before .if2 .left) (c .if4 .taken) refl
+    let some = c .before .before .before .before in
+    let ended = some .before .before in
+    let a = ended .before .before .args in
+    mark-read (a .text .now) (a .from) (ended .stem-end .result) (ended .stem-end .ensures) (some .before .if1 .left) 33 (some .if2 .left) (c .if4 .taken) refl
 
 returns-5 : tie.Need-returns-5
 returns-5 c =
-    let a = c .before .before .before .before .before .before .before .before .args in
-    let stem = c .before .before .before .before .before .before .stem-end in
-    let within = c .before .before .before .before .if2 .left in
-    bare-read (a .text .now) (a .from) (stem .result) (stem .ensures) (c .before .before .before .before .before .if1 .left)
-    (no-mark-here (a .text .now) (stem .result) within (c .before .before .if3 .left) (c .if4 .left))
+    let some = c .before .before .before .before in
+    let ended = some .before .before in
+    let a = ended .before .before .args in
+    let stem = ended .stem-end in
+    bare-read (a .text .now) (a .from) (stem .result) (stem .ensures) (some .before .if1 .left)
+    (no-mark-here (a .text .now) (stem .result) (some .if2 .left) (c .before .before .if3 .left) (c .if4 .left))
 
 pub read-name-spec : {M : Type 1} → statement M
 read-name-spec =

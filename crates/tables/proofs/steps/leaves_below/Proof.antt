@@ -11,7 +11,9 @@ transition-at-requires : tie.Need-transition-at-requires
 transition-at-requires c κs = search needs
 
 returns : tie.Need-returns
-returns c = rw (lt-ltb _ _ (c .before .before .if1 .taken)) (ap (λ (st : Step). ltb (st .from) (c .before .before .before .before .args .s)) (c .before .transition-at .ensures .step))
+returns c =
+    let taken = c .before .before in
+    rw (lt-ltb _ _ (taken .if1 .taken)) (ap (λ (st : Step). ltb (st .from) (taken .before .before .args .s)) (c .before .transition-at .ensures .step))
 
 returns-2 : tie.Need-returns-2
 returns-2 c = rw (le-ltb _ _ (c .if1 .left))

@@ -20,7 +20,8 @@ use Rattle.tables.proofs.steps.put_state.Tie as tie
 room : (c : tie.Start) → (c .args .at < mostSteps) × (c .args .at < length (c .args .steps .now))
 room c =
     let few = exits-at-most (tableIn (c .args .table .now) .transitions) (c .args .s) in
-    let fits : c .args .at < mostSteps = omega (arith, few, c .pre .0 .in-range .few-transitions, c .pre .1 .0 .0, c .pre .1 .1 .1 .0, c .pre .1 .1 .1 .1) in
+    let most = c .pre .0 .in-range .few-transitions in
+    let fits : c .args .at < mostSteps = omega (arith, few, most, c .pre .1 .0 .0, c .pre .1 .1 .1 .0, c .pre .1 .1 .1 .1) in
     (fits, omega (arith, c .pre .1 .1 .0))
 
 next : (c : tie.Start) → c .args .b ≡ exitsBelow (tableIn (c .args .table .now) .transitions) (suc (c .args .s))
@@ -40,9 +41,12 @@ returns c =
     let start = c .before .before .before .before in
     let t = tableIn (start .args .table .now) in
     let taken = c .before .before .if1 .taken in
-    let same : slice (start .args .a) (start .args .b) (t .transitions) ≡ slice (exitsBelow (t .transitions) (start .args .s)) (exitsBelow (t .transitions) (suc (start .args .s))) (t .transitions) =
+    let below = exitsBelow (t .transitions) in
+    let s = start .args .s in
+    let same : slice (start .args .a) (start .args .b) (t .transitions) ≡ slice (below s) (below (suc s)) (t .transitions) =
     (λ i. slice (start .pre .1 .0 .0 i) (next start i) (t .transitions)) in
-    put-as (ap (map stepCode) (same ∙ sym (steps-leave t (start .pre .0 .in-range) (start .args .s) (omega (arith, start .pre .1 .0 .0, next start))))) (c .put-transitions .ensures)
+    let leave = steps-leave t (start .pre .0 .in-range) s (omega (arith, start .pre .1 .0 .0, next start)) in
+    put-as (ap (map stepCode) (same ∙ sym leave)) (c .put-transitions .ensures)
 
 code-requires : tie.Need-code-requires
 code-requires c κs = search needs

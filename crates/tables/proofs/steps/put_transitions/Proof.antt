@@ -56,7 +56,8 @@ loop-again c =
     let st = stepIn (read .result) in
     let l = tableIn (start .args .table .now) .transitions in
     let there : loop .j < length l = omega (arith, start .pre .1 .0 .1) in
-    let next = codes-next l (loop .j) (start .args .b) st taken (start .pre .1 .0 .1) (transition-in (start .args .table .now) (loop .j) st there ∙ sym (read .ensures .step)) in
+    let stands = transition-in (start .args .table .now) (loop .j) st there ∙ sym (read .ensures .step) in
+    let next = codes-next l (loop .j) (start .args .b) st taken (start .pre .1 .0 .1) stands in
     let rest = map stepCode (slice (loop .j + 1) (start .args .b) l) in (
       omega arith,
       omega (arith, loop .inv .1),

@@ -14,7 +14,8 @@ use Rattle.tables.proofs.steps.steps_of.Statement.{statement}
 use Rattle.tables.proofs.steps.steps_of.Tie as tie
 
 abbrev Inv-loop : tie.InvT-loop
-Inv-loop table n states all₀ at₀ a₀ s₀ all at a s = (s ≤ states) × (a ≡ exitsBelow (tableIn table .transitions) s) × BelowDone (tableIn table) s at (all .steps) (all .firsts)
+Inv-loop table n states all₀ at₀ a₀ s₀ all at a s =
+    (s ≤ states) × (a ≡ exitsBelow (tableIn table .transitions) s) × BelowDone (tableIn table) s at (all .steps) (all .firsts)
 
 abbrev μ-loop : tie.MeasureT-loop
 μ-loop table n states all₀ at₀ a₀ s₀ all at a s = states - s
@@ -78,7 +79,8 @@ put-state-requires c κs =
     let here = found .before .before in
     let start = here .before .before .before .before in
     let done = here .loop .inv .2 in
-    let state : here .loop .s < mostStates = omega (arith, found .before .loop-test .taken, here .before .state-count .ensures .count, start .pre .in-range .few-states) in
+    let count = here .before .state-count .ensures .count in
+    let state : here .loop .s < mostStates = omega (arith, found .before .loop-test .taken, count, start .pre .in-range .few-states) in
     (start .pre, ((here .loop .inv .1, found .exits-end .ensures), (done .steps-long, (state, omega (arith, done .few, here .loop .inv .1)))))
 
 add-s : tie.Need-add-s Inv-loop μ-loop Inv-loop2 μ-loop2
@@ -93,7 +95,8 @@ loop-again c =
     let start = here .before .before .before .before in
     let taken = c .before .before .before .loop-test .taken in
     let state : here .loop .s < mostStates = omega (arith, taken, here .before .state-count .ensures .count, start .pre .in-range .few-states) in
-    (omega (arith, taken), c .before .before .exits-end .ensures, below-more (tableIn (start .args .table .now)) (start .pre .in-range) state (here .loop .inv .2) _ _ (c .put-state .ensures))
+    let more = below-more (tableIn (start .args .table .now)) (start .pre .in-range) state (here .loop .inv .2) _ _ (c .put-state .ensures) in
+    (omega (arith, taken), c .before .before .exits-end .ensures, more)
 
 loop2-holds : tie.Need-loop2-holds Inv-loop μ-loop Inv-loop2 μ-loop2
 loop2-holds c = (c .loop-test .left, few (c .before), c .before .loop .inv .2)
@@ -132,7 +135,8 @@ loop2-again c =
     let here = c .before .before .before in
     let start = here .before .before .before .before .before .before in
     let taken = c .before .before .loop2-test .taken in
-    (omega (arith, here .loop2 .inv .0), omega (arith, taken), below-more (tableIn (start .args .table .now)) (start .pre .in-range) taken (here .loop2 .inv .2) _ _ (c .put-state2 .ensures))
+    let more = below-more (tableIn (start .args .table .now)) (start .pre .in-range) taken (here .loop2 .inv .2) _ _ (c .put-state2 .ensures) in
+    (omega (arith, here .loop2 .inv .0), omega (arith, taken), more)
 
 cast-all-3 : tie.Need-cast-all-3 Inv-loop μ-loop Inv-loop2 μ-loop2
 cast-all-3 c = omega (arith, fits-2 (c .before))
