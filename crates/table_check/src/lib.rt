@@ -10,7 +10,7 @@ use lts::sizes::TRANSITIONS;
 use lts::sizes::TRANSITIONS_AT;
 use tables::names::Lookup;
 use tables::names::find;
-use tables::names::name_bytes;
+use tables::names::name_span;
 use tables::names::read_name;
 use tables::prepared::below;
 use tables::prepared::label_count;
@@ -129,14 +129,14 @@ fn name_held(table: &[u8], k: usize) -> bool
     requires { ⌜ (tableLength ≤ length (now table)) × (k < mostLabels) ⌝ }
     ensures { λ r. ⌜ Decides (NameHeld (now (table .entry)) k) r ⌝ }
 {
-    let bytes = name_bytes(table, k);
-    let at = bytes.from;
+    let span = name_span(table, k);
+    let at = span.from;
     let name = read_name(table, at);
     let end = name.end;
     if end == at {
         return false;
     }
-    if end != bytes.to {
+    if end != span.to {
         return false;
     }
     zeros(table, end, NAME_SLOT_END + k * NAME_SLOT)
@@ -146,9 +146,9 @@ fn new_name(table: &[u8], k: usize) -> bool
     requires { ⌜ (tableLength ≤ length (now table)) × ((k < mostLabels) × (byteAt (now table) (headLength + k * nameSlotLength) ≤ longestName)) ⌝ }
     ensures { λ r. ⌜ Decides (NewName (now (table .entry)) k) r ⌝ }
 {
-    let bytes = name_bytes(table, k);
-    let at = bytes.from;
-    let end = bytes.to;
+    let span = name_span(table, k);
+    let at = span.from;
+    let end = span.to;
     let before = find(&table[HEAD..TRANSITIONS_AT], k, &table[at..end]);
     match before {
         Lookup::At(_) => false,

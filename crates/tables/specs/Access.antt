@@ -11,7 +11,7 @@ use Rattle.lts.specs.Prepared.{byteAt, nameAt, transitionAt}
 use Rattle.tables.specs.declared.prepared.Transition.{Transition}
 use Rattle.tables.specs.declared.names.Direction.{Direction}
 use Rattle.tables.specs.declared.names.Direction.the-variants.{Neither, Received, Sent}
-use Rattle.tables.specs.declared.names.NameBytes.{NameBytes}
+use Rattle.tables.specs.declared.names.NameSpan.{NameSpan}
 use Rattle.tables.specs.declared.names.Lookup.{Lookup}
 use Rattle.tables.specs.declared.names.Lookup.the-variants.{At, Nowhere}
 
@@ -26,7 +26,7 @@ pub record StepRead (b : List ℕ) (k : ℕ) (r : Transition) : Type 0 where
   pub to-byte : r .to < 256
 
 -- The bytes of the name in slot k: where they start, how many there are, and which they are.
-pub record NameStands (b : List ℕ) (k : ℕ) (r : NameBytes) : Type 0 where
+pub record NameStands (b : List ℕ) (k : ℕ) (r : NameSpan) : Type 0 where
   pub starts : r .from ≡ headLength + 1 + k * nameSlotLength
   pub ends : r .to ≡ r .from + byteAt b (headLength + k * nameSlotLength)
   pub short : byteAt b (headLength + k * nameSlotLength) < 256

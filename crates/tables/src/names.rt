@@ -34,7 +34,7 @@ pub struct NameRead {
 }
 
 // The bytes of a name: from `from` to before `to`.
-pub struct NameBytes {
+pub struct NameSpan {
     pub from: usize,
     pub to: usize,
 }
@@ -124,12 +124,12 @@ pub fn read_name(text: &[u8], from: usize) -> NameRead
 }
 
 // Where the bytes of the name in slot k of a prepared table stand.
-pub fn name_bytes(table: &[u8], k: usize) -> NameBytes
+pub fn name_span(table: &[u8], k: usize) -> NameSpan
     requires { ⌜ (tableLength ≤ length (now table)) × (k < mostLabels) ⌝ }
     ensures { λ r. ⌜ NameStands (now (table .entry)) k r ⌝ }
 {
     let at = NAME_BYTES_AT + k * NAME_SLOT;
-    NameBytes {
+    NameSpan {
         from: at,
         to: at + byte(table, HEAD + k * NAME_SLOT),
     }
@@ -140,9 +140,9 @@ pub fn label_direction(table: &[u8], k: usize) -> Direction
     requires { ⌜ HoldsTable (now table) × (k < labels (tableIn (now table))) ⌝ }
     ensures { λ r. ⌜ directionIn r ≡ labelDirection (tableIn (now (table .entry)) .names) (suc k) ⌝ }
 {
-    let bytes = name_bytes(table, k);
-    let at = bytes.from;
-    let end = bytes.to;
+    let span = name_span(table, k);
+    let at = span.from;
+    let end = span.to;
     let name = read_name(&table[at..end], 0);
     name.direction
 }

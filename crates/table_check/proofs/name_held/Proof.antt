@@ -27,20 +27,20 @@ module _ (c : tie.After-read-name) where
   abbrev size : ℕ
   size = byteAt table (headLength + entry .args .k * nameSlotLength)
 
-  slot-ends : c .before .name-bytes .result .to ≡ place + size
-  slot-ends = let slot = c .before .name-bytes .ensures in slot .ends ∙ ap (λ n. n + size) (slot .starts)
+  slot-ends : c .before .name-span .result .to ≡ place + size
+  slot-ends = let slot = c .before .name-span .ensures in slot .ends ∙ ap (λ n. n + size) (slot .starts)
 
   name-ends : c .read-name .result .end ≡ nameEnd table place
-  name-ends = c .read-name .ensures .0 ∙ ap (nameEnd table) (c .before .name-bytes .ensures .starts)
+  name-ends = c .read-name .ensures .0 ∙ ap (nameEnd table) (c .before .name-span .ensures .starts)
 
-  held-to-end : NameHeld table (entry .args .k) → c .read-name .result .end ≡ c .before .name-bytes .result .to
-  held-to-end h = name-ends ∙ held-end table (entry .pre .0) (entry .args .k) (entry .pre .1) (c .before .name-bytes .ensures .short) h ∙ sym slot-ends
+  held-to-end : NameHeld table (entry .args .k) → c .read-name .result .end ≡ c .before .name-span .result .to
+  held-to-end h = name-ends ∙ held-end table (entry .pre .0) (entry .args .k) (entry .pre .1) (c .before .name-span .ensures .short) h ∙ sym slot-ends
 
 returns : tie.Need-returns
 returns c =
     let read = c .before in
     let start = entry read in
-    let slot = read .before .name-bytes .ensures in
+    let slot = read .before .name-span .ensures in
     decided-no (λ h. omega (
       arith,
       held-to-end read h,
@@ -62,7 +62,7 @@ returns-3 c =
     decided-by (c .zeros .ensures)
     (λ z. record {
       name = end-held (table read) (start .pre .0) (start .args .k) (start .pre .1) (sym (name-ends read) ∙ whole)
-          (λ e. some .if1 .left (name-ends read ∙ e ∙ sym (read .before .name-bytes .ensures .starts)));
+          (λ e. some .if1 .left (name-ends read ∙ e ∙ sym (read .before .name-span .ensures .starts)));
       behind = subst (λ n. ZerosFrom (table read) n to) whole z;
     })
     (λ h. subst (λ n. ZerosFrom (table read) n to) (sym whole) (h .behind))

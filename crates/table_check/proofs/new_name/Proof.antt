@@ -24,7 +24,7 @@ module _ (c : tie.After-find) where
   names = storedNames (take namesLength (drop 6 (entry .args .table .now))) (entry .args .k)
 
   sought : isSome (foundIn (c .find .result)) ≡ isSome (lookup names (nameAt (entry .args .table .now) (entry .args .k)))
-  sought = ap isSome (c .find .ensures) ∙ ap (λ n. isSome (lookup names n)) (c .before .before .before .name-bytes .ensures .name)
+  sought = ap isSome (c .find .ensures) ∙ ap (λ n. isSome (lookup names n)) (c .before .before .before .name-span .ensures .name)
 
 returns : tie.Need-returns
 returns c =

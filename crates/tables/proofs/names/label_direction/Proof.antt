@@ -23,7 +23,7 @@ returns c =
     let here : getD (tableIn b .names) k [] ≡ nameAt b k = name-in b k [] few in
     let among = getD-mem (tableIn b .names) k [] few in
     let is-name : isName (nameAt b k) ≡ true = ap isName (sym here) ∙ start .pre .0 .in-range .named (getD (tableIn b .names) k []) among in
-    let part = c .before .before .name-bytes .ensures .name in
+    let part = c .before .before .name-span .ensures .name in
     c .read-name .ensures .1 ∙ (ap (λ l. nameDirection l 0) part ∙ (whole-direction (nameAt b k) is-name ∙ ap directionOf (sym here)))
 
 pub label-direction-spec : {M : Type 1} → statement M

@@ -1,4 +1,4 @@
--- `name_bytes` meets its contract: the slot's first byte is the name's length.
+-- `name_span` meets its contract: the slot's first byte is the name's length.
 use borrow.Author.Needs.{needs}
 use mathlib.Core.Path.{_≡_, refl, ap}
 use Prim.Native.Nat.{_+_, _-_, _*_}
@@ -6,8 +6,8 @@ use native.Mathlib.Omega.{arith}
 use lib.ListN.{take, drop}
 use Rattle.lts.specs.Sizes.{headLength, nameSlotLength}
 use Rattle.lts.specs.Prepared.{byteAt}
-use Rattle.tables.proofs.names.name_bytes.Statement.{statement}
-use Rattle.tables.proofs.names.name_bytes.Tie as tie
+use Rattle.tables.proofs.names.name_span.Statement.{statement}
+use Rattle.tables.proofs.names.name_span.Tie as tie
 
 returns : tie.Need-returns
 returns c =
@@ -23,8 +23,8 @@ returns c =
       name = ap (λ n. take n (drop at b)) long;
     }
 
-pub name-bytes-spec : {M : Type 1} → statement M
-name-bytes-spec =
+pub name-span-spec : {M : Type 1} → statement M
+name-span-spec =
     tie.close
     (tie.spec (λ c. search needs) (λ c. search needs) (λ c. search needs) (λ c. search needs) (λ c κs. search needs) (λ c. search needs)
     returns)
