@@ -27,12 +27,16 @@ use Rattle.actl.proofs.ReadingNodes.{bytes-length}
 use Rattle.actl.proofs.Laws.Forms.{slot-of-form}
 
 -- A function of the numbers from j on is one of a list's members.
-map-numbered : {A : Type 0} (d : A) (g : ℕ → ℕ) (h : A → ℕ) (l : List A) (j : ℕ) → ((i : ℕ) → i < length l → g (j + i) ≡ h (getD l i d)) → map g (upFrom j (length l)) ≡ map h l
+map-numbered : {A : Type 0} (d : A) (g : ℕ → ℕ) (h : A → ℕ) (l : List A) (j : ℕ)
+    → ((i : ℕ) → i < length l → g (j + i) ≡ h (getD l i d)) → map g (upFrom j (length l)) ≡ map h l
 map-numbered d g h [] j e = refl
-map-numbered d g h (x ∷ l) j e = λ n. (ap g (sym (add-zero j)) ∙ e 0 (omega arith)) n ∷ map-numbered d g h l (suc j) (λ i w. ap g (let z : suc j + i ≡ j + suc i = omega arith in z) ∙ e (suc i) (omega arith)) n
+map-numbered d g h (x ∷ l) j e =
+    let moved : (i : ℕ) → suc j + i ≡ j + suc i = λ i. omega arith in
+    λ n. (ap g (sym (add-zero j)) ∙ e 0 (omega arith)) n ∷ map-numbered d g h l (suc j) (λ i w. ap g (moved i) ∙ e (suc i) (omega arith)) n
 
 -- The first bytes of b are copied, and the count is put before them.
-pub bytes-copied : (b e x : List ℕ) (n m : ℕ) → formulaLength ≤ length b → formulaLength ≤ length e → m ≡ formulaLength → x ≡ take m (take formulaLength b) ++ drop m e → set x 0 n ≡ pasted e 0 (preparedBytes b n)
+pub bytes-copied : (b e x : List ℕ) (n m : ℕ) → formulaLength ≤ length b → formulaLength ≤ length e → m ≡ formulaLength
+    → x ≡ take m (take formulaLength b) ++ drop m e → set x 0 n ≡ pasted e 0 (preparedBytes b n)
 bytes-copied b e x n m h k z p =
     let f = take formulaLength b in
     let l : length f ≡ formulaLength = length-take-le formulaLength b h in
@@ -50,7 +54,8 @@ zeros-part k j r h =
     let near : i < k = omega arith in
     getD-take k (drop j z) i 0 near ∙ (getD-drop j z i 0 ∙ (getD-replicate r (j + i) 0 0 (omega arith) ∙ sym (getD-replicate k i 0 0 near))))
 
-module _ (b : List ℕ) (n : ℕ) (F : Formula) (count : n ≡ size F) (made : b ≡ pasted (replicate formulaLength 0) 1 (bytesOfNodes F)) (few : n ≤ mostNodes) where
+module _ (b : List ℕ) (n : ℕ) (F : Formula)
+    (count : n ≡ size F) (made : b ≡ pasted (replicate formulaLength 0) 1 (bytesOfNodes F)) (few : n ≤ mostNodes) where
   pub bytes-are : preparedBytes b n ≡ formulaBytes F
   unfolding formulaBytes
   bytes-are =
@@ -59,7 +64,9 @@ module _ (b : List ℕ) (n : ℕ) (F : Formula) (count : n ≡ size F) (made : b
       let w = mostNodes * nodeSlotLength in
       let l = bytes-length F in
       let s : w ≡ length B + (w - length B) = omega arith in
-      let t : take w (B ++ Z) ≡ B ++ replicate (w - length B) 0 = ap (λ k. take k (B ++ Z)) s ∙ (take-append-add B Z (w - length B) ∙ ap (λ x. B ++ x) (zeros-part (w - length B) (1 + length B) formulaLength (omega arith))) in
+      let zeros = zeros-part (w - length B) (1 + length B) formulaLength (omega arith) in
+      let t : take w (B ++ Z) ≡ B ++ replicate (w - length B) 0
+          = ap (λ k. take k (B ++ Z)) s ∙ (take-append-add B Z (w - length B) ∙ ap (λ x. B ++ x) zeros) in
       ap (λ x. n ∷ drop 1 (take formulaLength x)) made ∙ (λ i. count i ∷ t i)
 
   same-count : n ≡ length (nodes F)
@@ -75,25 +82,31 @@ module _ (b : List ℕ) (n : ℕ) (F : Formula) (count : n ≡ size F) (made : b
       ∙ (ap (λ l. getD l (1 + i) 0) bytes-are ∙ slot-of-form F k (omega (arith, count)) .same-kind)))
 
   pub kinds-are : kindsIn b n ≡ kindsOf F
-  kinds-are = ap (kindsIn b) same-count ∙ map-numbered tru (λ k. getD b (1 + k * nodeSlotLength) 0) kindOf (nodes F) 0 (λ i w. ap (λ j. getD b (1 + j * nodeSlotLength) 0) (zero-add i) ∙ kind-of i (omega (arith, same-count)))
+  kinds-are = ap (kindsIn b) same-count ∙ map-numbered tru (λ k. getD b (1 + k * nodeSlotLength) 0) kindOf (nodes F) 0
+      (λ i w. ap (λ j. getD b (1 + j * nodeSlotLength) 0) (zero-add i) ∙ kind-of i (omega (arith, same-count)))
 
 -- The order of the refusals.
 module _ (b : List ℕ) (n lost : ℕ) (e : List ℕ) (F : Formula) where
-  pub answer-unknown : (o : Option ℕ) → NodesHeld b n lost F o → (lost ≡ 0 → ⊥) → FormulaAnswered (unlessFound o 7 (withClasses F)) e (NameUnknown (lost - 1)) e
+  pub answer-unknown : (o : Option ℕ) → NodesHeld b n lost F o → (lost ≡ 0 → ⊥)
+      → FormulaAnswered (unlessFound o 7 (withClasses F)) e (NameUnknown (lost - 1)) e
   answer-unknown none h z = absurd (z (h .lacks))
-  answer-unknown (some a) h z = record { replies = ap (refusal 7) (let w : lost - 1 ≡ a = omega (arith, h .lacks) in w); leaves = refl }
+  answer-unknown (some a) h z =
+      let w : lost - 1 ≡ a = omega (arith, h .lacks) in
+      record { replies = ap (refusal 7) w; leaves = refl }
 
   module _ (z : lost ≡ 0) where
     pub answer-many : (o : Option ℕ) → NodesHeld b n lost F o → 40 < n → FormulaAnswered (unlessFound o 7 (withClasses F)) e (TooManyNodes n) e
     answer-many (some a) h w = absurd (omega (arith, h .lacks))
     answer-many none h w =
         let t : leb (size F) mostNodes ≡ false = lt-leb (size F) mostNodes (omega (arith, h .count)) in
-        let q : withClasses F ≡ refusal 8 n = ap (λ v. unless v 8 (size F) (unlessFound (highestWithoutClass F) 9 (accepted F))) t ∙ ap (refusal 8) (sym (h .count)) in
+        let q : withClasses F ≡ refusal 8 n
+            = ap (λ v. unless v 8 (size F) (unlessFound (highestWithoutClass F) 9 (accepted F))) t ∙ ap (refusal 8) (sym (h .count)) in
         record { replies = sym (ap (answers (λ F. tt)) q); leaves = sym (ap (λ a. leftIn formulaBytes a e) q) }
 
     module _ (w : n ≤ mostNodes) (h : NodesHeld b n lost F none) where
       few : withClasses F ≡ unlessFound (highestWithoutClass F) 9 (accepted F)
-      few = ap (λ v. unless v 8 (size F) (unlessFound (highestWithoutClass F) 9 (accepted F))) (le-leb (size F) mostNodes (omega (arith, h .count)))
+      few = ap (λ v. unless v 8 (size F) (unlessFound (highestWithoutClass F) 9 (accepted F)))
+          (le-leb (size F) mostNodes (omega (arith, h .count)))
 
       classless : (k : ℕ) → some k ≡ highestWithoutClass F → FormulaAnswered (withClasses F) e (NoClass k) e
       classless k q =
@@ -106,13 +119,16 @@ module _ (b : List ℕ) (n lost : ℕ) (e : List ℕ) (F : Formula) where
           let f = bytes-are b n F (h .count) (h .made w) w in
           record {
             replies = sym (ap (answers (λ F. tt)) r);
-            leaves = p ∙ ((λ i. f i ++ drop (0 + length (f i)) e) ∙ (ap (λ k. formulaBytes F ++ drop k e) (zero-add (length (formulaBytes F))) ∙ sym (ap (λ a. leftIn formulaBytes a e) r)));
+            leaves = p ∙ ((λ i. f i ++ drop (0 + length (f i)) e) ∙ (ap (λ k. formulaBytes F ++ drop k e) (zero-add (length (formulaBytes F)))
+                ∙ sym (ap (λ a. leftIn formulaBytes a e) r)));
           }
 
-    pub answer-classless : (o : Option ℕ) → NodesHeld b n lost F o → n ≤ mostNodes → (k : ℕ) → some k ≡ highestWithoutClass F → FormulaAnswered (unlessFound o 7 (withClasses F)) e (NoClass k) e
+    pub answer-classless : (o : Option ℕ) → NodesHeld b n lost F o → n ≤ mostNodes
+        → (k : ℕ) → some k ≡ highestWithoutClass F → FormulaAnswered (unlessFound o 7 (withClasses F)) e (NoClass k) e
     answer-classless (some a) h w k q = absurd (omega (arith, h .lacks))
     answer-classless none h w k q = classless w h k q
 
-    pub answer-accepted : (o : Option ℕ) → NodesHeld b n lost F o → n ≤ mostNodes → (x : List ℕ) → none ≡ highestWithoutClass F → x ≡ pasted e 0 (preparedBytes b n) → FormulaAnswered (unlessFound o 7 (withClasses F)) e Accepted x
+    pub answer-accepted : (o : Option ℕ) → NodesHeld b n lost F o → n ≤ mostNodes → (x : List ℕ) → none ≡ highestWithoutClass F
+        → x ≡ pasted e 0 (preparedBytes b n) → FormulaAnswered (unlessFound o 7 (withClasses F)) e Accepted x
     answer-accepted (some a) h w x q p = absurd (omega (arith, h .lacks))
     answer-accepted none h w x q p = classed w h x q p

@@ -37,56 +37,71 @@ stops : {A : Type 0} (t : Bool) (number figure : ℕ) (a : Reply A) → t ≡ fa
 stops true number figure a e = let z : _≡_ {A = ℕ} 0 1 = cc in absurd (omega arith)
 stops false number figure a e = refl
 
+-- Two readings that are equal are answered alike.
+answered-as : {a b : Reply Formula} {e x : List ℕ} {r : FormulaReply} → a ≡ b → FormulaAnswered b e r x → FormulaAnswered a e r x
+answered-as {e = e} p h = record {
+  replies = h .replies ∙ sym (ap (answers (λ F. tt)) p);
+  leaves = h .leaves ∙ sym (ap (λ v. leftIn formulaBytes v e) p);
+}
+
 -- A refusal leaves the buffer as it was.
-refuses : (a : Reply Formula) (e : List ℕ) (r : FormulaReply) (number figure : ℕ) → a ≡ refusal number figure → formulaReply r ≡ refusal number figure → FormulaAnswered a e r e
-refuses a e r number figure p q = record { replies = q ∙ sym (ap (answers (λ F. tt)) p); leaves = sym (ap (λ b. leftIn formulaBytes b e) p) }
+refuses : {a : Reply Formula} {e : List ℕ} (r : FormulaReply) (number figure : ℕ)
+    → a ≡ refusal number figure → formulaReply r ≡ refusal number figure → FormulaAnswered a e r e
+refuses r number figure p q = answered-as p (record { replies = q; leaves = refl })
 
 absent : (o : Option Table) → isSome o ≡ false → o ≡ none
 absent none h = refl
 absent (some t) h = let z : _≡_ {A = ℕ} 0 1 = cc in absurd (omega arith)
 
+-- What is tested of the bytes lent.
 module _ (b s e : List ℕ) where
   pub short-table : length b < tableLength → FormulaAnswered (formulaReading b s e) e (BufferShort tableLength) e
   unfolding formulaReading
-  short-table h = refuses _ e (BufferShort tableLength) 14 tableLength (stops (leb tableLength (length b)) 14 tableLength _ (lt-leb tableLength (length b) h)) refl
+  short-table h =
+      refuses (BufferShort tableLength) 14 tableLength (stops (leb tableLength (length b)) 14 tableLength _ (lt-leb tableLength (length b) h)) refl
 
   module _ (long : tableLength ≤ length b) where
+    enough : {A : Type 0} (a : Reply A) → unless (leb tableLength (length b)) 14 tableLength a ≡ a
+    enough a = passes (leb tableLength (length b)) 14 tableLength a (le-leb tableLength (length b) long)
+
     pub short-formula : length e < formulaLength → FormulaAnswered (formulaReading b s e) e (BufferShort formulaLength) e
     unfolding formulaReading
-    short-formula h = refuses _ e (BufferShort formulaLength) 14 formulaLength
-        (passes (leb tableLength (length b)) 14 tableLength _ (le-leb tableLength (length b) long) ∙ stops (leb formulaLength (length e)) 14 formulaLength _ (lt-leb formulaLength (length e) h)) refl
+    short-formula h = refuses (BufferShort formulaLength) 14 formulaLength
+        (enough _ ∙ stops (leb formulaLength (length e)) 14 formulaLength _ (lt-leb formulaLength (length e) h)) refl
 
     module _ (room : formulaLength ≤ length e) where
       opened : formulaReading b s e ≡ withTable (preparedTable b) (λ t. readFormula (t .names) s)
       unfolding formulaReading
-      opened = passes (leb tableLength (length b)) 14 tableLength _ (le-leb tableLength (length b) long) ∙ passes (leb formulaLength (length e)) 14 formulaLength _ (le-leb formulaLength (length e) room)
+      opened = enough _ ∙ passes (leb formulaLength (length e)) 14 formulaLength _ (le-leb formulaLength (length e) room)
 
       pub foreign-table : isSome (preparedTable b) ≡ false → FormulaAnswered (formulaReading b s e) e TableForeign e
-      foreign-table h = refuses _ e TableForeign 10 0 (opened ∙ ap (λ o. withTable o (λ t. readFormula (t .names) s)) (absent (preparedTable b) h)) refl
+      foreign-table h =
+          refuses TableForeign 10 0 (opened ∙ ap (λ o. withTable o (λ t. readFormula (t .names) s)) (absent (preparedTable b) h)) refl
 
-      module _ (prepared : isSome (preparedTable b) ≡ true) where
-        pub table-held : HoldsTable b
-        table-held = prepared-holds b (tableIn b) (prepared-in b prepared)
+      pub on-prepared : isSome (preparedTable b) ≡ true → {r : FormulaReply} {x : List ℕ}
+          → FormulaAnswered (readFormula (namesIn b) s) e r x → FormulaAnswered (formulaReading b s e) e r x
+      on-prepared h = answered-as (opened ∙ ap (λ o. withTable o (λ t. readFormula (t .names) s)) (prepared-in b h))
 
-        text-read : formulaReading b s e ≡ readFormula (namesIn b) s
-        text-read = opened ∙ ap (λ o. withTable o (λ t. readFormula (t .names) s)) (prepared-in b prepared)
+pub table-held : (b : List ℕ) → isSome (preparedTable b) ≡ true → HoldsTable b
+table-held b h = prepared-holds b (tableIn b) (prepared-in b h)
 
-        pub long-text : 512 < length s → FormulaAnswered (formulaReading b s e) e (TooLong (length s)) e
-        unfolding readFormula
-        long-text h = refuses _ e (TooLong (length s)) 5 (length s) (text-read ∙ stops (leb (length s) 512) 5 (length s) (onResult (namesIn b) s (read s)) (lt-leb (length s) 512 h)) refl
+-- The text, over label names.
+module _ (N : List (List ℕ)) (s e : List ℕ) where
+  pub long-text : 512 < length s → FormulaAnswered (readFormula N s) e (TooLong (length s)) e
+  unfolding readFormula
+  long-text h = refuses (TooLong (length s)) 5 (length s) (stops (leb (length s) 512) 5 (length s) (onResult N s (read s)) (lt-leb (length s) 512 h)) refl
 
-        module _ (short : length s ≤ longestText) where
-          result : formulaReading b s e ≡ onResult (namesIn b) s (read s)
-          unfolding readFormula
-          result = text-read ∙ passes (leb (length s) 512) 5 (length s) (onResult (namesIn b) s (read s)) (le-leb (length s) 512 short)
+  module _ (short : length s ≤ longestText) where
+    result : readFormula N s ≡ onResult N s (read s)
+    unfolding readFormula
+    result = passes (leb (length s) 512) 5 (length s) (onResult N s (read s)) (le-leb (length s) 512 short)
 
-          pub refused-text : (n : ℕ) → RefusedAt s n → FormulaAnswered (formulaReading b s e) e (NotGrammatical n) e
-          refused-text n h = refuses _ e (NotGrammatical n) 6 n (result ∙ (ap (onResult (namesIn b) s) (h .reads) ∙ ap (refusal 6) (sym (h .figure)))) refl
+    pub refused-text : (n : ℕ) → RefusedAt s n → FormulaAnswered (readFormula N s) e (NotGrammatical n) e
+    refused-text n h = refuses (NotGrammatical n) 6 n (result ∙ (ap (onResult N s) (h .reads) ∙ ap (refusal 6) (sym (h .figure)))) refl
 
-          pub whole-text : (c x : List ℕ) (n lost : ℕ) (r : FormulaReply) → WholeRead (namesIn b) s (replicate formulaLength 0) c n lost → FormulaAnsweredWith c n lost e r x → FormulaAnswered (formulaReading b s e) e r x
-          whole-text c x n lost r h f =
-              let F = formulaF (namesIn b) (h .value) in
-              let o = firstUnknown (namesIn b) (h .value) (namesF (h .value) []) in
-              let a = f F o (record { count = h .count; made = h .made; lacks = h .lacks }) in
-              let q = result ∙ ap (onResult (namesIn b) s) (h .reads) in
-              record { replies = a .replies ∙ sym (ap (answers (λ F. tt)) q); leaves = a .leaves ∙ sym (ap (λ v. leftIn formulaBytes v e) q) }
+    pub whole-text : {c x : List ℕ} {n lost : ℕ} {r : FormulaReply}
+        → WholeRead N s (replicate formulaLength 0) c n lost → FormulaAnsweredWith c n lost e r x → FormulaAnswered (readFormula N s) e r x
+    whole-text h f =
+        let o = firstUnknown N (h .value) (namesF (h .value) []) in
+        answered-as (result ∙ ap (onResult N s) (h .reads))
+        (f (formulaF N (h .value)) o (record { count = h .count; made = h .made; lacks = h .lacks }))

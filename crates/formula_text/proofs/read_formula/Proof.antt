@@ -1,20 +1,19 @@
 -- `read_formula` meets its contract: each answer is the one that the definitions give, and so is every byte of the lent buffer.
 use borrow.Author.Needs.{needs}
-use mathlib.Core.Path.{_≡_, sym, _∙_, subst}
+use mathlib.Core.Path.{_≡_, sym, _∙_}
+use mathlib.Core.Bool.{true}
 use mathlib.Core.List.{List}
 use Prim.Native.Nat.{ℕ}
 use borrow.Author.Tests.{not-true, not-false}
-use lib.ListN.{replicate, length-replicate}
-use Rattle.actl.specs.Sizes.{formulaLength}
+use Rattle.lts.specs.Answers.{isSome}
+use Rattle.lts.specs.Prepared.{preparedTable}
 use Rattle.actl.specs.FormulaReading.{formulaReading, formulaReplied, formulaLeft}
 use Rattle.actl.specs.ByGrammar.{FormulaByGrammar}
 use Rattle.actl.proofs.Laws.ByGrammar.{formula-by-grammar}
 use Rattle.formula_text.specs.Replies.{formulaReply}
-use Rattle.actl.specs.Readers.{namesIn}
-use Rattle.formula_terms.specs.TermReplies.{ReadingAnswer}
 use Rattle.formula_text.specs.FormulaAnswers.{FormulaAnswered}
 use Rattle.formula_text.specs.declared.FormulaReply.{FormulaReply}
-use Rattle.formula_text.proofs.ReadingEntry.{short-table, short-formula, foreign-table, table-held, long-text, refused-text, whole-text}
+use Rattle.formula_text.proofs.ReadingEntry.{short-table, short-formula, foreign-table, on-prepared, table-held}
 use Rattle.formula_text.proofs.read_formula.Statement.{statement}
 use Rattle.formula_text.proofs.read_formula.Tie as tie
 
@@ -26,99 +25,48 @@ both {b} {s} {e} h = (h .replies, (h .leaves, formula-by-grammar b s e (h .repli
 returns : tie.Need-returns
 returns c =
     let a = c .before .before .before .before .args in
-    let b = a .table .now in
-    let s = a .text .now in
-    let e = a .formula .now in
-    both (short-table b s e (c .if1 .taken))
+    both (short-table (a .table .now) (a .text .now) (a .formula .now) (c .if1 .taken))
 
 returns-2 : tie.Need-returns-2
 returns-2 c =
     let a = c .before .before .before .before .before .args in
-    let b = a .table .now in
-    let s = a .text .now in
-    let e = a .formula .now in
-    let long = c .before .if1 .left in
-    both (short-formula b s e long (c .if2 .taken))
+    both (short-formula (a .table .now) (a .text .now) (a .formula .now) (c .before .if1 .left) (c .if2 .taken))
 
 is-prepared-requires : tie.Need-is-prepared-requires
 is-prepared-requires c κs = search needs
 
 returns-3 : tie.Need-returns-3
 returns-3 c =
-    let a = c .before .before .before .before .before .before .before .args in
-    let b = a .table .now in
-    let s = a .text .now in
-    let e = a .formula .now in
-    let long = c .before .before .before .if1 .left in
-    let room = c .before .before .if2 .left in
-    both (foreign-table b s e long room (sym (c .before .is-prepared .ensures) ∙ not-true _ (c .if3 .taken)))
+    let room = c .before .before in
+    let long = room .before in
+    let a = long .before .before .before .before .args in
+    let foreign = sym (c .before .is-prepared .ensures) ∙ not-true _ (c .if3 .taken) in
+    both (foreign-table (a .table .now) (a .text .now) (a .formula .now) (long .if1 .left) (room .if2 .left) foreign)
 
-returns-4 : tie.Need-returns-4
-returns-4 c =
-    let a = c .before .before .before .before .before .before .before .before .args in
-    let b = a .table .now in
-    let s = a .text .now in
-    let e = a .formula .now in
-    let long = c .before .before .before .before .if1 .left in
-    let room = c .before .before .before .if2 .left in
-    let held = sym (c .before .before .is-prepared .ensures) ∙ not-false _ (c .before .if3 .left) in
-    both (long-text b s e long room held (c .if4 .taken))
+-- Behind the tests of the bytes.
+module _ (c : tie.Else3) where
+  abbrev start : tie.Start
+  start = c .before .before .before .before .before .before .before
 
-read-text-requires : tie.Need-read-text-requires
-read-text-requires c κs =
-    let a = c .before .before .before .before .before .before .before .before .before .args in
-    let b = a .table .now in
-    let s = a .text .now in
-    let e = a .formula .now in
-    let long = c .before .before .before .before .before .if1 .left in
-    let room = c .before .before .before .before .if2 .left in
-    let held = sym (c .before .before .before .is-prepared .ensures) ∙ not-false _ (c .before .before .if3 .left) in
-    (table-held b s e long room held, c .before .if4 .left, length-replicate {A = ℕ} formulaLength 0)
+  prepared : isSome (preparedTable (start .args .table .now)) ≡ true
+  prepared = sym (c .before .is-prepared .ensures) ∙ not-false _ (c .if3 .left)
 
-enum-known-x : tie.Need-enum-known-x
-enum-known-x c = search needs
-
-enum-known-x-2 : tie.Need-enum-known-x-2
-enum-known-x-2 c = search needs
-
-answer-requires : tie.Need-answer-requires
-answer-requires c κs =
-    let a = c .before .before .before .before .before .before .before .before .before .before .before .before .before .before .before .args in
-    let b = a .table .now in
-    let s = a .text .now in
-    let t = subst (ReadingAnswer (namesIn b) s (replicate formulaLength 0) (c .before .before .before .before .before .read-text .last .1 .1 .0)) (c .before .before .before .x2 .given .1) (c .before .before .before .before .before .read-text .ensures) in
-    (t .long, c .before .before .before .before .before .before .before .before .before .before .if2 .left)
-
-returns-5 : tie.Need-returns-5
-returns-5 c =
-    let a = c .before .before .before .before .before .before .before .before .before .before .before .before .before .args in
-    let b = a .table .now in
-    let s = a .text .now in
-    let e = a .formula .now in
-    let long = c .before .before .before .before .before .before .before .before .before .if1 .left in
-    let room = c .before .before .before .before .before .before .before .before .if2 .left in
-    let held = sym (c .before .before .before .before .before .before .before .is-prepared .ensures) ∙ not-false _ (c .before .before .before .before .before .before .if3 .left) in
-    let t = subst (ReadingAnswer (namesIn b) s (replicate formulaLength 0) (c .before .before .before .read-text .last .1 .1 .0)) (c .before .x .given .1) (c .before .before .before .read-text .ensures) in
-    both (refused-text b s e long room held (c .before .before .before .before .before .if4 .left) _ t)
+read-text-over-requires : tie.Need-read-text-over-requires
+read-text-over-requires c κs =
+    let tested = c .before in
+    (table-held (start tested .args .table .now) (prepared tested), tested .before .before .if2 .left)
 
 same-length : tie.Need-same-length
 same-length c = search needs
 
-returns-6 : tie.Need-returns-6
-returns-6 c =
-    let a = c .before .before .before .before .before .before .before .before .before .before .before .before .before .before .before .before .before .before .args in
-    let b = a .table .now in
-    let s = a .text .now in
-    let e = a .formula .now in
-    let long = c .before .before .before .before .before .before .before .before .before .before .before .before .before .before .if1 .left in
-    let room = c .before .before .before .before .before .before .before .before .before .before .before .before .before .if2 .left in
-    let held = sym (c .before .before .before .before .before .before .before .before .before .before .before .before .is-prepared .ensures) ∙ not-false _ (c .before .before .before .before .before .before .before .before .before .before .before .if3 .left) in
-    let t = subst (ReadingAnswer (namesIn b) s (replicate formulaLength 0) (c .before .before .before .before .before .before .before .before .read-text .last .1 .1 .0)) (c .before .before .before .before .before .before .x2 .given .1) (c .before .before .before .before .before .before .before .before .read-text .ensures) in
-    let r = c .before .before .answer in
-    both (whole-text b s e long room held (c .before .before .before .before .before .before .before .before .before .before .if4 .left) _ _ _ _ (r .result) t (r .ensures))
+returns-4 : tie.Need-returns-4
+returns-4 c =
+    let tested = c .before .before .before .before in
+    let room = tested .before .before in
+    let a = start tested .args in
+    both (on-prepared (a .table .now) (a .text .now) (a .formula .now) (room .before .if1 .left) (room .if2 .left) (prepared tested)
+    (c .before .before .read-text-over .ensures))
 
 pub read-formula-spec : {M : Type 1} → statement M
 read-formula-spec =
-    tie.close
-    (tie.spec returns returns-2 is-prepared-requires returns-3 returns-4 read-text-requires enum-known-x enum-known-x-2 answer-requires
-        returns-5 same-length returns-6)
+    tie.close (tie.spec returns returns-2 is-prepared-requires returns-3 read-text-over-requires same-length returns-4)

@@ -36,19 +36,26 @@ same-length c = search needs
 
 returns-3 : tie.Need-returns-3
 returns-3 c =
-    let a = c .before .before .before .before .before .before .before .before .before .before .before .before .args in
+    let told = c .before .before .before .before .before in
+    let found = told .before .before in
+    let few = found .before .before in
+    let a = few .before .before .before .args in
     let b = a .nodes .now in
-    let few = c .before .before .before .before .before .before .before .before .before .if2 .left in
-    λ F o h. answer-accepted b (a .n) (a .lost) (a .formula .now) F (c .before .before .before .before .before .before .before .before .before .before .if1 .left) o h few _
-    (ap classlessNode (sym (c .before .before .before .before .before .enum-told .given .1)) ∙ c .before .before .before .before .before .before .before .highest-classless .ensures F (sym (kinds-are b (a .n) F (h .count) (h .made few) few))) (c .before .before .write-bytes .ensures)
+    λ F o h.
+    let kinds = sym (kinds-are b (a .n) F (h .count) (h .made (few .if2 .left)) (few .if2 .left)) in
+    let none-found = ap classlessNode (sym (told .enum-told .given .1)) ∙ found .highest-classless .ensures F kinds in
+    answer-accepted b (a .n) (a .lost) (a .formula .now) F (few .before .if1 .left) o h (few .if2 .left) _ none-found (c .before .before .write-bytes .ensures)
 
 returns-4 : tie.Need-returns-4
 returns-4 c =
-    let a = c .before .before .before .before .before .before .before .before .args in
+    let found = c .before .before .before in
+    let few = found .before .before in
+    let a = few .before .before .before .args in
     let b = a .nodes .now in
-    let few = c .before .before .before .before .before .if2 .left in
-    λ F o h. answer-classless b (a .n) (a .lost) (a .formula .now) F (c .before .before .before .before .before .before .if1 .left) o h few _
-    (ap classlessNode (sym (c .before .k .given .1)) ∙ c .before .before .before .highest-classless .ensures F (sym (kinds-are b (a .n) F (h .count) (h .made few) few)))
+    λ F o h.
+    let kinds = sym (kinds-are b (a .n) F (h .count) (h .made (few .if2 .left)) (few .if2 .left)) in
+    let one-found = ap classlessNode (sym (c .before .k .given .1)) ∙ found .highest-classless .ensures F kinds in
+    answer-classless b (a .n) (a .lost) (a .formula .now) F (few .before .if1 .left) o h (few .if2 .left) _ one-found
 
 pub answer-spec : {M : Type 1} → statement M
 answer-spec =
