@@ -1,4 +1,4 @@
 pub mod ReadingMoves
-pub mod ReadingNames
+mod ReadingNames
 pub mod ReadingPlaces
 pub mod ReadingTexts

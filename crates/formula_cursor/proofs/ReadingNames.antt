@@ -81,18 +81,28 @@ module _ (s : List ℕ) (at to : ℕ) (h : NamePrefix s at to) where
         up = omega (arith, h .up);
         within = omega arith;
         reads = λ k. h .reads k ∙ (ap (λ l. run l (naming n k)) (here w)
-            ∙ ap (λ v. proceed v (run (drop (to + 1) s)) (refused (b ∷ drop (to + 1) s))) (named-yes (n .bytes ++ (b ∷ [])) k (isName (n .bytes ++ (b ∷ []))) refl (leaveO (name n) k b) f));
+            ∙ ap (λ v. proceed v (run (drop (to + 1) s)) (refused (b ∷ drop (to + 1) s)))
+            (named-yes (n .bytes ++ (b ∷ [])) k (isName (n .bytes ++ (b ∷ []))) refl (leaveO (name n) k b) f));
       }
 
   -- No more: a byte that does not belong to it, or the end of the text.
   left : ((k : InOperand) → run (drop to s) (naming (h .value) k) ≡ run (drop to s) (plugO (name (h .value)) k)) → Named s at to
-  left e = record { value = h .value; up = h .up; short = h .short; moves = record { up = omega (arith, h .up); within = h .within; text = h .text; reads = λ k. h .reads k ∙ e k } }
+  left e = record {
+    value = h .value;
+    up = h .up;
+    short = h .short;
+    moves = record { up = omega (arith, h .up); within = h .within; text = h .text; reads = λ k. h .reads k ∙ e k };
+  }
 
   prefix-before : to < length s → isName (h .value .bytes ++ (getD s to 0 ∷ [])) ≡ false → Named s at to
-  prefix-before w e = left (λ k. ap (λ l. run l (naming (h .value) k)) (here w) ∙ (leave-at (getD s to 0) (drop (to + 1) s) (h .value) k e ∙ ap (λ l. run l (plugO (name (h .value)) k)) (sym (here w))))
+  prefix-before w e = left (λ k. ap (λ l. run l (naming (h .value) k)) (here w)
+      ∙ (leave-at (getD s to 0) (drop (to + 1) s) (h .value) k e ∙ ap (λ l. run l (plugO (name (h .value)) k)) (sym (here w))))
 
   prefix-at-end : length s ≤ to → Named s at to
-  prefix-at-end w = left (λ k. let d = drop-of-length-le s w in ap (λ l. run l (naming (h .value) k)) d ∙ (leave-end (name (h .value)) k ∙ ap (λ l. run l (plugO (name (h .value)) k)) (sym d)))
+  prefix-at-end w =
+      let d = drop-of-length-le s w in
+      left (λ k. ap (λ l. run l (naming (h .value) k)) d
+      ∙ (leave-end (name (h .value)) k ∙ ap (λ l. run l (plugO (name (h .value)) k)) (sym d)))
 
 -- A mark is a name's last byte.
 marked-prefix : (s : List ℕ) (at to : ℕ) (h : StemPrefix s at to) → to < length s → isMark (getD s to 0) ≡ true → Named s at (to + 1)
@@ -103,7 +113,8 @@ marked-prefix s at to h w m =
     let p = prefix-more s at to (h .so-far) w (h .few) (stem-marked (n .bytes) mark m (h .stem)) in
     case p (λ b. mark-ends mark m b (n .bytes)) (ltb (to + 1) (length s)) refl
   where
-    case : (p : NamePrefix s at (to + 1)) → ((b : ℕ) → isName (p .value .bytes ++ (b ∷ [])) ≡ false) → (t : Bool) → ltb (to + 1) (length s) ≡ t → Named s at (to + 1)
+    case : (p : NamePrefix s at (to + 1)) → ((b : ℕ) → isName (p .value .bytes ++ (b ∷ [])) ≡ false)
+        → (t : Bool) → ltb (to + 1) (length s) ≡ t → Named s at (to + 1)
     case p f true d = prefix-before s at (to + 1) p (ltb-true (to + 1) (length s) d) (f (getD s (to + 1) 0))
     case p f false d = prefix-at-end s at (to + 1) p (ltb-false (to + 1) (length s) d)
 
@@ -138,7 +149,8 @@ module _ (s : List ℕ) (at : ℕ) where
           let run : stemRun (suc k) (drop to s) ≡ suc (stemRun k (drop (to + 1) s)) = run-opened k to w ∙ ap (λ t. cond t (suc (stemRun k (drop (to + 1) s))) 0) i in
           let place : to + 1 + stemRun k (drop (to + 1) s) ≡ to + stemRun (suc k) (drop to s) = omega arith in
           let u = h .so-far .up in
-          let more : StemPrefix s at (to + 1) = record { so-far = prefix-more s at to (h .so-far) w (h .few) (stem-named (n .bytes ++ (getD s to 0 ∷ [])) f); stem = f; few = omega arith } in
+          let longer = prefix-more s at to (h .so-far) w (h .few) (stem-named (n .bytes ++ (getD s to 0 ∷ [])) f) in
+          let more : StemPrefix s at (to + 1) = record { so-far = longer; stem = f; few = omega arith } in
           subst (StemStands s at) place (go-on more)
       case true d false i go-on =
           let w = ltb-true to (length s) d in
@@ -185,7 +197,9 @@ module _ (s : List ℕ) (at : ℕ) where
         where
           case : StemEnds s at end → Named s at end
           case (inl d) = absurd (omega arith)
-          case (inr (inl d)) = prefix-before s at end (h .prefix .so-far) w (name-full (getD s end 0) m (h .prefix .so-far .value .bytes) (omega (arith, h .prefix .so-far .long)))
+          case (inr (inl d)) =
+              let full = name-full (getD s end 0) m (h .prefix .so-far .value .bytes) (omega (arith, h .prefix .so-far .long)) in
+              prefix-before s at end (h .prefix .so-far) w full
           case (inr (inr d)) = prefix-before s at end (h .prefix .so-far) w (name-ends (getD s end 0) m d (h .prefix .so-far .value .bytes))
 
       named-here : Named s at (nameEnd s at)

@@ -33,11 +33,13 @@ inside s at h = case (decLe (length s) at)
 pub byte-at : (s : List ℕ) (at b : ℕ) → peek s at ≡ b → b < 256 → drop at s ≡ b ∷ drop (at + 1) s
 byte-at s at b e h = drop-cons s at 256 (inside s at (omega arith)) ∙ rw (add-one, e)
 
-pub run-byte : (s : List ℕ) (at b : ℕ) (x : State) → peek s at ≡ b → b < 256 → run (drop at s) x ≡ proceed (readByte x b) (run (drop (at + 1) s)) (refused (drop at s))
+pub run-byte : (s : List ℕ) (at b : ℕ) (x : State) → peek s at ≡ b → b < 256
+    → run (drop at s) x ≡ proceed (readByte x b) (run (drop (at + 1) s)) (refused (drop at s))
 run-byte s at b x e h = rw (byte-at s at b e h)
 
 -- A state that stops at the byte there, and at the end.
-pub run-stop : (s : List ℕ) (at : ℕ) (x : State) → at ≤ length s → finish x ≡ refused [] → readByte x (peek s at) ≡ stop → run (drop at s) x ≡ refused (drop at s)
+pub run-stop : (s : List ℕ) (at : ℕ) (x : State) → at ≤ length s → finish x ≡ refused [] → readByte x (peek s at) ≡ stop
+    → run (drop at s) x ≡ refused (drop at s)
 run-stop s at x w f e = case (decLe (length s) at)
   where
     case : Dec (length s ≤ at) → run (drop at s) x ≡ refused (drop at s)
@@ -52,7 +54,8 @@ gap-snoc : (n : ℕ) (s : List ℕ) → gap n (32 ∷ s) ≡ gap (suc n) s
 gap-snoc zero s = refl
 gap-snoc (suc n) s = ap (λ l. 32 ∷ l) (gap-snoc n s)
 
-pub more-gap : (s : List ℕ) (at i : ℕ) → at ≤ i → i < length s → getD s i 0 ≡ 32 → drop at s ≡ gap (i - at) (drop i s) → drop at s ≡ gap (i + 1 - at) (drop (i + 1) s)
+pub more-gap : (s : List ℕ) (at i : ℕ) → at ≤ i → i < length s → getD s i 0 ≡ 32
+    → drop at s ≡ gap (i - at) (drop i s) → drop at s ≡ gap (i + 1 - at) (drop (i + 1) s)
 more-gap s at i u w b e =
     let d : i + 1 - at ≡ suc (i - at) = omega arith in
     let p : peek s i ≡ 32 = getD-any s i 256 0 w ∙ b in
@@ -72,7 +75,8 @@ other-byte s i b w h e = h (getD-any s i 0 256 w ∙ e)
 pub mark-skipped : {s : List ℕ} {at mark d to : ℕ} → Marked s at mark d → Skipped s d to → Tokened s at mark to
 mark-skipped {s} {to} m k = record { here = m .here; skipped = subst (λ n. Skipped s n to) (m .next) k }
 
-pub two-marks : (s : List ℕ) (at d : ℕ) (w : List ℕ) → Marked s at (getD w 0 0) d → (r : Match) → MarkAnswer s d (getD w 1 0) r → KeywordAnswer s at w r
+pub two-marks : (s : List ℕ) (at d : ℕ) (w : List ℕ) → Marked s at (getD w 0 0) d
+    → (r : Match) → MarkAnswer s d (getD w 1 0) r → KeywordAnswer s at w r
 two-marks s at d w m (Past c) h = record {
   one = record { here = m .here; next = refl; within = m .within };
   two = subst (λ n. Marked s n (getD w 1 0) (c .at)) (m .next) h;

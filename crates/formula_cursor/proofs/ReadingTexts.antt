@@ -42,10 +42,13 @@ module _ {N : List (List ℕ)} {s e : List ℕ} {end to m l : ℕ} {x : List ℕ
       stuck = on-other (peek s to) 32 _ _ (h .token .past) ∙ (on-other (peek s to) 38 _ _ (h .no-and) ∙ on-other (peek s to) 124 _ _ (h .no-or))
 
       rest : Dec (length s ≤ to) → run (drop to s) (afterDisjunction (h .value) fTop (to - end)) ≡ refused (drop to s)
-      rest (yes w) = let d = drop-of-length-le s w in ap (λ r. run r (afterDisjunction (h .value) fTop (to - end))) d ∙ (ends (to - end) refl w ∙ ap refused (sym d))
+      rest (yes w) =
+          let d = drop-of-length-le s w in
+          ap (λ r. run r (afterDisjunction (h .value) fTop (to - end))) d ∙ (ends (to - end) refl w ∙ ap refused (sym d))
       rest (no w) =
           let d = drop-cons s to 256 (omega arith) in
-          ap (λ r. run r (afterDisjunction (h .value) fTop (to - end))) d ∙ (ap (λ v. proceed v (run (drop (suc to) s)) (refused (peek s to ∷ drop (suc to) s))) stuck ∙ ap refused (sym d))
+          ap (λ r. run r (afterDisjunction (h .value) fTop (to - end))) d
+          ∙ (ap (λ v. proceed v (run (drop (suc to) s)) (refused (peek s to ∷ drop (suc to) s))) stuck ∙ ap refused (sym d))
 
   pub text-whole : end ≡ length s → WholeRead N s e x m l
   text-whole z =
@@ -59,5 +62,6 @@ module _ {N : List (List ℕ)} {s e : List ℕ} {end to m l : ℕ} {x : List ℕ
         count = omega (arith, h .written .ends, bytes-length (formulaF N (h .value)));
         long = h .written .long;
         made = h .written .made;
-        lacks = h .lacks ∙ (λ i. earlier 0 (unknownIn N (length (t i)) (namesF (h .value) (gap (b i) (d i))))) ∙ ap (earlier 0) (first-unknown N (h .value) (namesF (h .value) []));
+        lacks = h .lacks ∙ (λ i. earlier 0 (unknownIn N (length (t i)) (namesF (h .value) (gap (b i) (d i)))))
+            ∙ ap (earlier 0) (first-unknown N (h .value) (namesF (h .value) []));
       }

@@ -1,2 +1,2 @@
-pub mod ReadingBrackets
-pub mod ReadingHeads
+mod ReadingBrackets
+mod ReadingHeads

@@ -15,7 +15,8 @@ pub written-to : {n m k : ℕ} {e x l : List ℕ} → m ≡ k → NodesWritten n
 written-to {n} {e = e} {x = x} {l = l} z p = subst (λ m. NodesWritten n m e x l) z p
 
 pub enclosed : {start n w m : ℕ} {e x y z before behind : List ℕ} → length e ≡ formulaLength → start ≤ n
-    → NodesMoved start n w e x → NodesWritten start (start + w) x y before → NodesWritten (n + w) (n + m) y z behind → NodesEnclosed start n m before behind e z
+    → NodesMoved start n w e x → NodesWritten start (start + w) x y before → NodesWritten (n + w) (n + m) y z behind
+    → NodesEnclosed start n m before behind e z
 enclosed {start} {n} {w} {e = e} {y = y} {z = z} {before = before} {behind = behind} long h p q r = record {
   long = r .long ∙ (q .long ∙ p .long);
   made = λ few.
@@ -24,7 +25,9 @@ enclosed {start} {n} {w} {e = e} {y = y} {z = z} {before = before} {behind = beh
       let mid = drop i (take top e) in
       let fits : n + w ≤ mostNodes = omega (arith, r .ends) in
       let wide : length before ≡ w * nodeSlotLength = omega (arith, q .ends) in
-      let l : length (before ++ mid) ≡ w * nodeSlotLength + (n - start) * nodeSlotLength = omega (arith, length-append before mid, length-drop i (take top e), length-take-le top e (omega arith)) in
-      pasted-then i (1 + (n + w) * nodeSlotLength) (before ++ mid) behind e y z (q .made (omega arith) ∙ p .made fits before wide) (omega arith) (omega arith) (r .made few)
+      let l : length (before ++ mid) ≡ w * nodeSlotLength + (n - start) * nodeSlotLength
+      = omega (arith, length-append before mid, length-drop i (take top e), length-take-le top e (omega arith)) in
+      let joined = q .made (omega arith) ∙ p .made fits before wide in
+      pasted-then i (1 + (n + w) * nodeSlotLength) (before ++ mid) behind e y z joined (omega arith) (omega arith) (r .made few)
       ∙ ap (pasted e i) (append-assoc before mid behind);
 }

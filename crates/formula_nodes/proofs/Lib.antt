@@ -1,1 +1,1 @@
-pub mod Joining
+mod Joining

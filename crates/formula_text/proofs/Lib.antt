@@ -1,2 +1,2 @@
-pub mod ReadingAnswers
-pub mod ReadingEntry
+mod ReadingAnswers
+mod ReadingEntry

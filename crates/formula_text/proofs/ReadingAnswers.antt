@@ -66,7 +66,7 @@ module _ (b : List ℕ) (n : ℕ) (F : Formula)
       let s : w ≡ length B + (w - length B) = omega arith in
       let zeros = zeros-part (w - length B) (1 + length B) formulaLength (omega arith) in
       let t : take w (B ++ Z) ≡ B ++ replicate (w - length B) 0
-          = ap (λ k. take k (B ++ Z)) s ∙ (take-append-add B Z (w - length B) ∙ ap (λ x. B ++ x) zeros) in
+      = ap (λ k. take k (B ++ Z)) s ∙ (take-append-add B Z (w - length B) ∙ ap (λ x. B ++ x) zeros) in
       ap (λ x. n ∷ drop 1 (take formulaLength x)) made ∙ (λ i. count i ∷ t i)
 
   same-count : n ≡ length (nodes F)
@@ -100,7 +100,7 @@ module _ (b : List ℕ) (n lost : ℕ) (e : List ℕ) (F : Formula) where
     answer-many none h w =
         let t : leb (size F) mostNodes ≡ false = lt-leb (size F) mostNodes (omega (arith, h .count)) in
         let q : withClasses F ≡ refusal 8 n
-            = ap (λ v. unless v 8 (size F) (unlessFound (highestWithoutClass F) 9 (accepted F))) t ∙ ap (refusal 8) (sym (h .count)) in
+        = ap (λ v. unless v 8 (size F) (unlessFound (highestWithoutClass F) 9 (accepted F))) t ∙ ap (refusal 8) (sym (h .count)) in
         record { replies = sym (ap (answers (λ F. tt)) q); leaves = sym (ap (λ a. leftIn formulaBytes a e) q) }
 
     module _ (w : n ≤ mostNodes) (h : NodesHeld b n lost F none) where

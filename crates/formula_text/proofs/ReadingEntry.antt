@@ -89,7 +89,8 @@ table-held b h = prepared-holds b (tableIn b) (prepared-in b h)
 module _ (N : List (List ℕ)) (s e : List ℕ) where
   pub long-text : 512 < length s → FormulaAnswered (readFormula N s) e (TooLong (length s)) e
   unfolding readFormula
-  long-text h = refuses (TooLong (length s)) 5 (length s) (stops (leb (length s) 512) 5 (length s) (onResult N s (read s)) (lt-leb (length s) 512 h)) refl
+  long-text h = refuses (TooLong (length s)) 5 (length s)
+      (stops (leb (length s) 512) 5 (length s) (onResult N s (read s)) (lt-leb (length s) 512 h)) refl
 
   module _ (short : length s ≤ longestText) where
     result : readFormula N s ≡ onResult N s (read s)

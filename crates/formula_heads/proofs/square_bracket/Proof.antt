@@ -45,7 +45,7 @@ module _ (c : tie.After-d) where
   contents-read : (w : Keyword) → start .args .word ≡ w → (r : Heading)
       → ContentsAnswer w (namesIn (start .args .table .now)) text inside (start .args .lost) r
       → RestAnswer (namesIn (start .args .table .now)) text (behindWord (start .args .word) 0) (shownWord (start .args .word))
-          (start .args .c .at) (start .args .lost) r
+      (start .args .c .at) (start .args .lost) r
   contents-read w e r h =
       let a = start .args in
       let N = namesIn (a .table .now) in

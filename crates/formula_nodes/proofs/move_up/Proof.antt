@@ -15,50 +15,19 @@ Inv-loop nodes₀ start n count by low i₀ nodes i = (low ≤ i) × (i ≤ 1 + 
 abbrev μ-loop : tie.MeasureT-loop
 μ-loop nodes₀ start n count by low i₀ nodes i = i
 
-add-if1 : tie.Need-add-if1 Inv-loop μ-loop
-add-if1 c = omega arith
-
-mul-by : tie.Need-mul-by Inv-loop μ-loop
-mul-by c = omega arith
-
-mul-low : tie.Need-mul-low Inv-loop μ-loop
-mul-low c = omega arith
-
-add-low : tie.Need-add-low Inv-loop μ-loop
-add-low c = omega arith
-
-mul-i : tie.Need-mul-i Inv-loop μ-loop
-mul-i c = omega arith
-
-add-i : tie.Need-add-i Inv-loop μ-loop
-add-i c = omega arith
-
 loop-holds : tie.Need-loop-holds Inv-loop μ-loop
 loop-holds c =
     let a = c .before .args in
     (omega arith, omega arith, moved-none (a .count * nodeSlotLength) (1 + a .n * nodeSlotLength) (a .nodes .now))
-
-sub-i : tie.Need-sub-i Inv-loop μ-loop
-sub-i c = omega arith
-
-element-copy-out-nodes : tie.Need-element-copy-out-nodes Inv-loop μ-loop
-element-copy-out-nodes c = omega arith
-
-add-nodes : tie.Need-add-nodes Inv-loop μ-loop
-add-nodes c = omega arith
-
-element-write-nodes : tie.Need-element-write-nodes Inv-loop μ-loop
-element-write-nodes c = omega arith
-
-loop-less : tie.Need-loop-less Inv-loop μ-loop
-loop-less c = omega arith
 
 loop-again : tie.Need-loop-again Inv-loop μ-loop
 loop-again c =
     let l = c .before .before .loop in
     let s = c .before .before .before .before in
     let a = s .args in
-    (omega arith, omega arith, moved-step (a .count * nodeSlotLength) (1 + a .n * nodeSlotLength) (l .i) (a .nodes .now) (omega (arith, s .pre .0)) (l .inv .1) (l .nodes) (omega arith) (l .inv .2))
+    let by = a .count * nodeSlotLength in
+    let top = 1 + a .n * nodeSlotLength in
+    (omega arith, omega arith, moved-step by top (l .i) (a .nodes .now) (omega (arith, s .pre .0)) (l .inv .1) (l .nodes) (omega arith) (l .inv .2))
 
 returns : tie.Need-returns Inv-loop μ-loop
 returns c =
@@ -82,5 +51,6 @@ returns-2 c = record { long = refl; made = λ h. absurd (omega arith) }
 pub move-up-spec : {M : Type 1} → statement M
 move-up-spec =
     tie.close
-    (tie.spec Inv-loop μ-loop add-if1 mul-by mul-low add-low mul-i add-i loop-holds sub-i element-copy-out-nodes add-nodes
-        element-write-nodes loop-less loop-again returns returns-2)
+    (tie.spec Inv-loop μ-loop (λ c. omega arith) (λ c. omega arith) (λ c. omega arith) (λ c. omega arith) (λ c. omega arith)
+        (λ c. omega arith) loop-holds (λ c. omega arith) (λ c. omega arith) (λ c. omega arith) (λ c. omega arith) (λ c. omega arith)
+        loop-again returns returns-2)

@@ -8,21 +8,6 @@ use Rattle.formula_nodes.proofs.Joining.{written-to}
 use Rattle.formula_nodes.proofs.put_dual.Statement.{statement}
 use Rattle.formula_nodes.proofs.put_dual.Tie as tie
 
-put-requires : tie.Need-put-requires
-put-requires c κs = search needs
-
-add-put : tie.Need-add-put
-add-put c = search needs
-
-put-requires-2 : tie.Need-put-requires-2
-put-requires-2 c κs = search needs
-
-add-put-2 : tie.Need-add-put-2
-add-put-2 c = search needs
-
-put-requires-3 : tie.Need-put-requires-3
-put-requires-3 c κs = search needs
-
 returns : tie.Need-returns
 returns c =
     let second = c .before .before in
@@ -37,4 +22,5 @@ returns c =
 
 pub put-dual-spec : {M : Type 1} → statement M
 put-dual-spec =
-    tie.close (tie.spec put-requires add-put put-requires-2 add-put-2 put-requires-3 returns)
+    tie.close
+    (tie.spec (λ c κs. search needs) (λ c. search needs) (λ c κs. search needs) (λ c. search needs) (λ c κs. search needs) returns)

@@ -13,7 +13,9 @@ add-t10 : tie.Need-add-t10
 add-t10 c = search needs
 
 returns : tie.Need-returns
-returns c = let a = c .before .before .before .args in record { here = getD-any (a .text .now) (a .self .at) 256 0 (omega arith) ∙ c .if2 .taken; next = refl; within = omega arith }
+returns c =
+    let a = c .before .before .before .args in
+    record { here = getD-any (a .text .now) (a .self .at) 256 0 (omega arith) ∙ c .if2 .taken; next = refl; within = omega arith }
 
 returns-2 : tie.Need-returns-2
 returns-2 c = let a = c .before .before .before .args in other-byte (a .text .now) (a .self .at) (a .mark) (omega arith) (c .if2 .left)

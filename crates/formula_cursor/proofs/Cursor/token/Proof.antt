@@ -2,6 +2,7 @@
 use borrow.Author.Needs.{needs}
 use mathlib.Core.Path.{subst}
 use native.Mathlib.Omega.{arith}
+use Rattle.actl.specs.Cursor.{Marked}
 use Rattle.formula_cursor.specs.CursorReplies.{MarkAnswer}
 use Rattle.formula_cursor.proofs.ReadingPlaces.{mark-skipped}
 use Rattle.formula_cursor.proofs.Cursor.token.Statement.{statement}
@@ -17,13 +18,23 @@ enum-told : tie.Need-enum-told
 enum-told c = search needs
 
 returns : tie.Need-returns
-returns c = let a = c .before .before .before .before .args in subst (MarkAnswer (a .text .now) (a .self .at) (a .mark)) (c .enum-told .given .1) (c .before .before .mark .ensures)
+returns c =
+    let a = c .before .before .before .before .args in
+    subst (MarkAnswer (a .text .now) (a .self .at) (a .mark)) (c .enum-told .given .1) (c .before .before .mark .ensures)
+
+-- Behind the mark.
+module _ (c : tie.After-d) where
+  abbrev start : tie.Start
+  start = c .before .before .before .before
+
+  marked : Marked (start .args .text .now) (start .args .self .at) (start .args .mark) (c .d .given .0 .0 .at)
+  marked = subst (MarkAnswer (start .args .text .now) (start .args .self .at) (start .args .mark)) (c .d .given .1) (c .before .before .mark .ensures)
 
 skip-blanks-requires : tie.Need-skip-blanks-requires
-skip-blanks-requires c κs = let a = c .before .before .before .before .before .args in let m = subst (MarkAnswer (a .text .now) (a .self .at) (a .mark)) (c .before .d .given .1) (c .before .before .before .mark .ensures) in omega (arith, m .within, m .next)
+skip-blanks-requires c κs = let m = marked (c .before) in omega (arith, m .within, m .next)
 
 returns-2 : tie.Need-returns-2
-returns-2 c = let a = c .before .before .before .before .before .before .args in mark-skipped (subst (MarkAnswer (a .text .now) (a .self .at) (a .mark)) (c .before .before .d .given .1) (c .before .before .before .before .mark .ensures)) (c .skip-blanks .ensures)
+returns-2 c = mark-skipped (marked (c .before .before)) (c .skip-blanks .ensures)
 
 pub token-spec : {M : Type 1} → statement M
 token-spec =

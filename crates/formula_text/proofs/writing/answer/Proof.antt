@@ -44,7 +44,8 @@ returns-3 c =
     λ F o h.
     let kinds = sym (kinds-are b (a .n) F (h .count) (h .made (few .if2 .left)) (few .if2 .left)) in
     let none-found = ap classlessNode (sym (told .enum-told .given .1)) ∙ found .highest-classless .ensures F kinds in
-    answer-accepted b (a .n) (a .lost) (a .formula .now) F (few .before .if1 .left) o h (few .if2 .left) _ none-found (c .before .before .write-bytes .ensures)
+    answer-accepted b (a .n) (a .lost) (a .formula .now) F (few .before .if1 .left) o h (few .if2 .left) _ none-found
+    (c .before .before .write-bytes .ensures)
 
 returns-4 : tie.Need-returns-4
 returns-4 c =

@@ -34,7 +34,8 @@ returns c =
     let copying = c .before .before in
     let start = copying .before .before .before .before .before in
     let a = start .args in
-    bytes-copied (a .nodes .now) (a .formula .now) _ (a .n) _ (omega (arith, start .pre .0)) (start .pre .2) (copied start) (copying .copy .ensures .1)
+    bytes-copied (a .nodes .now) (a .formula .now) _ (a .n) _ (omega (arith, start .pre .0)) (start .pre .2) (copied start)
+    (copying .copy .ensures .1)
 
 pub write-bytes-spec : {M : Type 1} → statement M
 write-bytes-spec =
