@@ -146,7 +146,8 @@ module _ (s : List ℕ) (at : ℕ) where
           let w = ltb-true to (length s) d in
           let n = h .so-far .value in
           let f = stem-grows (n .bytes) (getD s to 0) (h .stem) (let u = h .so-far .up in omega (arith, h .so-far .long)) i in
-          let run : stemRun (suc k) (drop to s) ≡ suc (stemRun k (drop (to + 1) s)) = run-opened k to w ∙ ap (λ t. cond t (suc (stemRun k (drop (to + 1) s))) 0) i in
+          let run : stemRun (suc k) (drop to s) ≡ suc (stemRun k (drop (to + 1) s))
+          = run-opened k to w ∙ ap (λ t. cond t (suc (stemRun k (drop (to + 1) s))) 0) i in
           let place : to + 1 + stemRun k (drop (to + 1) s) ≡ to + stemRun (suc k) (drop to s) = omega arith in
           let u = h .so-far .up in
           let longer = prefix-more s at to (h .so-far) w (h .few) (stem-named (n .bytes ++ (getD s to 0 ∷ [])) f) in
@@ -172,11 +173,13 @@ module _ (s : List ℕ) (at : ℕ) where
         case : (t : Bool) → ltb at (length s) ≡ t → (i : Bool) → isLower (getD s at 0) ≡ i → StemStands s at end
         case true d true i =
             let w = ltb-true at (length s) d in
-            let run : stemLength (drop at s) ≡ suc (stemRun 11 (drop (at + 1) s)) = length-opened w ∙ ap (λ t. cond t (suc (stemRun 11 (drop (at + 1) s))) 0) i in
+            let run : stemLength (drop at s) ≡ suc (stemRun 11 (drop (at + 1) s))
+            = length-opened w ∙ ap (λ t. cond t (suc (stemRun 11 (drop (at + 1) s))) 0) i in
             let place : at + 1 + stemRun 11 (drop (at + 1) s) ≡ end = omega arith in
             subst (StemStands s at) place (run-stem 11 (at + 1) (prefix-first s at w i) (omega arith))
         case true d false i =
-            let run : stemLength (drop at s) ≡ 0 = length-opened (ltb-true at (length s) d) ∙ ap (λ t. cond t (suc (stemRun 11 (drop (at + 1) s))) 0) i in
+            let run : stemLength (drop at s) ≡ 0
+            = length-opened (ltb-true at (length s) d) ∙ ap (λ t. cond t (suc (stemRun 11 (drop (at + 1) s))) 0) i in
             absurd (n (omega arith))
         case false d i j = absurd (n (omega (arith, ap stemLength (drop-of-length-le s (ltb-false at (length s) d)))))
 
@@ -185,7 +188,8 @@ module _ (s : List ℕ) (at : ℕ) where
       where
         case : (t : Bool) → ltb at (length s) ≡ t → (i : Bool) → isLower (getD s at 0) ≡ i → isLower (peek s at) ≡ false
         case true d true i =
-            let run : stemLength (drop at s) ≡ suc (stemRun 11 (drop (at + 1) s)) = length-opened (ltb-true at (length s) d) ∙ ap (λ t. cond t (suc (stemRun 11 (drop (at + 1) s))) 0) i in
+            let run : stemLength (drop at s) ≡ suc (stemRun 11 (drop (at + 1) s))
+            = length-opened (ltb-true at (length s) d) ∙ ap (λ t. cond t (suc (stemRun 11 (drop (at + 1) s))) 0) i in
             absurd (omega arith)
         case true d false i = ap isLower (getD-any s at 256 0 (ltb-true at (length s) d)) ∙ i
         case false d i j = ap isLower (peek-end s at (ltb-false at (length s) d))

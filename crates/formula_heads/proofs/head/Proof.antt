@@ -33,7 +33,8 @@ returns c =
 square-bracket-requires-2 : tie.Need-square-bracket-requires-2
 square-bracket-requires-2 c κs =
     let word = c .before in
-    let start = word .before .before .before .before .before .before .before .before .before .before .before in
+    let neither = word .before .before .before .before in
+    let start = neither .before .before .before .before .before .before .before in
     let a = start .args in
     let s = a .text .now in
     let at = a .c .at in
@@ -43,7 +44,8 @@ square-bracket-requires-2 c κs =
 returns-2 : tie.Need-returns-2
 returns-2 c =
     let word = c .before .before in
-    let a = word .before .before .before .before .before .before .before .before .before .before .before .args in
+    let neither = word .before .before .before .before in
+    let a = neither .before .before .before .before .before .before .before .args in
     let N = namesIn (a .table .now) in
     let s = a .text .now in
     let at = a .c .at in

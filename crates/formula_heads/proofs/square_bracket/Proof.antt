@@ -62,13 +62,19 @@ labelled-requires : tie.Need-labelled-requires
 labelled-requires c κs = may-read (c .before .before .before .before)
 
 returns-2 : tie.Need-returns-2
-returns-2 c = contents-read (c .before .before .before .before .before) _ (c .before .before .word .given .1) (c .next .result) (c .next .ensures)
+returns-2 c =
+    let word = c .before .before in
+    contents-read (word .before .before .before) _ (word .word .given .1) (c .next .result) (c .next .ensures)
 
 returns-3 : tie.Need-returns-3
-returns-3 c = contents-read (c .before .before .before .before) _ (c .before .enum-told2 .given .1) (c .until .result) (c .until .ensures)
+returns-3 c =
+    let word = c .before in
+    contents-read (word .before .before .before) _ (word .enum-told2 .given .1) (c .until .result) (c .until .ensures)
 
 returns-4 : tie.Need-returns-4
-returns-4 c = contents-read (c .before .before .before .before .before) _ (c .before .before .word2 .given .1) (c .labelled .result) (c .labelled .ensures)
+returns-4 c =
+    let word = c .before .before in
+    contents-read (word .before .before .before) _ (word .word2 .given .1) (c .labelled .result) (c .labelled .ensures)
 
 pub square-bracket-spec : {M : Type 1} → statement M
 square-bracket-spec =

@@ -10,7 +10,8 @@ use Rattle.formula_cursor.proofs.Cursor.keyword.Tie as tie
 returns : tie.Need-returns
 returns c =
     let a = c .before .before .before .before .before .args in
-    let missed = subst (MarkAnswer (a .text .now) (a .self .at) (getD (a .word .now) 0 0)) (c .enum-told .given .1) (c .before .before .mark .ensures) in
+    let s = a .text .now in
+    let missed = subst (MarkAnswer s (a .self .at) (getD (a .word .now) 0 0)) (c .enum-told .given .1) (c .before .before .mark .ensures) in
     λ p q. missed p
 
 returns-2 : tie.Need-returns-2
