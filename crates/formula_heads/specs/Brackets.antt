@@ -44,6 +44,7 @@ abbrev pub wordOf : Quantifier → List ℕ → List ℕ → List ℕ
 wordOf Existential some every = some
 wordOf Universal some every = every
 
+-- The two letters w stand at a place, or do not.
 abbrev pub NoWord : List ℕ → ℕ → List ℕ → Type 0
 NoWord s at w = peek s at ≡ getD w 0 0 → peek s (at + 1) ≡ getD w 1 0 → ⊥
 
@@ -113,7 +114,7 @@ FirstSetAnswer N s at mask left r =
     → RestAnswer N s (λ k. afterSet (x .value) (sUntil a k b) (x .blanks))
     (λ t. shownBracket Until a b (showS (x .value) (gap (x .blanks) t))) at lost r
 
--- Behind the first letter of DIA or BOX.
+-- The first letter of DIA or BOX, and what is read behind it.
 abbrev pub first : grammar.Quantifier → ℕ
 first existential = 68
 first universal = 66
