@@ -1,1 +1,2 @@
+pub mod ReaderCycles
 pub mod ReadingSets

@@ -15,6 +15,7 @@ ghost use Rattle.tables.specs.Access.{directionIn};
 ghost use Rattle.actl.specs.Cursor.{Named};
 ghost use Rattle.actl.specs.Readers.{namesIn, ReaderStart, earlier};
 ghost use Rattle.formula_sets.specs.SetReplies.{WildcardAnswer, OperandAnswer, EnclosedAnswer, SetAnswer};
+ghost use Rattle.formula_sets.specs.OperandPhases.{MarkedLabels, NoOpening, MaskWithin, complemented};
 use formula_cursor::Cursor;
 use formula_cursor::Match;
 use tables::names::Direction;
@@ -30,7 +31,7 @@ pub enum Labels {
 }
 
 // The labels that one mark stands for, as a mask; or no such mark stands here.
-pub enum Wildcard {
+enum Wildcard {
     Past(Cursor, u64),
     Missing,
 }
@@ -92,6 +93,17 @@ fn label(table: &[u8], text: &[u8], c: Cursor, d: Cursor, lost: usize) -> Labels
     }
 }
 
+// 02: `?` or `!`, whichever the mark is.
+fn directed_wildcard(table: &[u8], text: &[u8], c: Cursor, mark: u8, wanted: Direction) -> Wildcard
+    requires { ⌜ HoldsTable (now table) ⌝ }
+    ensures { λ r. ⌜ MarkedLabels (now (text .entry)) (c .at) mark (labelsOf (namesIn (now (table .entry))) (Action.directed (directionIn wanted))) r ⌝ }
+{
+    let Match::Past(d) = c.mark(text, mark) else {
+        return Wildcard::Missing;
+    };
+    Wildcard::Past(d, directed_labels(table, wanted))
+}
+
 // 01: "`*` (all labels)"; 02: `?` and `!`.
 fn wildcard_labels(table: &[u8], text: &[u8], c: Cursor) -> Wildcard
     requires { ⌜ ReaderStart (now table) (now text) (c .at) ⌝ }
@@ -100,13 +112,35 @@ fn wildcard_labels(table: &[u8], text: &[u8], c: Cursor) -> Wildcard
     if let Match::Past(d) = c.mark(text, b'*') {
         return Wildcard::Past(d, all_labels(table));
     }
-    if let Match::Past(d) = c.mark(text, b'?') {
-        return Wildcard::Past(d, directed_labels(table, Direction::Received));
+    if let Wildcard::Past(d, m) = directed_wildcard(table, text, c, b'?', Direction::Received) {
+        return Wildcard::Past(d, m);
     }
-    if let Match::Past(d) = c.mark(text, b'!') {
-        return Wildcard::Past(d, directed_labels(table, Direction::Sent));
+    directed_wildcard(table, text, c, b'!', Direction::Sent)
+}
+
+// An operand that begins with neither `~` nor `(`.
+fn bare_operand(table: &[u8], text: &[u8], c: Cursor, lost: usize) -> Labels
+    requires { ⌜ ReaderStart (now table) (now text) (c .at) × NoOpening (now text) (c .at) ⌝ }
+    ensures { λ r. ⌜ OperandAnswer (namesIn (now (table .entry))) (now (text .entry)) (c .at) lost r ⌝ }
+{
+    if let Wildcard::Past(d, m) = wildcard_labels(table, text, c) {
+        return Labels::Read(d, m, lost);
     }
-    Wildcard::Missing
+    if let Match::Past(d) = c.name(text) {
+        return label(table, text, c, d, lost);
+    }
+    Labels::Refused(c)
+}
+
+// All labels but those that were read.
+fn complement(table: &[u8], x: Labels) -> Labels
+    requires { ⌜ HoldsTable (now table) × MaskWithin (labelsOf (namesIn (now table)) Action.any) x ⌝ }
+    ensures { λ r. ⌜ r ≡ complemented (labelsOf (namesIn (now (table .entry))) Action.any) x ⌝ }
+{
+    match x {
+        Labels::Read(e, m, l) => Labels::Read(e, all_labels(table) - m, l),
+        Labels::Refused(e) => Labels::Refused(e),
+    }
 }
 
 // 01: "an operand is a name, `*` (all labels), `~` and an operand, or a set in round brackets"
@@ -114,23 +148,13 @@ fn operand(table: &[u8], text: &[u8], c: Cursor, lost: usize) -> Labels
     requires { ⌜ ReaderStart (now table) (now text) (c .at) ⌝ }
     ensures { λ r. ⌜ OperandAnswer (namesIn (now (table .entry))) (now (text .entry)) (c .at) lost r ⌝ }
 {
-    if let Wildcard::Past(d, m) = wildcard_labels(table, text, c) {
-        return Labels::Read(d, m, lost);
-    }
     if let Match::Past(d) = c.token(text, b'~') {
-        let x = operand(table, text, d, lost);
-        return match x {
-            Labels::Read(e, m, l) => Labels::Read(e, all_labels(table) - m, l),
-            Labels::Refused(e) => Labels::Refused(e),
-        };
+        return complement(table, operand(table, text, d, lost));
     }
     if let Match::Past(d) = c.token(text, b'(') {
         return enclosed(table, text, d, 41, lost);
     }
-    if let Match::Past(d) = c.name(text) {
-        return label(table, text, c, d, lost);
-    }
-    Labels::Refused(c)
+    bare_operand(table, text, c, lost)
 }
 
 // A set, and the mark that ends its bracket.

@@ -36,13 +36,16 @@ joins-before : (N : List (List ℕ)) (f : Disjunction) (a b : ℕ) (t : Term) �
 joins-before N (conjunction c) a b t = refl
 joins-before N (or f g h c) a b t = refl
 
-joins-last : (N : List (List ℕ)) (f : Disjunction) (a b : ℕ) (t : Term) → at-last N (andLast f a b t) ≡ (andBytes ++ (at-last N f ++ notBytes)) ++ bytesOfNodes (formulaT N t)
+joins-last : (N : List (List ℕ)) (f : Disjunction) (a b : ℕ) (t : Term)
+    → at-last N (andLast f a b t) ≡ (andBytes ++ (at-last N f ++ notBytes)) ++ bytesOfNodes (formulaT N t)
 joins-last N (conjunction c) a b t = bytes-and (formulaA N c) (formulaT N t)
 joins-last N (or f g h c) a b t = bytes-and (formulaA N c) (formulaT N t)
 
 joins-names : (f : Disjunction) (a b : ℕ) (t : Term) (r : List ℕ) → namesF (andLast f a b t) r ≡ namesF f (gap a (38 ∷ gap b (showT t r))) ++ namesT t r
 joins-names (conjunction c) a b t r = refl
-joins-names (or f g h c) a b t r = sym (append-assoc (namesF f (gap g (124 ∷ gap h (showA c (gap a (38 ∷ gap b (showT t r))))))) (namesA c (gap a (38 ∷ gap b (showT t r)))) (namesT t r))
+joins-names (or f g h c) a b t r =
+    let rest = gap a (38 ∷ gap b (showT t r)) in
+    sym (append-assoc (namesF f (gap g (124 ∷ gap h (showA c rest)))) (namesA c rest) (namesT t r))
 
 -- `start` is the first node of the last conjunction.
 pub record Awaiting (N : List (List ℕ)) (s : List ℕ) (at n lost : ℕ) (e : List ℕ) (to start k left : ℕ) (x : List ℕ) : Type 0 where
@@ -82,7 +85,8 @@ awaiting-first N s at n lost e h room = record {
   lacks = λ t r q. refl;
 }
 
-module _ {N : List (List ℕ)} {s : List ℕ} {at n lost : ℕ} {e : List ℕ} {d start k left : ℕ} {x : List ℕ} (j : Awaiting N s at n lost e d start k left x) (room : NodeRoom e at n) where
+module _ {N : List (List ℕ)} {s : List ℕ} {at n lost : ℕ} {e : List ℕ} {d start k left : ℕ} {x : List ℕ}
+    (j : Awaiting N s at n lost e d start k left x) (room : NodeRoom e at n) where
   pub await-room : NodeRoom x d k
   await-room = record { below = omega (arith, room .below, j .few); long = j .written .long ∙ room .long }
 
@@ -95,13 +99,14 @@ module _ {N : List (List ℕ)} {s : List ℕ} {at n lost : ℕ} {e : List ℕ} {
 
     joined : Moves s at f (λ r. showF v (gap (f - end) r)) (λ i. termAt (tFirst i)) (λ i. afterDisjunction v i (f - end))
     unfolding v
-    joined = written-as (λ r. j .shows (h .value) (gap (f - end) r)) (then (j .moves) (then (at-only (j .place) (h .moves)) (then (equal (h .moves .within) (j .plugs (h .value)))
-        (skip (λ g i. afterDisjunction (j .value (h .value)) i g) (λ g i. refl) b))))
+    joined = written-as (λ r. j .shows (h .value) (gap (f - end) r)) (then (j .moves) (then (at-only (j .place) (h .moves))
+        (then (equal (h .moves .within) (j .plugs (h .value))) (skip (λ g i. afterDisjunction (j .value (h .value)) i g) (λ g i. refl) b))))
 
     -- The nodes before the last conjunction, and its own.
     parted : NodesWritten n m e y (before-last N v ++ at-last N v)
     unfolding v
-    parted = subst (NodesWritten n m e y) (append-assoc (j .earlier-nodes) (j .nodes) (bytesOfNodes (formulaT N (h .value))) ∙ (λ i. sym (j .before (h .value)) i ++ sym (j .last (h .value)) i))
+    parted = subst (NodesWritten n m e y) (append-assoc (j .earlier-nodes) (j .nodes) (bytesOfNodes (formulaT N (h .value)))
+        ∙ (λ i. sym (j .before (h .value)) i ++ sym (j .last (h .value)) i))
         (written-more (room .long) (j .written) (h .written))
 
     last-starts : 1 + start * nodeSlotLength ≡ 1 + n * nodeSlotLength + length (before-last N v)
@@ -113,7 +118,8 @@ module _ {N : List (List ℕ)} {s : List ℕ} {at n lost : ℕ} {e : List ℕ} {
 
     joined-lacks : l ≡ earlier lost (unknownIn N (length s) (namesF v (gap (f - end) (drop f s))))
     unfolding v
-    joined-lacks = h .lacks ∙ (j .lacks (h .value) (drop end s) (h .moves .text) ∙ ap (λ r. earlier lost (unknownIn N (length s) (namesF (j .value (h .value)) r))) (b .blanks))
+    joined-lacks = h .lacks ∙ (j .lacks (h .value) (drop end s) (h .moves .text)
+        ∙ ap (λ r. earlier lost (unknownIn N (length s) (namesF (j .value (h .value)) r))) (b .blanks))
 
     pub formula-read : (peek s f ≡ 38 → ⊥) → (peek s f ≡ 124 → ⊥) → FormulaRead N s at n lost e end f m l y
     formula-read p q = record {
@@ -133,7 +139,8 @@ module _ {N : List (List ℕ)} {s : List ℕ} {at n lost : ℕ} {e : List ℕ} {
     join-room = h .written .long ∙ j .written .long
 
     pub join-above : (n ≤ m) × (start ≤ m)
-    join-above = (omega (arith, joined-written .ends), omega (arith, j .starts, j .written .ends, h .written .ends, length-append (j .earlier-nodes) (j .nodes)))
+    join-above = (omega (arith, joined-written .ends),
+      omega (arith, j .starts, j .written .ends, h .written .ends, length-append (j .earlier-nodes) (j .nodes)))
 
     module _ {g mark : ℕ} (t : Tokened s f mark g) (short : length s ≤ longestText) where
       pub join-fits : m + 4 ≤ mostCounted
@@ -146,8 +153,10 @@ module _ {N : List (List ℕ)} {s : List ℕ} {at n lost : ℕ} {e : List ℕ} {
     unfolding o
     awaiting-or {g} {z} t q =
         let B = bytesOfNodes (formulaF N v) in
-        let w : Moves s f g (λ r. 124 ∷ gap (o g) r) (λ i. afterDisjunction v i (f - end)) (λ i. termAt (tOr v (f - end) i (o g))) = tokened (λ u i. termAt (tOr v (f - end) i u)) t (omega arith) (λ i. refl) (λ u i. refl) in
-        let c = subst (NodesWritten n (m + 1) e z) (ap (λ r. orBytes ++ r) (append-nil B) ∙ sym (append-nil (orBytes ++ B))) (written-around (room .long) n n m 1 y z [] B orBytes [] joined-written (omega arith) refl q) in
+        let w : Moves s f g (λ r. 124 ∷ gap (o g) r) (λ i. afterDisjunction v i (f - end)) (λ i. termAt (tOr v (f - end) i (o g)))
+              = tokened (λ u i. termAt (tOr v (f - end) i u)) t (omega arith) (λ i. refl) (λ u i. refl) in
+        let c = subst (NodesWritten n (m + 1) e z) (ap (λ r. orBytes ++ r) (append-nil B) ∙ sym (append-nil (orBytes ++ B)))
+              (written-around (room .long) n n m 1 y z [] B orBytes [] joined-written (omega arith) refl q) in
         record {
           place = λ i. tOr v (f - end) i (o g);
           value = λ u. or v (f - end) (o g) (term u);
@@ -173,7 +182,8 @@ module _ {N : List (List ℕ)} {s : List ℕ} {at n lost : ℕ} {e : List ℕ} {
     awaiting-and {g} {z} t q =
         let A = before-last N v in
         let L = at-last N v in
-        let w : Moves s f g (λ r. 38 ∷ gap (o g) r) (λ i. afterDisjunction v i (f - end)) (λ i. termAt (tAnd v (f - end) i (o g))) = tokened (λ u i. termAt (tAnd v (f - end) i u)) t (omega arith) (λ i. refl) (λ u i. refl) in
+        let w : Moves s f g (λ r. 38 ∷ gap (o g) r) (λ i. afterDisjunction v i (f - end)) (λ i. termAt (tAnd v (f - end) i (o g)))
+              = tokened (λ u i. termAt (tAnd v (f - end) i u)) t (omega arith) (λ i. refl) (λ u i. refl) in
         record {
           place = λ i. tAnd v (f - end) i (o g);
           value = andLast v (f - end) (o g);

@@ -15,10 +15,12 @@ use Rattle.actl.specs.Cursor.{peek, Skipped, Moves, Fails, Marked, Tokened}
 use Rattle.actl.specs.Readers.{unknownIn, earlier, headSlots, HeadRead, TermRead, BracketRead, Unbracketed}
 use Rattle.actl.specs.NodeBytes.{bytesOfNodes, mostCounted, NodesWritten, NodeRoom}
 use Rattle.actl.specs.Meaning.{formulaT}
+use Rattle.formula_terms.specs.Prefixes.{PrefixRead}
 use Rattle.formula_terms.specs.TermReplies.{TermAnswer, BracketAnswer}
 use Rattle.formula_terms.specs.declared.Nodes.{Nodes}
 use Rattle.formula_terms.specs.declared.Nodes.the-variants.{Read, Refused}
-use Rattle.formula_cursor.proofs.ReadingMoves.{on-other, then, fail, at-only, fail-only, skip, stops, marked, tokened}
+use Rattle.formula_cursor.proofs.ReadingMoves.{on-other, skipped-token, then, fail, at-only, fail-only, written-as, skip, stops, equal, marked, tokened}
+use Rattle.formula_sets.proofs.ReadingSets.{token-behind}
 use Rattle.actl.proofs.ReadingLabels.{earlier-none, earlier-append}
 use Rattle.actl.proofs.ReadingNodes.{written-more}
 
@@ -51,26 +53,65 @@ module _ (N : List (List ℕ)) (s : List ℕ) (at n lost : ℕ) (e : List ℕ) (
   pub inner-room : {d mark : ℕ} → Tokened s at mark d → NodeRoom e d n
   inner-room t = record { below = omega (arith, room .below, t .skipped .up); long = room .long }
 
-  pub arm-room : {x l : List ℕ} {d k : ℕ} → NodesWritten n k e x l → at < d → k ≤ n + 3 → NodeRoom x d k
-  arm-room p h w = record { below = omega (arith, room .below); long = p .long ∙ room .long }
+  -- `~` before a term.
+  pub prefix-not : {d : ℕ} {x : List ℕ} → Tokened s at 126 d → NodesWritten n (n + 1) e x (slotBytes (slot 2 0 0)) → PrefixRead N s at n lost e d (n + 1) lost x
+  prefix-not {d} t p = record {
+    place = λ i. tNot i (d - (at + 1));
+    value = not (d - (at + 1));
+    plugs = λ v i. refl;
+    text = λ r. 126 ∷ gap (d - (at + 1)) r;
+    shows = λ v r. refl;
+    up = omega (arith, t .skipped .up);
+    few = omega arith;
+    token = token-behind t;
+    moves = tokened (λ g i. termAt (tNot i g)) t (omega arith) (λ i. refl) (λ g i. refl);
+    nodes = slotBytes (slot 2 0 0);
+    written = p;
+    means = λ v. refl;
+    lacks = λ v r q. refl;
+  }
 
-  module _ {d : ℕ} (t : Tokened s at 126 d) {x : List ℕ} (p : NodesWritten n (n + 1) e x (slotBytes (slot 2 0 0))) where
-    negated : Moves s at d (λ r. 126 ∷ gap (d - (at + 1)) r) termAt (λ i. termAt (tNot i (d - (at + 1))))
-    negated = tokened (λ g i. termAt (tNot i g)) t (omega arith) (λ i. refl) (λ g i. refl)
+  -- A keyword with its bracket before one.
+  module _ {a l : ℕ} {slots : List Slot} (h : HeadRead N s at lost a slots l) {d : ℕ} (b : Skipped s a d) where
+    head-lacks : (t : Term) (r : List ℕ) → drop d s ≡ showT t r → l ≡ earlier lost (unknownIn N (length s) (namesH (h .value) (gap (d - a) (showT t r))))
+    head-lacks t r q = h .lacks ∙ ap (λ v. earlier lost (unknownIn N (length s) (namesH (h .value) v))) (b .blanks ∙ ap (gap (d - a)) q)
 
-    not-read : {to m l : ℕ} {y : List ℕ} → TermRead N s d (n + 1) lost x to m l y → TermRead N s at n lost e to m l y
-    not-read h = record {
-      value = not (d - (at + 1)) (h .value);
-      up = omega (arith, h .up, t .skipped .up);
-      few = omega (arith, h .few, t .skipped .up);
-      moves = then negated (at-only (λ i. tNot i (d - (at + 1))) (h .moves));
-      written = written-more (room .long) p (h .written);
-      lacks = h .lacks;
+    pub prefix-head : {m : ℕ} {x : List ℕ} → NodesWritten n m e x (bind slotBytes slots) → m ≤ n + 3 → PrefixRead N s at n lost e d m l x
+    prefix-head p w = record {
+      place = λ i. tModal (h .value) i (d - a);
+      value = modal (h .value) (d - a);
+      plugs = λ t i. refl;
+      text = λ r. showH (h .value) (gap (d - a) r);
+      shows = λ t r. refl;
+      up = omega (arith, h .up, b .up);
+      few = w;
+      token = skipped-token b;
+      moves = then (h .moves) (skip (λ g i. termAt (tModal (h .value) i g)) (λ g i. refl) b);
+      nodes = bind slotBytes slots;
+      written = p;
+      means = λ t. ap (λ v. bind slotBytes v ++ bytesOfNodes (formulaT N t)) (sym (h .means)) ∙ sym (head-bytes N (h .value) (d - a) t);
+      lacks = λ t r q. ap (λ v. earlier v (unknownIn N (length s) (namesT t r))) (head-lacks t r q)
+          ∙ sym (earlier-append N (length s) lost (namesH (h .value) (gap (d - a) (showT t r))) (namesT t r));
     }
 
-    pub term-not : (y : List ℕ) (r : Nodes) → TermAnswer N s d (n + 1) lost x y r → TermAnswer N s at n lost e y r
-    term-not y (Read c m l) h = not-read h
-    term-not y (Refused c) h = fail negated (fail-only (λ i. tNot i (d - (at + 1))) h)
+  -- The term behind it.
+  module _ {d m l : ℕ} {x : List ℕ} (p : PrefixRead N s at n lost e d m l x) where
+    pub behind-room : NodeRoom x d m
+    behind-room = record { below = omega (arith, room .below, p .up, p .few); long = p .written .long ∙ room .long }
+
+    behind-read : {to k left : ℕ} {y : List ℕ} → TermRead N s d m l x to k left y → TermRead N s at n lost e to k left y
+    behind-read {to} {k} {y} t = record {
+      value = p .value (t .value);
+      up = omega (arith, p .up, t .up);
+      few = omega (arith, p .up, p .few, t .few);
+      moves = written-as (p .shows (t .value)) (then (p .moves) (then (at-only (p .place) (t .moves)) (equal (t .moves .within) (p .plugs (t .value)))));
+      written = subst (NodesWritten n k e y) (p .means (t .value)) (written-more (room .long) (p .written) (t .written));
+      lacks = t .lacks ∙ p .lacks (t .value) (drop to s) (t .moves .text);
+    }
+
+    pub term-behind : (y : List ℕ) (r : Nodes) → TermAnswer N s d m l x y r → TermAnswer N s at n lost e y r
+    term-behind y (Read c k left) t = behind-read t
+    term-behind y (Refused c) t = fail (p .moves) (fail-only (p .place) t)
 
   module _ {d : ℕ} (t : Tokened s at 40 d) where
     opened : Moves s at d (λ r. 40 ∷ gap (d - (at + 1)) r) termAt (λ i. termAt (tFirst (fParen i (d - (at + 1)))))
@@ -80,7 +121,8 @@ module _ (N : List (List ℕ)) (s : List ℕ) (at n lost : ℕ) (e : List ℕ) (
     paren-read {to} h =
         let c = h .contents in
         let b = h .behind - h .end in
-        let v : Moves s (h .behind) to (λ r. 41 ∷ r) (λ i. afterDisjunction (c .value) (fParen i (d - (at + 1))) b) (plugT (paren (d - (at + 1)) (c .value) b)) = marked (h .shut) (omega arith) (λ i. refl) in
+        let v : Moves s (h .behind) to (λ r. 41 ∷ r) (λ i. afterDisjunction (c .value) (fParen i (d - (at + 1))) b) (plugT (paren (d - (at + 1)) (c .value) b))
+              = marked (h .shut) (omega arith) (λ i. refl) in
         record {
           value = paren (d - (at + 1)) (c .value) b;
           up = omega (arith, c .up, c .blanks, t .skipped .up, v .up);
@@ -94,32 +136,10 @@ module _ (N : List (List ℕ)) (s : List ℕ) (at n lost : ℕ) (e : List ℕ) (
     unclosed {to} h =
         let c = h .contents in
         fail (then opened (at-only (λ i. fParen i (d - (at + 1))) (c .moves))) (stops (c .token .within) (λ i. refl)
-        (λ i. on-other (peek s to) 32 _ _ (c .token .past) ∙ (on-other (peek s to) 38 _ _ (c .no-and) ∙ (on-other (peek s to) 124 _ _ (c .no-or) ∙ on-other (peek s to) 41 _ _ (h .other)))))
+        (λ i. on-other (peek s to) 32 _ _ (c .token .past) ∙ (on-other (peek s to) 38 _ _ (c .no-and)
+        ∙ (on-other (peek s to) 124 _ _ (c .no-or) ∙ on-other (peek s to) 41 _ _ (h .other)))))
 
     pub term-paren : (y : List ℕ) (r : Nodes) → BracketAnswer N s d n lost e y r → TermAnswer N s at n lost e y r
     term-paren y (Read c m l) h = paren-read h
     term-paren y (Refused c) (inl h) = fail opened (fail-only (λ i. fParen i (d - (at + 1))) h)
     term-paren y (Refused c) (inr h) = unclosed h
-
-  module _ {a l : ℕ} {slots : List Slot} (h : HeadRead N s at lost a slots l) {d : ℕ} (b : Skipped s a d) where
-    headed : Moves s at d (λ r. showH (h .value) (gap (d - a) r)) termAt (λ i. termAt (tModal (h .value) i (d - a)))
-    headed = then (h .moves) (skip (λ g i. termAt (tModal (h .value) i g)) (λ g i. refl) b)
-
-    pub head-up : at < d
-    head-up = omega (arith, h .up, b .up)
-
-    module _ {n′ : ℕ} {x : List ℕ} (p : NodesWritten n n′ e x (bind slotBytes slots)) (w : n′ ≤ n + 3) where
-      modal-read : {to m k : ℕ} {y : List ℕ} → TermRead N s d n′ l x to m k y → TermRead N s at n lost e to m k y
-      modal-read {to} {m} {y} t = record {
-        value = modal (h .value) (d - a) (t .value);
-        up = omega (arith, h .up, b .up, t .up);
-        few = omega (arith, h .up, b .up, t .few);
-        moves = then headed (at-only (λ i. tModal (h .value) i (d - a)) (t .moves));
-        written = subst (NodesWritten n m e y) (ap (λ v. bind slotBytes v ++ bytesOfNodes (formulaT N (t .value))) (sym (h .means)) ∙ sym (head-bytes N (h .value) (d - a) (t .value))) (written-more (room .long) p (t .written));
-        lacks = t .lacks ∙ (ap (λ v. earlier v (unknownIn N (length s) (namesT (t .value) (drop to s)))) (h .lacks ∙ ap (λ r. earlier lost (unknownIn N (length s) (namesH (h .value) r))) (b .blanks ∙ ap (gap (d - a)) (t .moves .text)))
-            ∙ sym (earlier-append N (length s) lost (namesH (h .value) (gap (d - a) (showT (t .value) (drop to s)))) (namesT (t .value) (drop to s))));
-      }
-
-      pub term-modal : (y : List ℕ) (r : Nodes) → TermAnswer N s d n′ l x y r → TermAnswer N s at n lost e y r
-      term-modal y (Read c m k) t = modal-read t
-      term-modal y (Refused c) t = fail headed (fail-only (λ i. tModal (h .value) i (d - a)) t)

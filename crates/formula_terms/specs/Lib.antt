@@ -1,1 +1,2 @@
+pub mod Prefixes
 pub mod TermReplies

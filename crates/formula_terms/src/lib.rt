@@ -6,9 +6,11 @@ ghost use Prim.Native.Nat.{_≤_};
 ghost use lib.ListN.{length};
 ghost use Rattle.actl.specs.Sizes.{longestText, formulaLength};
 ghost use Rattle.lts.specs.HoldsTable.{HoldsTable};
-ghost use Rattle.actl.specs.Readers.{namesIn, ReaderStart};
+ghost use Rattle.actl.specs.Cursor.{peek};
+ghost use Rattle.actl.specs.Readers.{namesIn, ReaderStart, NoMark};
 ghost use Rattle.actl.specs.NodeBytes.{NodeRoom};
 ghost use Rattle.formula_terms.specs.TermReplies.{TermAnswer, BracketAnswer, FormulaAnswer, ReadingAnswer};
+ghost use Rattle.formula_terms.specs.Prefixes.{PrefixAnswer, NoAtom};
 use formula_cursor::Cursor;
 use formula_cursor::Match;
 use formula_heads::Heading;
@@ -19,14 +21,17 @@ use formula_nodes::put;
 use formula_nodes::put_dual;
 use formulas::node::Node;
 
-// A term, and how many nodes there are behind it.
-pub enum Nodes {
+// The bytes of a prepared formula, with a slot for each node.
+type Slots = [u8; FORMULA_LENGTH];
+
+// The end of a term, or of what stands before one, and how many nodes there are behind it.
+enum Nodes {
     Read(Cursor, usize, usize),
     Refused(Cursor),
 }
 
 // A formula's end, the end of the blanks behind it, and how many nodes there are.
-pub enum Chain {
+enum Chain {
     Read(Cursor, Cursor, usize, usize),
     Refused(Cursor),
 }
@@ -37,54 +42,67 @@ pub enum Reading {
     Refused(usize),
 }
 
-// 01: "A term is `T`, `~` and a term, a keyword with its square bracket and a term, or a formula in round brackets."
-fn term(
-    table: &[u8],
-    text: &[u8],
-    nodes: &mut [u8; FORMULA_LENGTH],
-    c: Cursor,
-    n: usize,
-    lost: usize,
-) -> Nodes
-    requires { ⌜ ReaderStart (now table) (now text) (c .at) × NodeRoom (now nodes) (c .at) n ⌝ }
+// A keyword with its square bracket, the blanks behind it, and its nodes.
+fn keyword(table: &[u8], text: &[u8], nodes: &mut Slots, c: Cursor, n: usize, lost: usize) -> Nodes
+    requires { ⌜ ReaderStart (now table) (now text) (c .at) × NodeRoom (now nodes) (c .at) n × NoMark (now text) (c .at) ⌝ }
+    ensures { λ r. ⌜ PrefixAnswer (namesIn (now (table .entry))) (now (text .entry)) (c .at) n lost (now (nodes .entry)) (now (nodes .exit)) r ⌝ }
+{
+    let x = head(table, text, c, lost);
+    match x {
+        Heading::Refused(e) => Nodes::Refused(e),
+        Heading::Read(e, node, l) => {
+            put(nodes, n, node);
+            Nodes::Read(e.skip_blanks(text), n + 1, l)
+        }
+        Heading::Dual(e, node, l) => {
+            put_dual(nodes, n, node);
+            Nodes::Read(e.skip_blanks(text), n + 3, l)
+        }
+    }
+}
+
+// What stands before a term: `~`, or a keyword with its square bracket.
+fn prefix(table: &[u8], text: &[u8], nodes: &mut Slots, c: Cursor, n: usize, lost: usize) -> Nodes
+    requires { ⌜ ReaderStart (now table) (now text) (c .at) × NodeRoom (now nodes) (c .at) n × NoAtom (now text) (c .at) ⌝ }
+    ensures { λ r. ⌜ PrefixAnswer (namesIn (now (table .entry))) (now (text .entry)) (c .at) n lost (now (nodes .entry)) (now (nodes .exit)) r ⌝ }
+{
+    if let Match::Past(d) = c.token(text, b'~') {
+        put(nodes, n, Node::Not);
+        return Nodes::Read(d, n + 1, lost);
+    }
+    keyword(table, text, nodes, c, n, lost)
+}
+
+// A term that is not in round brackets.
+fn bare(table: &[u8], text: &[u8], nodes: &mut Slots, c: Cursor, n: usize, lost: usize) -> Nodes
+    requires { ⌜ ReaderStart (now table) (now text) (c .at) × NodeRoom (now nodes) (c .at) n × (peek (now text) (c .at) ≡ 40 → ⊥) ⌝ }
     ensures { λ r. ⌜ TermAnswer (namesIn (now (table .entry))) (now (text .entry)) (c .at) n lost (now (nodes .entry)) (now (nodes .exit)) r ⌝ }
 {
     if let Match::Past(d) = c.mark(text, b'T') {
         put(nodes, n, Node::True);
         return Nodes::Read(d, n + 1, lost);
     }
-    if let Match::Past(d) = c.token(text, b'~') {
-        put(nodes, n, Node::Not);
-        return term(table, text, nodes, d, n + 1, lost);
-    }
-    if let Match::Past(d) = c.token(text, b'(') {
-        return bracket(table, text, nodes, d, n, lost);
-    }
-    let x = head(table, text, c, lost);
+    let x = prefix(table, text, nodes, c, n, lost);
     match x {
-        Heading::Refused(e) => Nodes::Refused(e),
-        Heading::Read(e, node, l) => {
-            let f = e.skip_blanks(text);
-            put(nodes, n, node);
-            term(table, text, nodes, f, n + 1, l)
-        }
-        Heading::Dual(e, node, l) => {
-            let f = e.skip_blanks(text);
-            put_dual(nodes, n, node);
-            term(table, text, nodes, f, n + 3, l)
-        }
+        Nodes::Refused(e) => Nodes::Refused(e),
+        Nodes::Read(d, m, l) => term(table, text, nodes, d, m, l),
     }
 }
 
+// 01: "A term is `T`, `~` and a term, a keyword with its square bracket and a term, or a formula in round brackets."
+// Of brackets in brackets each takes no frame of the other terms.
+fn term(table: &[u8], text: &[u8], nodes: &mut Slots, c: Cursor, n: usize, lost: usize) -> Nodes
+    requires { ⌜ ReaderStart (now table) (now text) (c .at) × NodeRoom (now nodes) (c .at) n ⌝ }
+    ensures { λ r. ⌜ TermAnswer (namesIn (now (table .entry))) (now (text .entry)) (c .at) n lost (now (nodes .entry)) (now (nodes .exit)) r ⌝ }
+{
+    if let Match::Past(d) = c.token(text, b'(') {
+        return bracket(table, text, nodes, d, n, lost);
+    }
+    bare(table, text, nodes, c, n, lost)
+}
+
 // 01: "A bracket holds a whole formula again." From behind `(` to behind `)`.
-fn bracket(
-    table: &[u8],
-    text: &[u8],
-    nodes: &mut [u8; FORMULA_LENGTH],
-    c: Cursor,
-    n: usize,
-    lost: usize,
-) -> Nodes
+fn bracket(table: &[u8], text: &[u8], nodes: &mut Slots, c: Cursor, n: usize, lost: usize) -> Nodes
     requires { ⌜ ReaderStart (now table) (now text) (c .at) × NodeRoom (now nodes) (c .at) n ⌝ }
     ensures { λ r. ⌜ BracketAnswer (namesIn (now (table .entry))) (now (text .entry)) (c .at) n lost (now (nodes .entry)) (now (nodes .exit)) r ⌝ }
 {
@@ -100,34 +118,9 @@ fn bracket(
     }
 }
 
-// A term of a formula. Of brackets in brackets each takes no frame of `term`.
-fn part(
-    table: &[u8],
-    text: &[u8],
-    nodes: &mut [u8; FORMULA_LENGTH],
-    c: Cursor,
-    n: usize,
-    lost: usize,
-) -> Nodes
-    requires { ⌜ ReaderStart (now table) (now text) (c .at) × NodeRoom (now nodes) (c .at) n ⌝ }
-    ensures { λ r. ⌜ TermAnswer (namesIn (now (table .entry))) (now (text .entry)) (c .at) n lost (now (nodes .entry)) (now (nodes .exit)) r ⌝ }
-{
-    if let Match::Past(d) = c.token(text, b'(') {
-        return bracket(table, text, nodes, d, n, lost);
-    }
-    term(table, text, nodes, c, n, lost)
-}
-
 // 01: "A formula is one or more terms joined by `|`, grouped from the left." 02: "`&` binds tighter than `|`; both group from the left": `&` joins
 // what stands from the first node of the last conjunction on, `|` all from the formula's. It is read with the blanks behind it.
-fn formula(
-    table: &[u8],
-    text: &[u8],
-    nodes: &mut [u8; FORMULA_LENGTH],
-    c: Cursor,
-    n: usize,
-    lost: usize,
-) -> Chain
+fn formula(table: &[u8], text: &[u8], nodes: &mut Slots, c: Cursor, n: usize, lost: usize) -> Chain
     requires { ⌜ ReaderStart (now table) (now text) (c .at) × NodeRoom (now nodes) (c .at) n ⌝ }
     ensures { λ r. ⌜ FormulaAnswer (namesIn (now (table .entry))) (now (text .entry)) (c .at) n lost (now (nodes .entry)) (now (nodes .exit)) r ⌝ }
 {
@@ -136,7 +129,7 @@ fn formula(
     let mut k = n;
     let mut lacks = lost;
     loop {
-        let x = part(table, text, nodes, d, k, lacks);
+        let x = term(table, text, nodes, d, k, lacks);
         match x {
             Nodes::Refused(e) => {
                 return Chain::Refused(e);

@@ -21,8 +21,12 @@ shl-result : tie.Need-shl-result
 shl-result c = let start = c .before .before .before .before in omega (arith, start .pre .1, start .pre .0 .in-range .few-labels)
 
 -- The test, of the label's direction.
-tested : (c : tie.After-same-direction) → c .same-direction .result ≡ sameDirection (labelDirection (namesIn (c .before .before .before .args .table .now)) (suc (c .before .before .before .args .k))) (directionIn (c .before .before .before .args .wanted))
-tested c = c .same-direction .ensures ∙ ap (λ d. sameDirection d (directionIn (c .before .before .before .args .wanted))) (c .before .label-direction .ensures)
+module _ (c : tie.After-same-direction) where
+  abbrev start : tie.Start
+  start = c .before .before .before
+
+  tested : c .same-direction .result ≡ sameDirection (labelDirection (namesIn (start .args .table .now)) (suc (start .args .k))) (directionIn (start .args .wanted))
+  tested = c .same-direction .ensures ∙ ap (λ d. sameDirection d (directionIn (start .args .wanted))) (c .before .label-direction .ensures)
 
 returns : tie.Need-returns
 returns c =

@@ -1,10 +1,10 @@
 -- `directed_labels` has the bits of the labels of a direction: the invariant is their mask so far.
 use borrow.Author.Needs.{needs}
 use mathlib.Core.Path.{_≡_, ap, ap₂, _∙_}
-use Prim.Native.Nat.{suc, _+_, _-_, _≤_}
+use Prim.Native.Nat.{ℕ, suc, _+_, _-_, _≤_}
 use native.Mathlib.Omega.{arith}
 use lib.ListN.{length}
-use Rattle.lts.specs.Directions.{labelDirection}
+use Rattle.lts.specs.Directions.{Direction, labelDirection}
 use Rattle.actl.specs.Actions.{Action, maskOf}
 use Rattle.actl.specs.Readers.{namesIn}
 use Rattle.tables.specs.Access.{directionIn}
@@ -32,19 +32,24 @@ directed-bit-requires c κs =
     (start .pre, omega (arith, c .before .before .label-count .ensures .count, c .loop-test .taken))
 
 -- The mask with the next label.
-mask-so-far : (c : tie.After-directed-bit Inv-loop μ-loop) → c .before .before .loop .mask + c .directed-bit .result
-    ≡ maskOf (labelDirection (namesIn (c .before .before .before .before .before .args .table .now))) (suc (c .before .before .loop .k)) (Action.directed (directionIn (c .before .before .before .before .before .args .wanted)))
-mask-so-far c =
-    let a = c .before .before .before .before .before .args in
-    ap₂ _+_ (c .before .before .loop .inv .1) (c .directed-bit .ensures) ∙ mask-more (labelDirection (namesIn (a .table .now))) (c .before .before .loop .k) (Action.directed (directionIn (a .wanted)))
+module _ (c : tie.After-directed-bit Inv-loop μ-loop) where
+  abbrev start : tie.Start Inv-loop μ-loop
+  start = c .before .before .before .before .before
+
+  abbrev directions : ℕ → Direction
+  directions = labelDirection (namesIn (start .args .table .now))
+
+  abbrev wanted : Action
+  wanted = Action.directed (directionIn (start .args .wanted))
+
+  mask-so-far : c .before .before .loop .mask + c .directed-bit .result ≡ maskOf directions (suc (c .before .before .loop .k)) wanted
+  mask-so-far = ap₂ _+_ (c .before .before .loop .inv .1) (c .directed-bit .ensures) ∙ mask-more directions (c .before .before .loop .k) wanted
 
 add-mask : tie.Need-add-mask Inv-loop μ-loop
 add-mask c =
-    let start = c .before .before .before .before .before in
-    let a = start .args in
     let count = c .before .before .before .label-count .ensures .count in
-    let small = mask-small (labelDirection (namesIn (a .table .now))) (suc (c .before .before .loop .k)) (Action.directed (directionIn (a .wanted)))
-    (omega (arith, count, c .before .loop-test .taken, start .pre .in-range .few-labels)) in
+    let few = start c .pre .in-range .few-labels in
+    let small = mask-small (directions c) (suc (c .before .before .loop .k)) (wanted c) (omega (arith, count, c .before .loop-test .taken, few)) in
     record { fits = omega (arith, mask-so-far c, small) }
 
 add-k : tie.Need-add-k Inv-loop μ-loop
@@ -56,8 +61,7 @@ loop-less c = omega arith
 loop-again : tie.Need-loop-again Inv-loop μ-loop
 loop-again c =
     let next : suc (c .before .before .loop .k) ≡ c .before .before .loop .k + 1 = omega arith in
-    let a = c .before .before .before .before .before .args in
-    (omega (arith, c .before .loop-test .taken), mask-so-far c ∙ ap (λ n. maskOf (labelDirection (namesIn (a .table .now))) n (Action.directed (directionIn (a .wanted)))) next)
+    (omega (arith, c .before .loop-test .taken), mask-so-far c ∙ ap (λ n. maskOf (directions c) n (wanted c)) next)
 
 returns : tie.Need-returns Inv-loop μ-loop
 returns c =

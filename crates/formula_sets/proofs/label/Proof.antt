@@ -1,51 +1,41 @@
 -- `label` gives a name the bit of its label, and no bit where the table lacks it.
 use borrow.Author.Needs.{needs}
-use mathlib.Core.Path.{sym, ap, _∙_, subst}
+use mathlib.Core.Path.{_≡_, sym, ap, _∙_, subst}
+use mathlib.Core.Option.{some}
+use Prim.Native.Nat.{ℕ, _-_, _≤_}
 use native.Mathlib.Omega.{arith}
+use lib.ListN.{take, drop}
+use Rattle.lts.specs.Names.{lookup}
 use Rattle.tables.specs.Access.{foundIn}
 use Rattle.actl.specs.Readers.{OperandRead, namesIn}
 use Rattle.actl.proofs.ReadingLabels.{found-range, shifted-one, label-known, label-unknown}
 use Rattle.formula_sets.proofs.label.Statement.{statement}
 use Rattle.formula_sets.proofs.label.Tie as tie
 
-sub-find-label : tie.Need-sub-find-label
-sub-find-label c = search needs
+-- The table has the name.
+module _ (c : tie.After-x) where
+  abbrev start : tie.Start
+  start = c .before .before .before .before .before .before
 
-part-find-label-start : tie.Need-part-find-label-start
-part-find-label-start c = search needs
+  abbrev number : ℕ
+  number = c .x .given .0 .0
 
-part-find-label-end : tie.Need-part-find-label-end
-part-find-label-end c = search needs
+  found : some number ≡ lookup (namesIn (start .args .table .now)) (take (start .args .d .at - start .args .c .at) (drop (start .args .c .at) (start .args .text .now)))
+  found = ap foundIn (sym (c .x .given .1)) ∙ c .before .before .find-label .ensures
 
-find-label-requires : tie.Need-find-label-requires
-find-label-requires c κs = search needs
-
-enum-known-x : tie.Need-enum-known-x
-enum-known-x c = search needs
+  number-small : number ≤ 40
+  number-small = omega (arith, found-range _ _ number found .1, start .pre .0 .table .in-range .few-labels)
 
 shl-t16 : tie.Need-shl-t16
-shl-t16 c =
-    let f = ap foundIn (sym (c .before .x .given .1)) ∙ c .before .before .before .find-label .ensures in
-    let r = found-range _ _ (c .before .x .given .0 .0) f in
-    omega (arith, r .1, c .before .before .before .before .before .before .before .pre .0 .table .in-range .few-labels)
-
-enum-told : tie.Need-enum-told
-enum-told c = search needs
-
-earlier-of-requires : tie.Need-earlier-of-requires
-earlier-of-requires c κs = search needs
+shl-t16 c = omega (arith, number-small (c .before))
 
 returns : tie.Need-returns
 returns c =
-    let f = ap foundIn (sym (c .before .x .given .1)) ∙ c .before .before .before .find-label .ensures in
-    let r = found-range _ _ (c .before .x .given .0 .0) f in
-    let start = c .before .before .before .before .before .before .before in
-    let a = start .args in
-    let p = start .pre in
-    let n = c .before .x .given .0 .0 in
+    let x = c .before in
+    let a = start x .args in
     subst (λ m. OperandRead (namesIn (a .table .now)) (a .text .now) (a .c .at) (a .lost) (a .d .at) m (a .lost))
-    (sym (shifted-one n (omega (arith, r .1, p .0 .table .in-range .few-labels))))
-    (label-known (namesIn (a .table .now)) (a .text .now) (a .c .at) (a .lost) (a .d .at) (p .1) n f)
+    (sym (shifted-one (number x) (number-small x)))
+    (label-known (namesIn (a .table .now)) (a .text .now) (a .c .at) (a .lost) (a .d .at) (start x .pre .1) (number x) (found x))
 
 returns-2 : tie.Need-returns-2
 returns-2 c =
@@ -58,5 +48,5 @@ returns-2 c =
 pub label-spec : {M : Type 1} → statement M
 label-spec =
     tie.close
-    (tie.spec sub-find-label part-find-label-start part-find-label-end find-label-requires enum-known-x shl-t16 enum-told
-        earlier-of-requires returns returns-2)
+    (tie.spec (λ c. search needs) (λ c. search needs) (λ c. search needs) (λ c κs. search needs) (λ c. search needs) shl-t16
+        (λ c. search needs) (λ c κs. search needs) returns returns-2)

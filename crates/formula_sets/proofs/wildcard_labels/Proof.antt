@@ -1,81 +1,65 @@
 -- `wildcard_labels` reads `*`, `?` or `!`, or none of them stands at the cursor.
 use borrow.Author.Needs.{needs}
-use mathlib.Core.Path.{subst}
-use Rattle.formula_cursor.specs.CursorReplies.{MarkAnswer}
+use mathlib.Core.Path.{_≡_, subst}
+use mathlib.Core.List.{List}
+use Prim.Native.Nat.{ℕ}
+use Rattle.lts.specs.Directions.{Direction}
+use Rattle.actl.specs.Actions.{Action}
+use Rattle.actl.specs.Cursor.{peek}
+use Rattle.actl.specs.Meaning.{labelsOf}
 use Rattle.actl.specs.Readers.{namesIn}
-use Rattle.formula_sets.proofs.ReadingSets.{operand-any, operand-received, operand-sent}
+use Rattle.formula_cursor.specs.CursorReplies.{MarkAnswer}
+use Rattle.formula_sets.specs.OperandPhases.{MarkedLabels}
+use Rattle.formula_sets.specs.declared.Wildcard.{Wildcard}
+use Rattle.formula_sets.proofs.ReadingSets.{operand-any, operand-received, sent-says}
 use Rattle.formula_sets.proofs.wildcard_labels.Statement.{statement}
 use Rattle.formula_sets.proofs.wildcard_labels.Tie as tie
 
-mark-requires : tie.Need-mark-requires
-mark-requires c κs = search needs
+-- No `*` stands at the cursor.
+module _ (c : tie.After-enum-told) where
+  abbrev entry : tie.Start
+  entry = c .before .before .before .before .before
 
-enum-known-d : tie.Need-enum-known-d
-enum-known-d c = search needs
+  no-star : peek (entry .args .text .now) (entry .args .c .at) ≡ 42 → ⊥
+  no-star = subst (MarkAnswer (entry .args .text .now) (entry .args .c .at) 42) (c .enum-told .given .1) (c .before .before .mark .ensures)
 
-all-labels-requires : tie.Need-all-labels-requires
-all-labels-requires c κs = search needs
+-- What `?` is read as.
+module _ (c : tie.After-directed-wildcard) where
+  abbrev no-star-here : tie.After-enum-told
+  no-star-here = c .before
+
+  abbrev names : List (List ℕ)
+  names = namesIn (entry no-star-here .args .table .now)
+
+  abbrev text : List ℕ
+  text = entry no-star-here .args .text .now
+
+  abbrev at : ℕ
+  at = entry no-star-here .args .c .at
+
+  abbrev Received : Wildcard → Type 0
+  Received = MarkedLabels text at 63 (labelsOf names (Action.directed Direction.received))
 
 returns : tie.Need-returns
 returns c =
     let a = c .before .before .before .before .before .before .before .args in
-    let s = a .text .now in
-    let at = a .c .at in
-    λ lost. operand-any (namesIn (a .table .now)) s at lost (subst (MarkAnswer s at 42) (c .before .before .d .given .1) (c .before .before .before .before .mark .ensures)) (c .all-labels .ensures)
-
-enum-told : tie.Need-enum-told
-enum-told c = search needs
-
-mark-requires-2 : tie.Need-mark-requires-2
-mark-requires-2 c κs = search needs
-
-enum-known-d-2 : tie.Need-enum-known-d-2
-enum-known-d-2 c = search needs
-
-directed-labels-requires : tie.Need-directed-labels-requires
-directed-labels-requires c κs = search needs
+    let star = subst (MarkAnswer (a .text .now) (a .c .at) 42) (c .before .before .d .given .1) (c .before .before .before .before .mark .ensures) in
+    λ lost. operand-any (namesIn (a .table .now)) (a .text .now) (a .c .at) lost star (c .all-labels .ensures)
 
 returns-2 : tie.Need-returns-2
 returns-2 c =
-    let a = c .before .before .before .before .before .before .before .before .before .before .args in
-    let s = a .text .now in
-    let at = a .c .at in
-    λ lost. operand-received (namesIn (a .table .now)) s at lost (subst (MarkAnswer s at 63) (c .before .before .d2 .given .1) (c .before .before .before .before .mark2 .ensures)) (c .directed-labels .ensures)
-
-enum-told-2 : tie.Need-enum-told-2
-enum-told-2 c = search needs
-
-mark-requires-3 : tie.Need-mark-requires-3
-mark-requires-3 c κs = search needs
-
-enum-known-d-3 : tie.Need-enum-known-d-3
-enum-known-d-3 c = search needs
-
-directed-labels-requires-2 : tie.Need-directed-labels-requires-2
-directed-labels-requires-2 c κs = search needs
+    let w : tie.After-directed-wildcard = c .before .before .before in
+    let h = subst (Received w) (c .before .d2 .given .1) (w .directed-wildcard .ensures) in
+    λ lost. operand-received (names w) (text w) (at w) lost (h .0) (h .1)
 
 returns-3 : tie.Need-returns-3
 returns-3 c =
-    let a = c .before .before .before .before .before .before .before .before .before .before .before .before .before .args in
-    let s = a .text .now in
-    let at = a .c .at in
-    λ lost. operand-sent (namesIn (a .table .now)) s at lost (subst (MarkAnswer s at 33) (c .before .before .d3 .given .1) (c .before .before .before .before .mark3 .ensures)) (c .directed-labels2 .ensures)
-
-enum-told-3 : tie.Need-enum-told-3
-enum-told-3 c = search needs
-
-returns-4 : tie.Need-returns-4
-returns-4 c =
-    let a = c .before .before .before .before .before .before .before .before .before .before .before .args in
-    let s = a .text .now in
-    let at = a .c .at in (
-      subst (MarkAnswer s at 42) (c .before .before .before .before .before .before .enum-told .given .1) (c .before .before .before .before .before .before .before .before .mark .ensures),
-      subst (MarkAnswer s at 63) (c .before .before .before .enum-told2 .given .1) (c .before .before .before .before .before .mark2 .ensures),
-      subst (MarkAnswer s at 33) (c .enum-told3 .given .1) (c .before .before .mark3 .ensures),
-    )
+    let w : tie.After-directed-wildcard = c .before .before .before in
+    sent-says (names w) (text w) (at w) (c .directed-wildcard2 .result) (c .directed-wildcard2 .ensures) (no-star (no-star-here w))
+    (subst (Received w) (c .before .enum-told2 .given .1) (w .directed-wildcard .ensures))
 
 pub wildcard-labels-spec : {M : Type 1} → statement M
 wildcard-labels-spec =
     tie.close
-    (tie.spec mark-requires enum-known-d all-labels-requires returns enum-told mark-requires-2 enum-known-d-2 directed-labels-requires
-        returns-2 enum-told-2 mark-requires-3 enum-known-d-3 directed-labels-requires-2 returns-3 enum-told-3 returns-4)
+    (tie.spec (λ c κs. search needs) (λ c. search needs) (λ c κs. search needs) returns (λ c. search needs) (λ c κs. search needs)
+        (λ c. search needs) returns-2 (λ c. search needs) (λ c κs. search needs) returns-3)

@@ -1,143 +1,106 @@
--- What `operand` shows at each of its places.
+-- `operand` reads `~` and an operand, a set in round brackets, or an operand with neither before it.
 use Rattle.formula_sets.proofs.operand.Reads as operand
+use Rattle.formula_sets.proofs.operand.Kinds as operand-kinds
 use Rattle.formula_sets.proofs.+enclosed+operand+set.Lts-operand as operand-lts
-use mathlib.Core.Path.{subst}
+use Rattle.formula_sets.proofs.enclosed.Reads as enclosed
+use Rattle.formula_sets.proofs.enclosed.Kinds as enclosed-kinds
+use Rattle.formula_sets.proofs.bare_operand.Reads as bare-operand-reads
+use Rattle.formula_sets.proofs.complement.Reads as complement-reads
+use Rattle.formula_cursor.proofs.Cursor.token.Reads as token-reads
+use mathlib.Core.Path.{sym, subst}
+use mathlib.Core.List.{List}
 use Prim.Native.Nat.{ℕ}
 use native.Mathlib.Omega.{arith}
 use borrow.Author.Needs.{needs}
-use Rattle.formula_cursor.specs.CursorReplies.{TokenAnswer, NameAnswer}
+use borrow.Fn.Kinds.{In}
+use Rattle.actl.specs.Cursor.{Tokened}
 use Rattle.actl.specs.Readers.{namesIn}
-use Rattle.formula_sets.specs.SetReplies.{WildcardAnswer, OperandAnswer}
-use Rattle.formula_sets.proofs.ReadingSets.{token-behind, operand-stops, except-within, operand-except, except-fails, group-says}
-use Rattle.formula_sets.proofs.+enclosed+operand+set.Proof.Measures.{operand-at, operand-claims}
+use Rattle.formula_cursor.specs.CursorReplies.{TokenAnswer}
+use Rattle.formula_sets.specs.SetReplies.{OperandAnswer}
+use Rattle.formula_sets.proofs.ReaderCycles.{entered, called, token-falls, start-behind}
+use Rattle.formula_sets.proofs.ReadingSets.{except-within, except-says, group-says}
+use Rattle.formula_sets.proofs.+enclosed+operand+set.Proof.Measures.{μ-enclosed, μ-operand}
 
-pub operand-wildcard-labels-requires : (t : ℕ) → operand-lts.Need-wildcard-labels-requires (operand-claims t) (operand-at t) operand.Post
-operand-wildcard-labels-requires t c κs = c .before .before .pre .1
+module _ (t : ℕ) where
+  abbrev claims : operand-lts.Claims
+  claims = (token-reads.Asked, token-reads.Learnt, called 2 operand-kinds.ps μ-operand operand.Pre t, operand.Post, complement-reads.Asked, complement-reads.Learnt,
+    called 2 enclosed-kinds.ps μ-enclosed enclosed.Pre t, enclosed.Post, bare-operand-reads.Asked, bare-operand-reads.Learnt)
 
-pub operand-enum-known-d : (t : ℕ) → operand-lts.Need-enum-known-d (operand-claims t) (operand-at t) operand.Post
-operand-enum-known-d t c = search needs
+  abbrev entry : In 2 operand-kinds.ps
+  entry = entered 2 operand-kinds.ps μ-operand operand.Pre t
 
-pub operand-returns : (t : ℕ) → operand-lts.Need-returns (operand-claims t) (operand-at t) operand.Post
-operand-returns t c =
-    let a = c .before .before .before .before .before .before .args in
-    subst (WildcardAnswer (namesIn (a .table .now)) (a .text .now) (a .c .at)) (c .before .d .given .1) (c .before .before .before .wildcard-labels .ensures) (a .lost)
+  abbrev Start : Type 0
+  Start = operand-lts.Start claims entry operand.Post
 
-pub operand-enum-told : (t : ℕ) → operand-lts.Need-enum-told (operand-claims t) (operand-at t) operand.Post
-operand-enum-told t c = search needs
+  module _ (e : Start) where
+    abbrev names : List (List ℕ)
+    names = namesIn (e .args .table .now)
 
-pub operand-token-requires : (t : ℕ) → operand-lts.Need-token-requires (operand-claims t) (operand-at t) operand.Post
-operand-token-requires t c κs = tt
+    abbrev text : List ℕ
+    text = e .args .text .now
 
-pub operand-enum-known-d-2 : (t : ℕ) → operand-lts.Need-enum-known-d-2 (operand-claims t) (operand-at t) operand.Post
-operand-enum-known-d-2 t c = search needs
+    abbrev at : ℕ
+    at = e .args .c .at
 
-pub operand-operand-requires : (t : ℕ) → operand-lts.Need-operand-requires (operand-claims t) (operand-at t) operand.Post
-operand-operand-requires t c κs =
-    let a = c .before .before .before .before .before .before .before .before .before .args in
-    let s = a .text .now in
-    let at = a .c .at in
-    let pre = c .before .before .before .before .before .before .before .before .before .pre in
-    let k = subst (TokenAnswer s at 126) (c .before .d2 .given .1) (c .before .before .before .token .ensures) in
-    (omega (arith, pre .0, k .skipped .up, k .skipped .within), record { table = pre .1 .table; short = pre .1 .short; token = token-behind k })
+  -- `~` was read.
+  module _ (c : operand-lts.After-d claims entry operand.Post) where
+    abbrev not-start : Start
+    not-start = c .before .before .before .before .before
 
-pub operand-enum-known-x : (t : ℕ) → operand-lts.Need-enum-known-x (operand-claims t) (operand-at t) operand.Post
-operand-enum-known-x t c = search needs
+    not-token : Tokened (text not-start) (at not-start) 126 (c .d .given .0 .0 .at)
+    not-token = subst (TokenAnswer (text not-start) (at not-start) 126) (c .d .given .1) (c .before .before .token .ensures)
 
-pub operand-all-labels-requires : (t : ℕ) → operand-lts.Need-all-labels-requires (operand-claims t) (operand-at t) operand.Post
-operand-all-labels-requires t c κs = c .before .before .before .before .before .before .before .before .before .before .before .before .before .pre .1 .table
+  -- `(` was read.
+  module _ (c : operand-lts.After-d2 claims entry operand.Post) where
+    abbrev paren-start : Start
+    paren-start = c .before .before .before .before .before .before .before .before
 
-pub operand-sub-t19 : (t : ℕ) → operand-lts.Need-sub-t19 (operand-claims t) (operand-at t) operand.Post
-operand-sub-t19 t c =
-    let a = c .before .before .before .before .before .before .before .before .before .before .before .before .before .before .args in
-    let N = namesIn (a .table .now) in
-    let s = a .text .now in
-    let at = a .c .at in
-    let k = subst (TokenAnswer s at 126) (c .before .before .before .before .before .before .d2 .given .1) (c .before .before .before .before .before .before .before .before .token .ensures) in
-    let o = subst (OperandAnswer N s (c .before .before .before .before .before .before .d2 .given .0 .0 .at) (a .lost)) (c .before .before .x .given .1) (c .before .before .before .before .operand .ensures) in
-    except-within N s at (a .lost) k o (c .all-labels .ensures)
+    paren-token : Tokened (text paren-start) (at paren-start) 40 (c .d2 .given .0 .0 .at)
+    paren-token = subst (TokenAnswer (text paren-start) (at paren-start) 40) (c .d2 .given .1) (c .before .before .token2 .ensures)
 
-pub operand-enum-known-x-2 : (t : ℕ) → operand-lts.Need-enum-known-x-2 (operand-claims t) (operand-at t) operand.Post
-operand-enum-known-x-2 t c = search needs
+  operand-requires : operand-lts.Need-operand-requires claims entry operand.Post
+  operand-requires c κs =
+      let d = c .before in
+      let pre = not-start d .pre in
+      (token-falls (not-token d) 3 0 0 t (pre .0) (omega arith), start-behind (not-token d) (pre .1))
 
-pub operand-returns-2 : (t : ℕ) → operand-lts.Need-returns-2 (operand-claims t) (operand-at t) operand.Post
-operand-returns-2 t c =
-    let a = c .before .before .before .before .before .before .before .before .before .before .before .before .before .before .args in
-    let N = namesIn (a .table .now) in
-    let s = a .text .now in
-    let at = a .c .at in
-    let k = subst (TokenAnswer s at 126) (c .before .before .before .before .before .before .d2 .given .1) (c .before .before .before .before .before .before .before .before .token .ensures) in
-    let o = subst (OperandAnswer N s (c .before .before .before .before .before .before .d2 .given .0 .0 .at) (a .lost)) (c .before .before .x .given .1) (c .before .before .before .before .operand .ensures) in
-    operand-except N s at (a .lost) k o (c .all-labels .ensures)
+  complement-requires : operand-lts.Need-complement-requires claims entry operand.Post
+  complement-requires c κs =
+      let d = c .before .before in
+      let e = not-start d in
+      (e .pre .1 .table, except-within (names e) (text e) (at e) (e .args .lost) (not-token d) (c .operand .result) (c .operand .ensures))
 
-pub operand-returns-3 : (t : ℕ) → operand-lts.Need-returns-3 (operand-claims t) (operand-at t) operand.Post
-operand-returns-3 t c =
-    let a = c .before .before .before .before .before .before .before .before .before .before .before .before .before .args in
-    let N = namesIn (a .table .now) in
-    let s = a .text .now in
-    let at = a .c .at in
-    let k = subst (TokenAnswer s at 126) (c .before .before .before .before .before .d2 .given .1) (c .before .before .before .before .before .before .before .token .ensures) in
-    let o = subst (OperandAnswer N s (c .before .before .before .before .before .d2 .given .0 .0 .at) (a .lost)) (c .before .x2 .given .1) (c .before .before .before .operand .ensures) in
-    except-fails N s at (a .lost) k o
+  returns : operand-lts.Need-returns claims entry operand.Post
+  returns c =
+      let d = c .before .before .before in
+      let e = not-start d in
+      let x = c .before .operand in
+      subst (OperandAnswer (names e) (text e) (at e) (e .args .lost)) (sym (c .complement .ensures))
+      (except-says (names e) (text e) (at e) (e .args .lost) (not-token d) (x .result) (x .ensures))
 
-pub operand-enum-told-2 : (t : ℕ) → operand-lts.Need-enum-told-2 (operand-claims t) (operand-at t) operand.Post
-operand-enum-told-2 t c = search needs
+  enclosed-requires : operand-lts.Need-enclosed-requires claims entry operand.Post
+  enclosed-requires c κs =
+      let d = c .before in
+      let pre = paren-start d .pre in
+      (token-falls (paren-token d) 3 0 2 t (pre .0) (omega arith), start-behind (paren-token d) (pre .1))
 
-pub operand-token-requires-2 : (t : ℕ) → operand-lts.Need-token-requires-2 (operand-claims t) (operand-at t) operand.Post
-operand-token-requires-2 t c κs = tt
+  returns-2 : operand-lts.Need-returns-2 claims entry operand.Post
+  returns-2 c =
+      let d = c .before .before in
+      let e = paren-start d in
+      group-says (names e) (text e) (at e) (e .args .lost) (paren-token d) (c .enclosed .result) (c .enclosed .ensures)
 
-pub operand-enum-known-d-3 : (t : ℕ) → operand-lts.Need-enum-known-d-3 (operand-claims t) (operand-at t) operand.Post
-operand-enum-known-d-3 t c = search needs
+  bare-operand-requires : operand-lts.Need-bare-operand-requires claims entry operand.Post
+  bare-operand-requires c κs =
+      let e : Start = c .before .before .before .before .before .before .before .before in
+      (e .pre .1, record {
+        no-not = subst (TokenAnswer (text e) (at e) 126) (c .before .before .before .enum-told .given .1) (c .before .before .before .before .before .token .ensures);
+        no-paren = subst (TokenAnswer (text e) (at e) 40) (c .enum-told2 .given .1) (c .before .before .token2 .ensures);
+      })
 
-pub operand-enclosed-requires : (t : ℕ) → operand-lts.Need-enclosed-requires (operand-claims t) (operand-at t) operand.Post
-operand-enclosed-requires t c κs =
-    let a = c .before .before .before .before .before .before .before .before .before .before .before .before .args in
-    let s = a .text .now in
-    let at = a .c .at in
-    let pre = c .before .before .before .before .before .before .before .before .before .before .before .before .pre in
-    let k = subst (TokenAnswer s at 40) (c .before .d3 .given .1) (c .before .before .before .token2 .ensures) in
-    (omega (arith, pre .0, k .skipped .up, k .skipped .within), record { table = pre .1 .table; short = pre .1 .short; token = token-behind k })
+  returns-3 : operand-lts.Need-returns-3 claims entry operand.Post
+  returns-3 c = c .bare-operand .ensures
 
-pub operand-returns-4 : (t : ℕ) → operand-lts.Need-returns-4 (operand-claims t) (operand-at t) operand.Post
-operand-returns-4 t c =
-    let a = c .before .before .before .before .before .before .before .before .before .before .before .before .before .args in
-    let N = namesIn (a .table .now) in
-    let s = a .text .now in
-    let at = a .c .at in
-    let k = subst (TokenAnswer s at 40) (c .before .before .d3 .given .1) (c .before .before .before .before .token2 .ensures) in
-    group-says N s at (a .lost) k (c .enclosed .result) (c .enclosed .ensures)
-
-pub operand-enum-told-3 : (t : ℕ) → operand-lts.Need-enum-told-3 (operand-claims t) (operand-at t) operand.Post
-operand-enum-told-3 t c = search needs
-
-pub operand-name-requires : (t : ℕ) → operand-lts.Need-name-requires (operand-claims t) (operand-at t) operand.Post
-operand-name-requires t c κs = search needs
-
-pub operand-enum-known-d-4 : (t : ℕ) → operand-lts.Need-enum-known-d-4 (operand-claims t) (operand-at t) operand.Post
-operand-enum-known-d-4 t c = search needs
-
-pub operand-label-requires : (t : ℕ) → operand-lts.Need-label-requires (operand-claims t) (operand-at t) operand.Post
-operand-label-requires t c κs =
-    let a = c .before .before .before .before .before .before .before .before .before .before .before .before .before .before .before .args in
-    let s = a .text .now in
-    let at = a .c .at in
-    let pre = c .before .before .before .before .before .before .before .before .before .before .before .before .before .before .before .pre in
-    (pre .1, subst (NameAnswer s at) (c .before .d4 .given .1) (c .before .before .before .name .ensures))
-
-pub operand-returns-5 : (t : ℕ) → operand-lts.Need-returns-5 (operand-claims t) (operand-at t) operand.Post
-operand-returns-5 t c = c .label .ensures
-
-pub operand-enum-told-4 : (t : ℕ) → operand-lts.Need-enum-told-4 (operand-claims t) (operand-at t) operand.Post
-operand-enum-told-4 t c = search needs
-
-pub operand-returns-6 : (t : ℕ) → operand-lts.Need-returns-6 (operand-claims t) (operand-at t) operand.Post
-operand-returns-6 t c =
-    let a = c .before .before .before .before .before .before .before .before .before .before .before .before .before .before .args in
-    let N = namesIn (a .table .now) in
-    let s = a .text .now in
-    let at = a .c .at in
-    let pre = c .before .before .before .before .before .before .before .before .before .before .before .before .before .before .pre in
-    operand-stops N s at (a .lost) (pre .1 .token)
-    (subst (WildcardAnswer N s at) (c .before .before .before .before .before .before .before .before .before .enum-told .given .1) (c .before .before .before .before .before .before .before .before .before .before .before .wildcard-labels .ensures))
-    (subst (TokenAnswer s at 126) (c .before .before .before .before .before .before .enum-told2 .given .1) (c .before .before .before .before .before .before .before .before .token .ensures))
-    (subst (TokenAnswer s at 40) (c .before .before .before .enum-told3 .given .1) (c .before .before .before .before .before .token2 .ensures))
-    (subst (NameAnswer s at) (c .enum-told4 .given .1) (c .before .before .name .ensures))
+  pub operand-closed : {M : Type 1} → operand-lts.Closed claims entry operand.Post M
+  operand-closed = operand-lts.spec claims entry operand.Post (λ c κs. tt) (λ c. search needs) operand-requires complement-requires returns
+      (λ c. search needs) (λ c κs. tt) (λ c. search needs) enclosed-requires returns-2 (λ c. search needs) bare-operand-requires returns-3
