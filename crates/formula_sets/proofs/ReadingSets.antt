@@ -3,7 +3,7 @@ use mathlib.Core.Path.{_≡_, refl, sym, ap, _∙_}
 use mathlib.Core.Logic.{inl, inr}
 use mathlib.Core.Bool.{true, false, _&&_}
 use mathlib.Core.List.{List, [], _∷_}
-use Prim.Native.Nat.{ℕ, _+_, _-_, _≤_}
+use Prim.Native.Nat.{ℕ, _+_, _-_}
 use native.Mathlib.Omega.{arith}
 use lib.Bits.{bitOr, or-zero-l}
 use lib.ListN.{length, drop}
@@ -38,7 +38,7 @@ set-stops {s} {to} h f e =
     fail (at-only f (m .moves)) (stops (m .token .within) (λ k. refl)
     (λ k. on-other (peek s to) 32 _ _ (m .token .past) ∙ (on-other (peek s to) 124 _ _ (m .last) ∙ e (m .value) (m .blanks) k (h .other))))
 
-module _ (N : List (List ℕ)) (s : List ℕ) (at lost : ℕ) where
+module _ (N : List (List ℕ)) {s : List ℕ} {at : ℕ} (lost : ℕ) where
   -- A mark that is an operand by itself.
   one-mark : (o : Operand) {mark to m : ℕ} → Marked s at mark to → Moves s at to (showO o) operandAt (plugO o) → m ≡ labelsOf N (actionOfOperand N o)
       → earlier lost (unknownIn N (length s) (namesO o (drop to s))) ≡ lost → OperandRead N s at lost to m lost
@@ -106,7 +106,7 @@ module _ (N : List (List ℕ)) (s : List ℕ) (at lost : ℕ) where
 -- The last of the marks that are operands by themselves, where the others do not stand.
 pub sent-says : (N : List (List ℕ)) (s : List ℕ) (at : ℕ) (w : Wildcard) → MarkedLabels s at 33 (labelsOf N (Action.directed Direction.sent)) w
     → (peek s at ≡ 42 → ⊥) → (peek s at ≡ 63 → ⊥) → WildcardAnswer N s at w
-sent-says N s at (wildcard.Past c m) h p q = λ lost. operand-sent N s at lost (h .0) (h .1)
+sent-says N s at (wildcard.Past c m) h p q = λ lost. operand-sent N lost (h .0) (h .1)
 sent-says N s at wildcard.Missing h p q = (p, q, h)
 
 -- A set up to the place of its next operand.

@@ -1,8 +1,7 @@
 // Reading a set of labels: readers that call each other, each from a cursor to the cursor behind what it read.
 ghost use mathlib.Core.Path.{_≡_};
 ghost use mathlib.Core.Option.{some};
-ghost use Prim.Native.Nat.{_+_, _*_, _-_, _^_, _<_, suc};
-ghost use lib.ListN.{length};
+ghost use Prim.Native.Nat.{_^_, _<_, suc};
 ghost use Rattle.actl.specs.Sizes.{longestText};
 ghost use Rattle.lts.specs.HoldsTable.{HoldsTable};
 ghost use mathlib.Core.Bool.{cond};

@@ -1,11 +1,11 @@
 -- A formula up to the place of its next term, and the whole text.
 use mathlib.Core.Path.{_≡_, refl, sym, ap, _∙_, subst}
 use mathlib.Core.List.{List, [], _∷_, _++_, append-assoc, append-nil}
-use Prim.Native.Nat.{ℕ, _+_, _*_, _-_, _≤_, _<_}
+use Prim.Native.Nat.{ℕ, _+_, _*_, _-_, _≤_}
 use native.Mathlib.Omega.{arith}
 use lib.ListN.{length, drop, length-append}
 use Rattle.actl.specs.Sizes.{longestText, nodeSlotLength}
-use Rattle.actl.specs.Grammar.{gap, Disjunction, conjunction, or, Conjunction, term, and, Term, showF, showA, showT}
+use Rattle.actl.specs.Grammar.{gap, Disjunction, conjunction, or, term, and, Term, showF, showA, showT}
 use Rattle.actl.specs.Reader.{InDisjunction, InTerm, tFirst, tOr, tAnd, termAt, andLast, afterDisjunction, plugT}
 use Rattle.actl.specs.Mentions.{namesF, namesA, namesT}
 use Rattle.actl.specs.Cursor.{peek, Token, Skipped, Moves, Fails, Tokened}

@@ -25,7 +25,7 @@ returns-3 c =
     let s = e .args .text .now in
     let at = e .args .c .at in
     let no-mark = subst (WildcardAnswer N s at) (c .before .before .before .enum-told .given .1) (c .before .before .before .before .before .wildcard-labels .ensures) in
-    operand-stops N s at (e .args .lost) (e .pre .0 .token) no-mark (e .pre .1) (subst (NameAnswer s at) (c .enum-told2 .given .1) (c .before .before .name .ensures))
+    operand-stops N (e .args .lost) (e .pre .0 .token) no-mark (e .pre .1) (subst (NameAnswer s at) (c .enum-told2 .given .1) (c .before .before .name .ensures))
 
 pub bare-operand-spec : {M : Type 1} → statement M
 bare-operand-spec =

@@ -44,13 +44,13 @@ returns : tie.Need-returns
 returns c =
     let a = c .before .before .before .before .before .before .before .args in
     let star = subst (MarkAnswer (a .text .now) (a .c .at) 42) (c .before .before .d .given .1) (c .before .before .before .before .mark .ensures) in
-    λ lost. operand-any (namesIn (a .table .now)) (a .text .now) (a .c .at) lost star (c .all-labels .ensures)
+    λ lost. operand-any (namesIn (a .table .now)) lost star (c .all-labels .ensures)
 
 returns-2 : tie.Need-returns-2
 returns-2 c =
     let w : tie.After-directed-wildcard = c .before .before .before in
     let h = subst (Received w) (c .before .d2 .given .1) (w .directed-wildcard .ensures) in
-    λ lost. operand-received (names w) (text w) (at w) lost (h .0) (h .1)
+    λ lost. operand-received (names w) lost (h .0) (h .1)
 
 returns-3 : tie.Need-returns-3
 returns-3 c =

@@ -1,7 +1,6 @@
 -- `prefix` reads `~` or a keyword, and puts its nodes down.
 use borrow.Author.Needs.{needs}
 use mathlib.Core.Path.{subst}
-use Rattle.actl.specs.Readers.{namesIn}
 use Rattle.formula_cursor.specs.CursorReplies.{TokenAnswer}
 use Rattle.formula_terms.proofs.ReadingTerms.{prefix-not}
 use Rattle.formula_terms.proofs.prefix.Statement.{statement}
@@ -9,10 +8,8 @@ use Rattle.formula_terms.proofs.prefix.Tie as tie
 
 returns : tie.Need-returns
 returns c =
-    let e : tie.Start = c .before .before .before .before .before .before .before .before in
-    let a = e .args in
-    let token = subst (TokenAnswer (a .text .now) (a .c .at) 126) (c .before .before .before .d .given .1) (c .before .before .before .before .before .token .ensures) in
-    prefix-not (namesIn (a .table .now)) (a .text .now) (a .c .at) (a .n) (a .lost) (a .nodes .now) (e .pre .1) (e .pre .0 .short) token (c .put .ensures)
+    let a = c .before .before .before .before .before .before .before .before .args in
+    prefix-not (subst (TokenAnswer (a .text .now) (a .c .at) 126) (c .before .before .before .d .given .1) (c .before .before .before .before .before .token .ensures)) (c .put .ensures)
 
 keyword-requires : tie.Need-keyword-requires
 keyword-requires c κs =

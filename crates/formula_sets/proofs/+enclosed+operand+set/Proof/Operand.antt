@@ -13,9 +13,10 @@ use Prim.Native.Nat.{ℕ}
 use native.Mathlib.Omega.{arith}
 use borrow.Author.Needs.{needs}
 use borrow.Fn.Kinds.{In}
-use Rattle.actl.specs.Cursor.{Tokened}
 use Rattle.actl.specs.Readers.{namesIn}
 use Rattle.formula_cursor.specs.CursorReplies.{TokenAnswer}
+use Rattle.formula_cursor.specs.declared.Match.{Match}
+use Rattle.formula_cursor.specs.declared.Match.the-variants.{Past}
 use Rattle.formula_sets.specs.SetReplies.{OperandAnswer}
 use Rattle.formula_sets.proofs.ReaderCycles.{entered, called, token-falls, start-behind}
 use Rattle.formula_sets.proofs.ReadingSets.{except-within, except-says, group-says}
@@ -29,73 +30,70 @@ module _ (t : ℕ) where
   abbrev entry : In 2 operand-kinds.ps
   entry = entered 2 operand-kinds.ps μ-operand operand.Pre t
 
-  abbrev Start : Type 0
-  Start = operand-lts.Start claims entry operand.Post
+  -- Whether `~` stands at the cursor.
+  module _ (c : operand-lts.After-token claims entry operand.Post) where
+    abbrev start : operand-lts.Start claims entry operand.Post
+    start = c .before .before .before
 
-  module _ (e : Start) where
     abbrev names : List (List ℕ)
-    names = namesIn (e .args .table .now)
+    names = namesIn (start .args .table .now)
 
-    abbrev text : List ℕ
-    text = e .args .text .now
+    abbrev Standing : ℕ → Match → Type 0
+    Standing = TokenAnswer (start .args .text .now) (start .args .c .at)
 
-    abbrev at : ℕ
-    at = e .args .c .at
-
-  -- `~` was read.
+  -- It does.
   module _ (c : operand-lts.After-d claims entry operand.Post) where
-    abbrev not-start : Start
-    not-start = c .before .before .before .before .before
+    abbrev tried : operand-lts.After-token claims entry operand.Post
+    tried = c .before .before
 
-    not-token : Tokened (text not-start) (at not-start) 126 (c .d .given .0 .0 .at)
-    not-token = subst (TokenAnswer (text not-start) (at not-start) 126) (c .d .given .1) (c .before .before .token .ensures)
+    not-token : Standing tried 126 (Past (c .d .given .0 .0))
+    not-token = subst (Standing tried 126) (c .d .given .1) (tried .token .ensures)
 
-  -- `(` was read.
+  -- `(` stands there.
   module _ (c : operand-lts.After-d2 claims entry operand.Post) where
-    abbrev paren-start : Start
-    paren-start = c .before .before .before .before .before .before .before .before
+    abbrev first-tried : operand-lts.After-token claims entry operand.Post
+    first-tried = c .before .before .before .before .before
 
-    paren-token : Tokened (text paren-start) (at paren-start) 40 (c .d2 .given .0 .0 .at)
-    paren-token = subst (TokenAnswer (text paren-start) (at paren-start) 40) (c .d2 .given .1) (c .before .before .token2 .ensures)
+    paren-token : Standing first-tried 40 (Past (c .d2 .given .0 .0))
+    paren-token = subst (Standing first-tried 40) (c .d2 .given .1) (c .before .before .token2 .ensures)
 
   operand-requires : operand-lts.Need-operand-requires claims entry operand.Post
   operand-requires c κs =
       let d = c .before in
-      let pre = not-start d .pre in
+      let pre = start (tried d) .pre in
       (token-falls (not-token d) 3 0 0 t (pre .0) (omega arith), start-behind (not-token d) (pre .1))
 
   complement-requires : operand-lts.Need-complement-requires claims entry operand.Post
   complement-requires c κs =
       let d = c .before .before in
-      let e = not-start d in
-      (e .pre .1 .table, except-within (names e) (text e) (at e) (e .args .lost) (not-token d) (c .operand .result) (c .operand .ensures))
+      let e = start (tried d) in
+      (e .pre .1 .table, except-within (names (tried d)) (e .args .lost) (not-token d) (c .operand .result) (c .operand .ensures))
 
   returns : operand-lts.Need-returns claims entry operand.Post
   returns c =
       let d = c .before .before .before in
-      let e = not-start d in
       let x = c .before .operand in
-      subst (OperandAnswer (names e) (text e) (at e) (e .args .lost)) (sym (c .complement .ensures))
-      (except-says (names e) (text e) (at e) (e .args .lost) (not-token d) (x .result) (x .ensures))
+      let a = start (tried d) .args in
+      subst (OperandAnswer (names (tried d)) (a .text .now) (a .c .at) (a .lost)) (sym (c .complement .ensures))
+      (except-says (names (tried d)) (a .lost) (not-token d) (x .result) (x .ensures))
 
   enclosed-requires : operand-lts.Need-enclosed-requires claims entry operand.Post
   enclosed-requires c κs =
       let d = c .before in
-      let pre = paren-start d .pre in
+      let pre = start (first-tried d) .pre in
       (token-falls (paren-token d) 3 0 2 t (pre .0) (omega arith), start-behind (paren-token d) (pre .1))
 
   returns-2 : operand-lts.Need-returns-2 claims entry operand.Post
   returns-2 c =
       let d = c .before .before in
-      let e = paren-start d in
-      group-says (names e) (text e) (at e) (e .args .lost) (paren-token d) (c .enclosed .result) (c .enclosed .ensures)
+      group-says (names (first-tried d)) (start (first-tried d) .args .lost) (paren-token d) (c .enclosed .result) (c .enclosed .ensures)
 
   bare-operand-requires : operand-lts.Need-bare-operand-requires claims entry operand.Post
   bare-operand-requires c κs =
-      let e : Start = c .before .before .before .before .before .before .before .before in
-      (e .pre .1, record {
-        no-not = subst (TokenAnswer (text e) (at e) 126) (c .before .before .before .enum-told .given .1) (c .before .before .before .before .before .token .ensures);
-        no-paren = subst (TokenAnswer (text e) (at e) 40) (c .enum-told2 .given .1) (c .before .before .token2 .ensures);
+      let x = c .before .before .before .before .before in
+      (start x .pre .1, record {
+        no-not = subst (Standing x 126) (c .before .before .before .enum-told .given .1) (x .token .ensures);
+        no-paren = subst (Standing x 40) (c .enum-told2 .given .1) (c .before .before .token2 .ensures);
       })
 
   returns-3 : operand-lts.Need-returns-3 claims entry operand.Post

@@ -12,7 +12,7 @@ use Prim.Native.Nat.{ℕ}
 use native.Mathlib.Omega.{arith}
 use borrow.Author.Needs.{needs}
 use borrow.Fn.Kinds.{In}
-use Rattle.actl.specs.Readers.{namesIn, FormulaRead}
+use Rattle.actl.specs.Readers.{namesIn}
 use Rattle.formula_cursor.specs.CursorReplies.{MarkAnswer}
 use Rattle.formula_sets.proofs.ReaderCycles.{entered, called}
 use Rattle.formula_terms.specs.TermReplies.{FormulaAnswer}

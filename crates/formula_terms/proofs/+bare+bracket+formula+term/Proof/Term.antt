@@ -44,18 +44,14 @@ module _ (t : ℕ) where
   bracket-requires : term-lts.Need-bracket-requires claims entry term.Post
   bracket-requires c κs =
       let d = c .before .before in
-      let a = start d .args in
       let pre = start d .pre in
-      (token-falls (paren d) 4 1 3 t (pre .0) (omega arith), (start-behind (paren d) (pre .1 .0),
-      inner-room (namesIn (a .table .now)) (text d) (at d) (a .n) (a .lost) (a .nodes .now) (pre .1 .1) (pre .1 .0 .short) (paren d)))
+      (token-falls (paren d) 4 1 3 t (pre .0) (omega arith), (start-behind (paren d) (pre .1 .0), inner-room (pre .1 .1) (paren d)))
 
   returns : term-lts.Need-returns claims entry term.Post
   returns c =
       let d = c .before .before .before in
       let a = start d .args in
-      let pre = start d .pre in
-      term-paren (namesIn (a .table .now)) (text d) (at d) (a .n) (a .lost) (a .nodes .now) (pre .1 .1) (pre .1 .0 .short) (paren d)
-      (c .bracket .last .1 .1 .0) (c .bracket .result) (c .bracket .ensures)
+      term-paren (namesIn (a .table .now)) (a .n) (a .lost) (a .nodes .now) (paren d) (c .bracket .last .1 .1 .0) (c .bracket .result) (c .bracket .ensures)
 
   bare-requires : term-lts.Need-bare-requires claims entry term.Post
   bare-requires c κs =
