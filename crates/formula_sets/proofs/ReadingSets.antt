@@ -89,7 +89,7 @@ module _ (N : List (List ℕ)) {s : List ℕ} {at : ℕ} (lost : ℕ) where
     group-read {to} {m} {l} h =
         let c = h .contents in
         let v : Moves s (h .end) to (λ r. 41 ∷ r) (λ i. afterSet (c .value) (sParen i (d - (at + 1))) (c .blanks)) (plugO (group (d - (at + 1)) (c .value) (c .blanks)))
-              = marked (h .shut) (omega arith) (λ i. refl) in
+        = marked (h .shut) (omega arith) (λ i. refl) in
         record {
           value = group (d - (at + 1)) (c .value) (c .blanks);
           up = omega (arith, c .up, t .skipped .up, v .up);
@@ -169,7 +169,7 @@ module _ {N : List (List ℕ)} {s : List ℕ} {at lost d mask left : ℕ} (j : P
         let x = j .value (h .value) in
         let n = g - (f + 1) in
         let v : Moves s f g (λ r. 124 ∷ gap n r) (λ k. afterSet x k (f - e)) (λ k. operandAt (oOr x (f - e) k n))
-              = tokened (λ o k. operandAt (oOr x (f - e) k o)) t (omega arith) (λ k. refl) (λ o k. refl) in
+        = tokened (λ o k. operandAt (oOr x (f - e) k o)) t (omega arith) (λ k. refl) (λ o k. refl) in
         record {
           place = λ k. oOr x (f - e) k n;
           value = union x (f - e) n;

@@ -139,8 +139,10 @@ module _ {N : List (List ℕ)} {s : List ℕ} {at n lost : ℕ} {e : List ℕ} {
     join-room = h .written .long ∙ j .written .long
 
     pub join-above : (n ≤ m) × (start ≤ m)
-    join-above = (omega (arith, joined-written .ends),
-      omega (arith, j .starts, j .written .ends, h .written .ends, length-append (j .earlier-nodes) (j .nodes)))
+    join-above = (
+      omega (arith, joined-written .ends),
+      omega (arith, j .starts, j .written .ends, h .written .ends, length-append (j .earlier-nodes) (j .nodes)),
+    )
 
     module _ {g mark : ℕ} (t : Tokened s f mark g) (short : length s ≤ longestText) where
       pub join-fits : m + 4 ≤ mostCounted
@@ -154,9 +156,9 @@ module _ {N : List (List ℕ)} {s : List ℕ} {at n lost : ℕ} {e : List ℕ} {
     awaiting-or {g} {z} t q =
         let B = bytesOfNodes (formulaF N v) in
         let w : Moves s f g (λ r. 124 ∷ gap (o g) r) (λ i. afterDisjunction v i (f - end)) (λ i. termAt (tOr v (f - end) i (o g)))
-              = tokened (λ u i. termAt (tOr v (f - end) i u)) t (omega arith) (λ i. refl) (λ u i. refl) in
+        = tokened (λ u i. termAt (tOr v (f - end) i u)) t (omega arith) (λ i. refl) (λ u i. refl) in
         let c = subst (NodesWritten n (m + 1) e z) (ap (λ r. orBytes ++ r) (append-nil B) ∙ sym (append-nil (orBytes ++ B)))
-              (written-around (room .long) n n m 1 y z [] B orBytes [] joined-written (omega arith) refl q) in
+        (written-around (room .long) n n m 1 y z [] B orBytes [] joined-written (omega arith) refl q) in
         record {
           place = λ i. tOr v (f - end) i (o g);
           value = λ u. or v (f - end) (o g) (term u);
@@ -183,7 +185,7 @@ module _ {N : List (List ℕ)} {s : List ℕ} {at n lost : ℕ} {e : List ℕ} {
         let A = before-last N v in
         let L = at-last N v in
         let w : Moves s f g (λ r. 38 ∷ gap (o g) r) (λ i. afterDisjunction v i (f - end)) (λ i. termAt (tAnd v (f - end) i (o g)))
-              = tokened (λ u i. termAt (tAnd v (f - end) i u)) t (omega arith) (λ i. refl) (λ u i. refl) in
+        = tokened (λ u i. termAt (tAnd v (f - end) i u)) t (omega arith) (λ i. refl) (λ u i. refl) in
         record {
           place = λ i. tAnd v (f - end) i (o g);
           value = andLast v (f - end) (o g);

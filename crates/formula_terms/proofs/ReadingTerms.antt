@@ -125,7 +125,7 @@ module _ (N : List (List ℕ)) {s : List ℕ} {at : ℕ} (n lost : ℕ) (e : Lis
       let c = h .contents in
       let b = h .behind - h .end in
       let v : Moves s (h .behind) to (λ r. 41 ∷ r) (λ i. afterDisjunction (c .value) (fParen i (d - (at + 1))) b) (plugT (paren (d - (at + 1)) (c .value) b))
-            = marked (h .shut) (omega arith) (λ i. refl) in
+      = marked (h .shut) (omega arith) (λ i. refl) in
       record {
         value = paren (d - (at + 1)) (c .value) b;
         up = omega (arith, c .up, c .blanks, t .skipped .up, v .up);

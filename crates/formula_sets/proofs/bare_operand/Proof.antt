@@ -31,4 +31,4 @@ pub bare-operand-spec : {M : Type 1} → statement M
 bare-operand-spec =
     tie.close
     (tie.spec (λ c κs. search needs) (λ c. search needs) returns (λ c. search needs) (λ c κs. search needs) (λ c. search needs)
-        label-requires (λ c. search needs) (λ c. search needs) returns-3)
+    label-requires (λ c. search needs) (λ c. search needs) returns-3)

@@ -49,4 +49,4 @@ pub label-spec : {M : Type 1} → statement M
 label-spec =
     tie.close
     (tie.spec (λ c. search needs) (λ c. search needs) (λ c. search needs) (λ c κs. search needs) (λ c. search needs) shl-t16
-        (λ c. search needs) (λ c κs. search needs) returns returns-2)
+    (λ c. search needs) (λ c κs. search needs) returns returns-2)

@@ -62,4 +62,4 @@ pub wildcard-labels-spec : {M : Type 1} → statement M
 wildcard-labels-spec =
     tie.close
     (tie.spec (λ c κs. search needs) (λ c. search needs) (λ c κs. search needs) returns (λ c. search needs) (λ c κs. search needs)
-        (λ c. search needs) returns-2 (λ c. search needs) (λ c κs. search needs) returns-3)
+    (λ c. search needs) returns-2 (λ c. search needs) (λ c κs. search needs) returns-3)

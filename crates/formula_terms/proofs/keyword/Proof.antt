@@ -53,4 +53,4 @@ pub keyword-spec : {M : Type 1} → statement M
 keyword-spec =
     tie.close
     (tie.spec (λ c κs. search needs) (λ c. search needs) (λ c. search needs) (λ c κs. search needs) skip-blanks-requires
-        (λ c. search needs) (λ c. search needs) (λ c κs. search needs) skip-blanks-requires-2 (λ c. search needs) returns returns-2 returns-3)
+    (λ c. search needs) (λ c. search needs) (λ c κs. search needs) skip-blanks-requires-2 (λ c. search needs) returns returns-2 returns-3)

@@ -21,4 +21,4 @@ pub prefix-spec : {M : Type 1} → statement M
 prefix-spec =
     tie.close
     (tie.spec (λ c κs. search needs) (λ c. search needs) (λ c κs. search needs) (λ c. search needs) returns (λ c. search needs)
-        keyword-requires (λ c. search needs))
+    keyword-requires (λ c. search needs))

@@ -54,4 +54,4 @@ pub read-text-spec : {M : Type 1} → statement M
 read-text-spec =
     tie.close
     (tie.spec (λ c κs. search needs) (λ c. search needs) returns (λ c. search needs) formula-requires (λ c. search needs)
-        (λ c. search needs) returns-2 returns-3 returns-4)
+    (λ c. search needs) returns-2 returns-3 returns-4)

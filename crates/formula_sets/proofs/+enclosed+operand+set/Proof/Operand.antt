@@ -24,8 +24,18 @@ use Rattle.formula_sets.proofs.+enclosed+operand+set.Proof.Measures.{μ
 
 module _ (t : ℕ) where
   abbrev claims : operand-lts.Claims
-  claims = (token-reads.Asked, token-reads.Learnt, called 2 operand-kinds.ps μ-operand operand.Pre t, operand.Post, complement-reads.Asked, complement-reads.Learnt,
-    called 2 enclosed-kinds.ps μ-enclosed enclosed.Pre t, enclosed.Post, bare-operand-reads.Asked, bare-operand-reads.Learnt)
+  claims = (
+    token-reads.Asked,
+    token-reads.Learnt,
+    called 2 operand-kinds.ps μ-operand operand.Pre t,
+    operand.Post,
+    complement-reads.Asked,
+    complement-reads.Learnt,
+    called 2 enclosed-kinds.ps μ-enclosed enclosed.Pre t,
+    enclosed.Post,
+    bare-operand-reads.Asked,
+    bare-operand-reads.Learnt,
+  )
 
   abbrev entry : In 2 operand-kinds.ps
   entry = entered 2 operand-kinds.ps μ-operand operand.Pre t
@@ -90,11 +100,13 @@ module _ (t : ℕ) where
 
   bare-operand-requires : operand-lts.Need-bare-operand-requires claims entry operand.Post
   bare-operand-requires c κs =
-      let x = c .before .before .before .before .before in
-      (start x .pre .1, record {
-        no-not = subst (Standing x 126) (c .before .before .before .enum-told .given .1) (x .token .ensures);
-        no-paren = subst (Standing x 40) (c .enum-told2 .given .1) (c .before .before .token2 .ensures);
-      })
+      let x = c .before .before .before .before .before in (
+        start x .pre .1,
+        record {
+          no-not = subst (Standing x 126) (c .before .before .before .enum-told .given .1) (x .token .ensures);
+          no-paren = subst (Standing x 40) (c .enum-told2 .given .1) (c .before .before .token2 .ensures);
+        },
+      )
 
   returns-3 : operand-lts.Need-returns-3 claims entry operand.Post
   returns-3 c = c .bare-operand .ensures

@@ -77,9 +77,10 @@ module _ (t : ℕ) where
       let x = c .before .before in
       let p = prefix-read x in
       let a = first (told x) .args in
-      let pre = first (told x) .pre in
-      (unread-falls (a .text .now) (a .c .at) (x .x2 .given .0 .0 .at) 4 0 1 t (p .up) (p .moves .within) (pre .0) (omega arith),
-      (record { table = pre .1 .0 .table; short = pre .1 .0 .short; token = p .token }, behind-room (pre .1 .1) p))
+      let pre = first (told x) .pre in (
+        unread-falls (a .text .now) (a .c .at) (x .x2 .given .0 .0 .at) 4 0 1 t (p .up) (p .moves .within) (pre .0) (omega arith),
+        (record { table = pre .1 .0 .table; short = pre .1 .0 .short; token = p .token }, behind-room (pre .1 .1) p),
+      )
 
   returns-3 : bare-lts.Need-returns-3 claims entry bare.Post
   returns-3 c =

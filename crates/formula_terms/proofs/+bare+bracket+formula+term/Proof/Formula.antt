@@ -34,8 +34,18 @@ abbrev μ-loop : formula-lts.MeasureT-loop
 
 module _ (t : ℕ) where
   abbrev claims : formula-lts.Claims
-  claims = (called 3 term-kinds.ps μ-term term.Pre t, term.Post, skip-blanks-reads.Asked, skip-blanks-reads.Learnt, token-reads.Asked, token-reads.Learnt,
-    conjoin-reads.Asked, conjoin-reads.Learnt, disjoin-reads.Asked, disjoin-reads.Learnt)
+  claims = (
+    called 3 term-kinds.ps μ-term term.Pre t,
+    term.Post,
+    skip-blanks-reads.Asked,
+    skip-blanks-reads.Learnt,
+    token-reads.Asked,
+    token-reads.Learnt,
+    conjoin-reads.Asked,
+    conjoin-reads.Learnt,
+    disjoin-reads.Asked,
+    disjoin-reads.Learnt,
+  )
 
   abbrev entry : In 3 formula-kinds.ps
   entry = entered 3 formula-kinds.ps μ-formula formula.Pre t
