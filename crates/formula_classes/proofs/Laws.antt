@@ -1,3 +1,4 @@
 -- Laws that several proofs cite, by topic.
 pub mod Decided
 pub mod Walked
+pub mod Phases

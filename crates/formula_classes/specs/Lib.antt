@@ -1,1 +1,2 @@
 pub mod WalkReplies
+pub mod Phases

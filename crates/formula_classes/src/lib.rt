@@ -10,6 +10,7 @@ ghost use Rattle.actl.specs.Sizes.{mostNodes, formulaLength};
 ghost use Rattle.actl.specs.Formulas.{classOfOr};
 ghost use Rattle.actl.specs.Walk.{classFrom, classOfArm, kindAt, kindsIn, lastNone};
 ghost use Rattle.formula_classes.specs.WalkReplies.{Walks, classlessNode, IsHighest, IsShape};
+ghost use Rattle.formula_classes.specs.Phases.{Room, NodeNoted, HasArm, RightWalks};
 ghost use Rattle.lts.specs.Answers.{Decides};
 ghost use Rattle.actl.specs.Check.{SpelledClassed};
 
@@ -63,13 +64,14 @@ fn class_of_or(left: u8, right: u8) -> u8
     class_from(3, right)
 }
 
-fn note(ends: &mut [u8], classes: &mut [u8], k: usize, end: usize, class: u8)
+// Notes node k, and says what it is as an arm.
+fn note(ends: &mut [u8], classes: &mut [u8], k: usize, end: usize, class: u8, arm: u8) -> Walked
     requires { ⌜ (k < length (now ends)) × (k < length (now classes)) × (end < 256) ⌝ }
-    ensures { λ _. ⌜ now (ends .exit) ≡ set (now (ends .entry)) k end ⌝ }
-    ensures { λ _. ⌜ now (classes .exit) ≡ set (now (classes .entry)) k class ⌝ }
+    ensures { λ r. ⌜ NodeNoted (now (ends .entry)) (now (ends .exit)) (now (classes .entry)) (now (classes .exit)) k end class arm r ⌝ }
 {
     ends[k] = end as u8;
     classes[k] = class;
+    Walked::Node(end, arm)
 }
 
 // The kind of node k, or 0 if there is no such node or it has no kind.
@@ -88,7 +90,7 @@ fn kind_at(kinds: &[u8], k: usize) -> u8
 
 // 01: "a node before its arms, the left arm before the right": the arms of node k have higher numbers, so each call has fewer nodes left.
 fn walk(kinds: &[u8], k: usize, ends: &mut [u8], classes: &mut [u8]) -> Walked
-    requires { ⌜ (length (now kinds) ≤ length (now ends)) × (length (now kinds) ≤ length (now classes)) × (length (now kinds) < 256) ⌝ }
+    requires { ⌜ Room (now kinds) (now ends) (now classes) ⌝ }
     ensures { λ r. ⌜ Walks (now (kinds .entry)) (now (ends .entry)) (now (ends .exit)) (now (classes .entry)) (now (classes .exit)) k r ⌝ }
 {
     let kind = kind_at(kinds, k);
@@ -96,24 +98,47 @@ fn walk(kinds: &[u8], k: usize, ends: &mut [u8], classes: &mut [u8]) -> Walked
         return Walked::Broken;
     }
     if kind == 1 {
-        let class = class_from(kind, 0);
-        note(ends, classes, k, k + 1, class);
-        return Walked::Node(k + 1, 3);
+        return note(ends, classes, k, k + 1, class_from(1, 0), 3);
     }
+    walk_arms(kinds, k, kind, ends, classes)
+}
+
+// Node k, which has an arm, or two.
+fn walk_arms(kinds: &[u8], k: usize, kind: u8, ends: &mut [u8], classes: &mut [u8]) -> Walked
+    requires { ⌜ Room (now kinds) (now ends) (now classes) ⌝ }
+    requires { ⌜ HasArm (now kinds) k kind ⌝ }
+    ensures { λ r. ⌜ Walks (now (kinds .entry)) (now (ends .entry)) (now (ends .exit)) (now (classes .entry)) (now (classes .exit)) k r ⌝ }
+{
     let Walked::Node(middle, left) = walk(kinds, k + 1, ends, classes) else {
         return Walked::Broken;
     };
-    if kind != 3 {
-        let class = class_from(kind, left);
-        note(ends, classes, k, middle, class);
-        return Walked::Node(middle, class);
+    if kind == 3 {
+        return walk_right(kinds, k, middle, left, ends, classes);
     }
+    let class = class_from(kind, left);
+    note(ends, classes, k, middle, class, class)
+}
+
+// The right arm of node k, which is `|`, and then the node itself.
+fn walk_right(
+    kinds: &[u8],
+    k: usize,
+    middle: usize,
+    left: u8,
+    ends: &mut [u8],
+    classes: &mut [u8],
+) -> Walked
+    requires { ⌜ Room (now kinds) (now ends) (now classes) ⌝ }
+    requires { ⌜ (k < middle) × (left < 4) ⌝ }
+    ensures { λ r. ⌜
+        RightWalks (now (kinds .entry)) (now (ends .entry)) (now (ends .exit)) (now (classes .entry)) (now (classes .exit)) k middle left r
+        ⌝ }
+{
     let Walked::Node(end, right) = walk(kinds, middle, ends, classes) else {
         return Walked::Broken;
     };
     let class = class_of_or(left, right);
-    note(ends, classes, k, end, class);
-    Walked::Node(end, class)
+    note(ends, classes, k, end, class, class)
 }
 
 // The last of the classes that is none.
@@ -148,6 +173,18 @@ fn kinds_in(formula: &[u8], count: usize) -> [u8; NODES]
     kinds
 }
 
+// Walks the first nodes of a prepared formula, from node 0.
+fn walk_nodes(formula: &[u8], count: usize, ends: &mut [u8], classes: &mut [u8]) -> Walked
+    requires { ⌜ (formulaLength ≤ length (now formula)) × (count ≤ mostNodes) ⌝ }
+    requires { ⌜ (count ≤ length (now ends)) × (count ≤ length (now classes)) ⌝ }
+    ensures { λ r. ⌜
+        Walks (kindsIn (now (formula .entry)) count) (now (ends .entry)) (now (ends .exit)) (now (classes .entry)) (now (classes .exit)) 0 r
+        ⌝ }
+{
+    let kinds = kinds_in(formula, count);
+    walk(&kinds[..count], 0, ends, classes)
+}
+
 // 01: "a node without class": "the highest-numbered one". Of a formula, by the slots of its nodes.
 pub fn highest_classless(formula: &[u8], count: usize) -> Classless
     requires { ⌜ (formulaLength ≤ length (now formula)) × (count ≤ mostNodes) ⌝ }
@@ -155,8 +192,7 @@ pub fn highest_classless(formula: &[u8], count: usize) -> Classless
 {
     let mut ends = [0u8; NODES];
     let mut classes = [0u8; NODES];
-    let kinds = kinds_in(formula, count);
-    walk(&kinds[..count], 0, &mut ends, &mut classes);
+    walk_nodes(formula, count, &mut ends, &mut classes);
     last_none(&classes[..count])
 }
 
@@ -167,8 +203,7 @@ pub fn spelled(formula: &[u8], count: usize) -> bool
 {
     let mut ends = [0u8; NODES];
     let mut classes = [0u8; NODES];
-    let kinds = kinds_in(formula, count);
-    let Walked::Node(end, arm) = walk(&kinds[..count], 0, &mut ends, &mut classes) else {
+    let Walked::Node(end, arm) = walk_nodes(formula, count, &mut ends, &mut classes) else {
         return false;
     };
     if end != count {
@@ -192,8 +227,7 @@ pub fn shape_of(formula: &[u8]) -> Shape
             classes: classes,
         };
     }
-    let kinds = kinds_in(formula, count);
-    walk(&kinds[..count], 0, &mut ends, &mut classes);
+    walk_nodes(formula, count, &mut ends, &mut classes);
     Shape {
         count: count,
         ends: ends,

@@ -95,7 +95,8 @@ module _ (n : ℕ) (b : List ℕ) where
     all-passed (f, e, c) =
         let d = decoded slots f (kinds-of-slots ∙ sym e) (λ s m. slot-passed s m .0) in
         let F = d .formula in
-        let size-is : getD b 0 0 ≡ size F = sym (length-map (upFrom 0 (getD b 0 0)) (slotAt b) ∙ length-upFrom 0 (getD b 0 0)) ∙ (ap length (d .slots-are) ∙ (length-map (nodes F) slotOf ∙ length-nodes F)) in
+        let slots = length-map (upFrom 0 (getD b 0 0)) (slotAt b) ∙ length-upFrom 0 (getD b 0 0) in
+        let size-is : getD b 0 0 ≡ size F = sym slots ∙ (ap length (d .slots-are) ∙ (length-map (nodes F) slotOf ∙ length-nodes F)) in
         let form : IsForm n b F = record {
           form = form-of-bytes b long bytes F size-is (omega arith) zeros (d .slots-are);
           few = omega arith;

@@ -146,14 +146,14 @@ empty-list : (l : List ℕ) → length l ≡ 0 → l ≡ []
 empty-list [] e = refl
 empty-list (x ∷ l) e = absurd (omega arith)
 
-module _ (b : List ℕ) (count : ℕ) {K : List ℕ} (d : K ≡ kindsIn b count) where
-  pub not-spelled : ((f : Formula) → Spelled K 0 f → ⊥) → SpelledClassed b count → ⊥
-  not-spelled h (f, e, n) = h f ([], d ∙ (sym e ∙ sym (append-nil (kindsOf f))))
+module _ (b : List ℕ) (count : ℕ) where
+  pub not-spelled : ((f : Formula) → Spelled (kindsIn b count) 0 f → ⊥) → SpelledClassed b count → ⊥
+  not-spelled h (f, e, n) = h f ([], sym e ∙ sym (append-nil (kindsOf f)))
 
-  module _ {E E' C C' : List ℕ} {end arm : ℕ} (h : Traversed K E E' C C' 0 end arm) where
+  module _ {E E' C C' : List ℕ} {end arm : ℕ} (h : Traversed (kindsIn b count) E E' C C' 0 end arm) where
     pub not-ending : (end ≡ count → ⊥) → SpelledClassed b count → ⊥
     not-ending n (f, e, c) =
-        let s = same-kinds (h .formula) f (h .spelled .0) (e ∙ (sym d ∙ h .spelled .1)) in
+        let s = same-kinds (h .formula) f (h .spelled .0) (e ∙ h .spelled .1) in
         let a = size-by-kinds (h .formula) f s in
         let l : size f ≡ count = sym (length-kinds f) ∙ (ap length e ∙ length-kinds-in b count) in
         n (omega (arith, h .behind))
@@ -161,13 +161,15 @@ module _ (b : List ℕ) (count : ℕ) {K : List ℕ} (d : K ≡ kindsIn b count)
     whole : end ≡ count → kindsOf (h .formula) ≡ kindsIn b count
     whole e =
         let (rest, s) = h .spelled in
-        let long : length K ≡ count = ap length d ∙ length-kinds-in b count in
+        let long = length-kinds-in b count in
         let z : rest ≡ [] = empty-list rest (omega (arith, simp length-append at (ap length s), length-kinds (h .formula), h .behind)) in
-        sym (sym d ∙ (s ∙ (ap (λ l. kindsOf (h .formula) ++ l) z ∙ append-nil (kindsOf (h .formula)))))
+        sym (s ∙ (ap (λ l. kindsOf (h .formula) ++ l) z ∙ append-nil (kindsOf (h .formula))))
 
     pub spelled-decided : end ≡ count → Decides (SpelledClassed b count) (negate (eqb arm 0))
     spelled-decided e = case (eqb arm 0) refl
       where
         case : (t : Bool) → eqb arm 0 ≡ t → Decides (SpelledClassed b count) (negate t)
-        case true z = decided-no (λ (f, k, n). n (sym (class-by-kinds (h .formula) f (whole e ∙ sym k)) ∙ class-none (h .formula) (sym (h .as-arm) ∙ eqb-true arm 0 z)))
+        case true z =
+            let lacks = class-none (h .formula) (sym (h .as-arm) ∙ eqb-true arm 0 z) in
+            decided-no (λ (f, k, n). n (sym (class-by-kinds (h .formula) f (whole e ∙ sym k)) ∙ lacks))
         case false z = decided-yes (h .formula, whole e, λ y. eqb-false arm 0 z (h .as-arm ∙ arm-none (h .formula) y))

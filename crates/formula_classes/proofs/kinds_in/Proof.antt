@@ -1,6 +1,6 @@
 -- `kinds_in` meets its contract: the loop fills the array from the front.
 use mathlib.Core.Path.{_≡_, refl, ap, _∙_, subst}
-use Prim.Native.Nat.{_+_, _-_, _*_, _≤_}
+use Prim.Native.Nat.{ℕ, _+_, _-_, _*_, _≤_}
 use native.Mathlib.Omega.{arith}
 use lib.ListN.{length, getD, take, length-set}
 use Rattle.actl.specs.Sizes.{nodeSlotLength}
@@ -42,7 +42,8 @@ loop-again c =
     let kinds = c .before .before .loop .kinds in
     let k = c .before .before .loop .k in
     let inv = c .before .before .loop .inv in
-    (omega arith, length-set kinds k (getD b (1 + k * nodeSlotLength) 0) ∙ inv .1, filled-more (λ i. getD b (1 + i * nodeSlotLength) 0) kinds k (omega arith) (inv .2))
+    let kind : ℕ → ℕ = λ i. getD b (1 + i * nodeSlotLength) 0 in
+    (omega arith, length-set kinds k (kind k) ∙ inv .1, filled-more kind kinds k (omega arith) (inv .2))
 
 returns : tie.Need-returns Inv-loop μ-loop
 returns c =

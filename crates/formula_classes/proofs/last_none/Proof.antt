@@ -46,14 +46,16 @@ loop-again c =
 returns : tie.Need-returns Inv-loop μ-loop
 returns c =
     let classes = c .before .before .before .args .classes .now in
-    let found = c .before .before .loop .found in
-    sym (ap (λ t. cond t none (some found)) (eq-eqb found (length classes) (c .if2 .taken))) ∙ remains-end classes found (c .before .before .loop .k) (c .before .loop-test .left) (c .before .before .loop .inv .1)
+    let left = c .before .before .loop in
+    let last = remains-end classes (left .found) (left .k) (c .before .loop-test .left) (left .inv .1) in
+    sym (ap (λ t. cond t none (some (left .found))) (eq-eqb (left .found) (length classes) (c .if2 .taken))) ∙ last
 
 returns-2 : tie.Need-returns-2 Inv-loop μ-loop
 returns-2 c =
     let classes = c .before .before .before .args .classes .now in
-    let found = c .before .before .loop .found in
-    sym (ap (λ t. cond t none (some found)) (ne-eqb found (length classes) (c .if2 .left))) ∙ remains-end classes found (c .before .before .loop .k) (c .before .loop-test .left) (c .before .before .loop .inv .1)
+    let left = c .before .before .loop in
+    let last = remains-end classes (left .found) (left .k) (c .before .loop-test .left) (left .inv .1) in
+    sym (ap (λ t. cond t none (some (left .found))) (ne-eqb (left .found) (length classes) (c .if2 .left))) ∙ last
 
 pub last-none-spec : {M : Type 1} → statement M
 last-none-spec =

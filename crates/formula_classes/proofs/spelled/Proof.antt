@@ -1,33 +1,27 @@
--- `spelled` meets its contract: the walk from node 0 ends where the nodes do, and the root has a class.
-use mathlib.Core.Path.{_≡_, sym, ap, _∙_, subst}
-use native.Mathlib.Omega.{arith}
-use lib.ListN.{length, take, replicate}
+-- `spelled` meets its contract: the kinds are those of a formula with a class exactly if the walk ends behind the last of them.
+use mathlib.Core.Path.{_≡_, subst}
+use mathlib.Core.List.{List}
+use Prim.Native.Nat.{ℕ}
+use lib.ListN.{replicate}
 use Rattle.lts.proofs.Laws.Decides.{decided-no}
+use Rattle.actl.specs.Walk.{kindsIn, Traversed}
 use Rattle.formula_classes.specs.WalkReplies.{Walks}
-use Rattle.formula_classes.proofs.Laws.Walked.{length-kinds-in, not-spelled, not-ending, spelled-decided}
+use Rattle.formula_classes.proofs.Laws.Walked.{not-spelled, not-ending, spelled-decided}
 use borrow.Author.Needs.{needs}
 use Rattle.formula_classes.proofs.spelled.Statement.{statement}
 use Rattle.formula_classes.proofs.spelled.Tie as tie
+use Rattle.formula_classes.proofs.spelled.Lts as lts
+use Rattle.formula_classes.proofs.spelled.Reads as reads
+use Rattle.formula_classes.proofs.walk_nodes.Reads as walk-nodes-reads
 
-kinds-in-requires : tie.Need-kinds-in-requires
-kinds-in-requires c κs = search needs
+slice-aggregate-walk-nodes : tie.Need-slice-aggregate-walk-nodes
+slice-aggregate-walk-nodes c = search needs
 
-array-share-prefix-kinds : tie.Need-array-share-prefix-kinds
-array-share-prefix-kinds c = search needs
+slice-aggregate-walk-nodes-2 : tie.Need-slice-aggregate-walk-nodes-2
+slice-aggregate-walk-nodes-2 c = search needs
 
-slice-aggregate-walk : tie.Need-slice-aggregate-walk
-slice-aggregate-walk c = sym (ap length (c .before .kinds-in .ensures) ∙ length-kinds-in (c .before .before .before .args .formula .now) (c .before .before .before .args .count))
-
-slice-aggregate-walk-2 : tie.Need-slice-aggregate-walk-2
-slice-aggregate-walk-2 c = search needs
-
-slice-aggregate-walk-3 : tie.Need-slice-aggregate-walk-3
-slice-aggregate-walk-3 c = search needs
-
-walk-requires : tie.Need-walk-requires
-walk-requires c κs =
-    let e = ap length (c .before .before .before .kinds-in .ensures) ∙ length-kinds-in (c .before .before .before .before .before .args .formula .now) (c .before .before .before .before .before .args .count) in
-    omega (arith, c .before .before .before .before .before .pre)
+walk-nodes-requires : tie.Need-walk-nodes-requires
+walk-nodes-requires c κs = search needs
 
 enum-known-end : tie.Need-enum-known-end
 enum-known-end c = search needs
@@ -37,27 +31,49 @@ enum-told c = search needs
 
 returns : tie.Need-returns
 returns c =
-    let a = c .before .before .before .before .before .before .before .before .before .before .args in
-    let w = c .before .before .before .before .walk in
-    let broken = subst (Walks (take (a .count) (c .before .before .before .before .before .before .before .before .kinds-in .result)) (replicate 40 0) (w .last .1 .1 .0) (replicate 40 0) (w .last .1 .1 .1 .0) 0) (c .enum-told .given .1) (w .ensures) in
-    decided-no (not-spelled (a .formula .now) (a .count) (c .before .before .before .before .before .before .before .before .kinds-in .ensures) broken)
+    let w = c .before .before .before .before .walk-nodes in
+    let a = c .before .before .before .before .before .before .before .before .args in
+    let broken = subst
+    (Walks (kindsIn (a .formula .now) (a .count)) (replicate 40 0) (w .last .1 .1 .0) (replicate 40 0) (w .last .1 .1 .1 .0) 0)
+    (c .enum-told .given .1)
+    (w .ensures) in
+    decided-no (not-spelled (a .formula .now) (a .count) broken)
+
+-- The walk found a formula.
+abbrev Found : Type 0
+Found = lts.After-end (walk-nodes-reads.Asked, walk-nodes-reads.Learnt) reads.Pre reads.Post
+
+module _ (c : Found) where
+  abbrev walked : lts.After-walk-nodes (walk-nodes-reads.Asked, walk-nodes-reads.Learnt) reads.Pre reads.Post
+  walked = c .before .before .before .before
+
+  abbrev entry : lts.Start (walk-nodes-reads.Asked, walk-nodes-reads.Learnt) reads.Pre reads.Post
+  entry = walked .before .before .before .before
+
+  abbrev kinds : List ℕ
+  kinds = kindsIn (entry .args .formula .now) (entry .args .count)
+
+  found : Traversed kinds (replicate 40 0) (walked .walk-nodes .last .1 .1 .0) (replicate 40 0) (walked .walk-nodes .last .1 .1 .1 .0) 0
+      (c .end .given .0 .0) (c .end .given .0 .1 .0)
+  found = subst
+      (Walks kinds (replicate 40 0) (walked .walk-nodes .last .1 .1 .0) (replicate 40 0) (walked .walk-nodes .last .1 .1 .1 .0) 0)
+      (c .end .given .1)
+      (walked .walk-nodes .ensures)
 
 returns-2 : tie.Need-returns-2
 returns-2 c =
-    let a = c .before .before .before .before .before .before .before .before .before .before .before .before .args in
-    let w = c .before .before .before .before .before .before .walk in
-    let found = subst (Walks (take (a .count) (c .before .before .before .before .before .before .before .before .before .before .kinds-in .result)) (replicate 40 0) (w .last .1 .1 .0) (replicate 40 0) (w .last .1 .1 .1 .0) 0) (c .before .before .end .given .1) (w .ensures) in
-    decided-no (not-ending (a .formula .now) (a .count) (c .before .before .before .before .before .before .before .before .before .before .kinds-in .ensures) found (c .if1 .taken))
+    let f = c .before .before in
+    let a = entry f .args in
+    decided-no (not-ending (a .formula .now) (a .count) (found f) (c .if1 .taken))
 
 returns-3 : tie.Need-returns-3
 returns-3 c =
-    let a = c .before .before .before .before .before .before .before .before .before .before .before .before .args in
-    let w = c .before .before .before .before .before .before .walk in
-    let found = subst (Walks (take (a .count) (c .before .before .before .before .before .before .before .before .before .before .kinds-in .result)) (replicate 40 0) (w .last .1 .1 .0) (replicate 40 0) (w .last .1 .1 .1 .0) 0) (c .before .before .end .given .1) (w .ensures) in
-    spelled-decided (a .formula .now) (a .count) (c .before .before .before .before .before .before .before .before .before .before .kinds-in .ensures) found (c .if1 .left)
+    let f = c .before .before in
+    let a = entry f .args in
+    spelled-decided (a .formula .now) (a .count) (found f) (c .if1 .left)
 
 pub spelled-spec : {M : Type 1} → statement M
 spelled-spec =
     tie.close
-    (tie.spec kinds-in-requires array-share-prefix-kinds slice-aggregate-walk slice-aggregate-walk-2 slice-aggregate-walk-3 walk-requires
-        enum-known-end enum-told returns returns-2 returns-3)
+    (tie.spec slice-aggregate-walk-nodes slice-aggregate-walk-nodes-2 walk-nodes-requires enum-known-end enum-told returns returns-2
+    returns-3)

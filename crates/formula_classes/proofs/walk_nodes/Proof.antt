@@ -1,0 +1,53 @@
+-- `walk_nodes` meets its contract: the kinds that were read are those of the first nodes.
+use mathlib.Core.Path.{_≡_, sym, ap, _∙_, subst}
+use Prim.Native.Nat.{_≤_}
+use native.Mathlib.Omega.{arith}
+use lib.ListN.{length}
+use Rattle.formula_classes.specs.WalkReplies.{Walks}
+use Rattle.formula_classes.proofs.Laws.Walked.{length-kinds-in}
+use borrow.Author.Needs.{needs}
+use Rattle.formula_classes.proofs.walk_nodes.Statement.{statement}
+use Rattle.formula_classes.proofs.walk_nodes.Tie as tie
+
+kinds-in-requires : tie.Need-kinds-in-requires
+kinds-in-requires c κs = search needs
+
+array-share-prefix-kinds : tie.Need-array-share-prefix-kinds
+array-share-prefix-kinds c = search needs
+
+slice-aggregate-walk : tie.Need-slice-aggregate-walk
+slice-aggregate-walk c =
+    let a = c .before .before .before .before .before .args in
+    sym (ap length (c .before .kinds-in .ensures) ∙ length-kinds-in (a .formula .now) (a .count))
+
+walk-requires : tie.Need-walk-requires
+walk-requires c κs =
+    let read = c .before .before .before in
+    let start = read .before .before .before .before in
+    let long = ap length (read .kinds-in .ensures) ∙ length-kinds-in (start .args .formula .now) (start .args .count) in
+    record {
+      ends-fit = omega (arith, long, start .pre);
+      classes-fit = omega (arith, long, start .pre);
+      few = omega (arith, long, start .pre);
+    }
+
+same-length : tie.Need-same-length
+same-length c = search needs
+
+same-length-2 : tie.Need-same-length-2
+same-length-2 c = search needs
+
+returns : tie.Need-returns
+returns c =
+    let w = c .before .before .before .before .walk in
+    let read = c .before .before .before .before .before .before .before .before in
+    let a = read .before .before .before .before .args in
+    subst
+    (λ K. Walks K (a .ends .now) (w .last .1 .1 .0) (a .classes .now) (w .last .1 .1 .1 .0) 0 (w .result))
+    (read .kinds-in .ensures)
+    (w .ensures)
+
+pub walk-nodes-spec : {M : Type 1} → statement M
+walk-nodes-spec =
+    tie.close
+    (tie.spec kinds-in-requires array-share-prefix-kinds slice-aggregate-walk walk-requires same-length same-length-2 returns)
