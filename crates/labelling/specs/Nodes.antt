@@ -13,7 +13,11 @@ use Rattle.lts.specs.Prepared.{tableIn}
 use Rattle.actl.specs.Formulas.{Formula, tru, size, nodes}
 use Rattle.actl.specs.Prepared.{preparedFormula}
 use Rattle.satisfaction.specs.Holds.{holds}
-use Rattle.until_search.specs.Flags.{flagAt, NodeFlags}
+use Rattle.lts.specs.HoldsTable.{HoldsTable}
+use Rattle.tables.specs.StepArray.{StepsOf}
+use Rattle.actl.specs.HoldsFormula.{HoldsFormula, ArmsEnd}
+use Rattle.until_search.specs.Flags.{flagAt, Flags, NodeFlags}
+use Rattle.until_search.specs.Links.{Linked}
 
 -- The row of node k, where there is a place for it.
 pub record RowRead (k : ℕ) (flags row : List Bool) : Type 0 where
@@ -34,6 +38,21 @@ pub record LabelledFrom (t : Table) (F : Formula) (k : ℕ) (flags : List Bool) 
 pub record RowsFrom (table formula : List ℕ) (k : ℕ) (flags : List Bool) : Type 0 where
   pub places : length flags ≡ nodePositions
   pub rows : (F : Formula) → preparedFormula (labels (tableIn table)) formula ≡ some F → LabelledFrom (tableIn table) F k flags
+
+-- What the row of node k is found from: a prepared table and formula, their arrays, and the rows of the nodes behind k.
+pub record ArmsLabelled (table steps firsts links formula ends : List ℕ) (flags : List Bool) (k : ℕ) : Type 0 where
+  pub table-held : HoldsTable table
+  pub steps-of : StepsOf (tableIn table) steps firsts
+  pub linked : Linked (tableIn table) links
+  pub formula-held : HoldsFormula (labels (tableIn table)) formula
+  pub arms-end : ArmsEnd (labels (tableIn table)) formula ends
+  pub inside : k < getD formula 0 0
+  pub rows-behind : RowsFrom table formula (k + 1) flags
+
+-- The row of node k: where it holds.
+pub record NodeRow (table formula : List ℕ) (k : ℕ) (row : List Bool) : Type 0 where
+  pub found : (F : Formula) → preparedFormula (labels (tableIn table)) formula ≡ some F
+      → Flags (tableIn table .states) (holds (tableIn table) (getD (nodes F) k tru)) row
 
 -- 01: what holds at every node of the prepared formula, at every state of the table.
 pub record NodesLabelled (table formula : List ℕ) (flags : List Bool) : Type 0 where

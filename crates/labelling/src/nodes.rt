@@ -22,7 +22,7 @@ ghost use Rattle.lts.specs.HoldsTable.{HoldsTable};
 ghost use Rattle.tables.specs.StepArray.{StepsOf};
 ghost use Rattle.until_search.specs.Flags.{flagAt, nodeHolds, Flags};
 ghost use Rattle.until_search.specs.Links.{Linked};
-ghost use Rattle.labelling.specs.Nodes.{RowRead, RowPut, RowsFrom, NodesLabelled};
+ghost use Rattle.labelling.specs.Nodes.{RowRead, RowPut, ArmsLabelled, NodeRow, NodesLabelled};
 ghost use Rattle.actl.specs.HoldsFormula.{HoldsFormula, ArmsEnd};
 
 // Where a node holds, from where its arms hold.
@@ -80,30 +80,24 @@ fn put_row(flags: &mut [bool; NODE_POSITIONS], k: usize, found: &[bool; STATES])
     }
 }
 
-fn label_row(
+// The row of node k, from the rows of its arms.
+fn row_from_arms(
     table: &[u8],
     steps: &[u16; STEPS],
     firsts: &[u16; FIRSTS],
     links: &[u16; STEPS],
     formula: &[u8],
     ends: &[u8; NODES],
-    flags: &mut [bool; NODE_POSITIONS],
+    flags: &[bool; NODE_POSITIONS],
     k: usize,
-)
-    requires { ⌜ HoldsTable (now table) ⌝ }
-    requires { ⌜ StepsOf (tableIn (now table)) (now steps) (now firsts) ⌝ }
-    requires { ⌜ Linked (tableIn (now table)) (now links) ⌝ }
-    requires { ⌜ HoldsFormula (labels (tableIn (now table))) (now formula) ⌝ }
-    requires { ⌜ ArmsEnd (labels (tableIn (now table))) (now formula) (now ends) ⌝ }
-    requires { ⌜ k < getD (now formula) 0 0 ⌝ }
-    requires { ⌜ RowsFrom (now table) (now formula) (k + 1) (now flags) ⌝ }
-    ensures { λ _. ⌜ RowsFrom (now (table .entry)) (now (formula .entry)) k (now (flags .exit)) ⌝ }
+) -> [bool; STATES]
+    requires { ⌜ ArmsLabelled (now table) (now steps) (now firsts) (now links) (now formula) (now ends) (now flags) k ⌝ }
+    ensures { λ r. ⌜ NodeRow (now (table .entry)) (now (formula .entry)) k r ⌝ }
 {
     let node = node_at(formula, k);
     let arm = row(flags, k + 1);
     let other = row(flags, right_arm(ends, k));
-    let found = label_node(table, steps, firsts, links, node, &arm, &other);
-    put_row(flags, k, &found);
+    label_node(table, steps, firsts, links, node, &arm, &other)
 }
 
 // Node k and state s at k * 256 + s. The two arrays of steps may be fields of one value.
@@ -125,7 +119,8 @@ pub fn label_nodes<'a>(
     let mut k = node_count(formula);
     while 0 < k {
         k -= 1;
-        label_row(table, steps, firsts, &links, formula, ends, &mut flags, k);
+        let found = row_from_arms(table, steps, firsts, &links, formula, ends, &flags, k);
+        put_row(&mut flags, k, &found);
     }
     flags
 }

@@ -1,5 +1,5 @@
 -- An entry over prepared bytes, test by test: 01's "Order: 14 first, then 10 (table before formula)".
-use mathlib.Core.Path.{_≡_, refl, sym, ap, _∙_}
+use mathlib.Core.Path.{_≡_, refl, sym, ap, _∙_, subst}
 use mathlib.Core.Bool.{Bool, true, false, true≢false}
 use mathlib.Core.List.{List}
 use mathlib.Core.Option.{Option, none, some}
@@ -19,7 +19,9 @@ use Rattle.lts.proofs.Laws.Prepared.{is-some-of, prepared-in, prepared-of, prep
 use Rattle.actl.specs.Formulas.{Formula}
 use Rattle.actl.specs.Prepared.{preparedFormula}
 use Rattle.actl.specs.FormulaReading.{withTable, withFormula, longEnough, onPrepared}
-use Rattle.formula_check.specs.Inputs.{unprepared}
+use Rattle.formula_check.specs.Inputs.{unprepared, inputsReply}
+use Rattle.formula_check.specs.declared.inputs.Inputs.{Inputs}
+use Rattle.formula_check.specs.declared.inputs.Inputs.the-variants.{Prepared, Refused}
 use Rattle.formula_check.specs.declared.inputs.Unprepared.{Unprepared}
 use Rattle.actl.proofs.Laws.Replies.{accepted-lengths, on-prepared-accepted}
 
@@ -84,8 +86,14 @@ module _ (table formula : List ℕ) where
       unless-again (leb tableLength (length table)) 14 tableLength _ _
       (unless-again (leb formulaLength (length formula)) 14 formulaLength _ _ (table-again next formula (preparedTable table))) e
 
-  pub unprepared-again : {A : Type 0} (next : Table → Formula → Reply A) (why : Unprepared) → unprepared why ≡ checked table formula → unprepared why ≡ onPrepared table formula next
+  pub unprepared-again : {A : Type 0} (next : Table → Formula → Reply A) (why : Unprepared) → unprepared why ≡ checked table formula
+      → unprepared why ≡ onPrepared table formula next
   unprepared-again next why e = sym (refused-again next (sym e))
+
+  -- By the answer that the check gave.
+  pub refused-by : {A : Type 0} (next : Table → Formula → Reply A) {r : Inputs} (why : Unprepared) → r ≡ Refused why
+      → inputsReply r ≡ checked table formula → unprepared why ≡ onPrepared table formula next
+  refused-by next why d e = unprepared-again next why (subst (λ r. inputsReply r ≡ checked table formula) d e)
 
   -- Where the check refuses nothing, the entry goes on with the table and the formula in the bytes.
   pub record Both : Type 0 where
@@ -110,6 +118,9 @@ module _ (table formula : List ℕ) where
         table-long = l .0;
         formula-long = l .1;
       }
+
+  pub both-by : {r : Inputs} → r ≡ Prepared → inputsReply r ≡ checked table formula → Both
+  both-by d e = both (subst (λ r. inputsReply r ≡ checked table formula) d e)
 
   pub goes-on : {A : Type 0} (next : Table → Formula → Reply A) (b : Both) (F : Formula) → preparedFormula (labels (tableIn table)) formula ≡ some F
       → onPrepared table formula next ≡ next (tableIn table) F

@@ -11,7 +11,9 @@ use lib.Dec.{eqb}
 use lib.ListN.{length, getD}
 use Rattle.actl.specs.Sizes.{mostNodes}
 use Rattle.lts.specs.Sizes.{mostStates}
-use Rattle.lts.specs.Steps.{Table}
+use Rattle.lts.specs.Steps.{Table, labels as labelCount}
+use Rattle.lts.specs.Prepared.{tableIn}
+use Rattle.lts.specs.HoldsTable.{HoldsTable}
 use Rattle.lts.specs.Range.{InRange}
 use Rattle.actl.specs.Actions.{Mask, inSet, Cond, silent, labels, meets}
 use Rattle.actl.specs.Formulas.{Formula, tru, not, or, ex, ax, eu, euThen, size, nodes, At, root, in-not, in-left, in-right, in-ex, in-ax, in-eu, in-euThen}
@@ -22,10 +24,12 @@ use Rattle.formulas.specs.declared.node.Condition.the-variants.{Silent, Labels}
 use Rattle.formulas.specs.declared.node.Node.{Node}
 use Rattle.formulas.specs.declared.node.Node.the-variants.{True, Not, Or, Ex, Ax, Until, UntilThen}
 use Rattle.formulas.proofs.NodeSlots.{nodeIn, node-in-slot}
+use Rattle.actl.proofs.Laws.Prepared.{prepared-few, prepared-count}
 use Rattle.actl.proofs.Subformulas.{node-at, at-node, at-lt}
 use Rattle.satisfaction.specs.Holds.{within, enters, holds}
 use Rattle.until_search.specs.Flags.{flagAt, nodeHolds, Flags}
-use Rattle.labelling.specs.Nodes.{RowRead, RowPut, LabelledFrom}
+use Rattle.labelling.specs.Nodes.{RowRead, RowPut, LabelledFrom, RowsFrom, NodeRow}
+use Rattle.until_search.proofs.Laws.Flags.{flags-same}
 use Rattle.until_search.proofs.Laws.Agree.{Agree, some-agree, every-agree, within-agree}
 
 -- The rows of f's arms say where they hold.
@@ -56,7 +60,8 @@ module _ (t : Table) (r : InRange t) (p q : ℕ → Bool) where
   node-holds n f e a s h =
       ap (λ m. nodeHolds t m p q s) (sym (node-in-slot n) ∙ ap nodeIn e) ∙ holds-in f a s h
 
-module _ (t : Table) (r : InRange t) (F : Formula) (few : size F ≤ mostNodes) (k : ℕ) (below : k < size F) (flags : List Bool) (l : LabelledFrom t F (k + 1) flags) where
+module _ (t : Table) (r : InRange t) (F : Formula) (few : size F ≤ mostNodes) (k : ℕ) (below : k < size F)
+    (flags : List Bool) (l : LabelledFrom t F (k + 1) flags) where
   abbrev here : Formula
   here = getD (nodes F) k tru
 
@@ -86,16 +91,30 @@ module _ (t : Table) (r : InRange t) (F : Formula) (few : size F ≤ mostNodes) 
     arms (eu m f) a = next f (in-eu a)
     arms (euThen m b f) a = next f (in-euThen a)
 
-    pub labelled-on : (n : Node) → slotOfNode n ≡ slotOf (getD (nodes F) k tru) → (row flags′ : List Bool)
-        → Flags (t .states) (nodeHolds t n (flagAt arm) (flagAt other)) row → RowPut k row flags flags′ → LabelledFrom t F k flags′
-    labelled-on n e row flags′ f z = record { flag = λ j s b m h. go j s b m h (ℕ-discrete j k) }
-      where
-        go : (j s : ℕ) → k ≤ j → j < size F → s < t .states → Dec (j ≡ k) → flagAt flags′ (j * mostStates + s) ≡ holds t (getD (nodes F) j tru) s
-        go j s b m h (yes c) =
-            ap (λ x. flagAt flags′ (x * mostStates + s)) c
-            ∙ (z .inside s (omega (arith, r .few-states))
-            ∙ (f .flag s h ∙ (node-holds t r (flagAt arm) (flagAt other) n here e (arms here (at-node F k below)) s h ∙ ap (λ x. holds t (getD (nodes F) x tru) s) (sym c))))
-        go j s b m h (no c) = z .outside (j * mostStates + s) (inr (omega (arith, r .few-states))) ∙ l .flag j s (omega arith) m h
+    pub node-row : (n : Node) → slotOfNode n ≡ slotOf here → (row : List Bool)
+        → Flags (t .states) (nodeHolds t n (flagAt arm) (flagAt other)) row → Flags (t .states) (holds t here) row
+    node-row n e row f = flags-same (node-holds t r (flagAt arm) (flagAt other) n here e (arms here (at-node F k below))) f
+
+  pub labelled-on : (row flags′ : List Bool) → Flags (t .states) (holds t here) row → RowPut k row flags flags′ → LabelledFrom t F k flags′
+  labelled-on row flags′ f z = record { flag = λ j s b m h. go j s b m h (ℕ-discrete j k) }
+    where
+      go : (j s : ℕ) → k ≤ j → j < size F → s < t .states → Dec (j ≡ k) → flagAt flags′ (j * mostStates + s) ≡ holds t (getD (nodes F) j tru) s
+      go j s b m h (yes c) =
+          ap (λ x. flagAt flags′ (x * mostStates + s)) c
+          ∙ (z .inside s (omega (arith, r .few-states)) ∙ (f .flag s h ∙ ap (λ x. holds t (getD (nodes F) x tru) s) (sym c)))
+      go j s b m h (no c) = z .outside (j * mostStates + s) (inr (omega (arith, r .few-states))) ∙ l .flag j s (omega arith) m h
+
+-- The same of a formula in bytes.
+pub rows-on : (table formula : List ℕ) → HoldsTable table → (k : ℕ) {row flags flags′ : List Bool} → k < getD formula 0 0
+    → RowsFrom table formula (k + 1) flags → NodeRow table formula k row → RowPut k row flags flags′ → RowsFrom table formula k flags′
+rows-on table formula held k {row} {flags} {flags′} below behind found put =
+    let n = labelCount (tableIn table) in
+    record {
+      places = put .places;
+      rows = λ F e.
+          let here : k < size F = omega (arith, prepared-count n formula e) in
+          labelled-on (tableIn table) (held .in-range) F (prepared-few n formula e) k here flags (behind .rows F e) row flags′ (found .found F e) put;
+    }
 
 -- The search of an until from the flags of its goal.
 pub until-flags : (t : Table) → InRange t → (m : Mask) (g : ℕ → Bool) (goal flags : List Bool) → Flags (t .states) g goal

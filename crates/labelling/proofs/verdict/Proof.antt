@@ -8,7 +8,7 @@ use Rattle.lts.specs.Reply.{Reply, accepted}
 use Rattle.lts.specs.Steps.{Table}
 use Rattle.actl.specs.Formulas.{Formula}
 use Rattle.formula_check.specs.Inputs.{inputsReply}
-use Rattle.formula_check.proofs.Laws.Inputs.{checked, Both, both, goes-on, unprepared-again}
+use Rattle.formula_check.proofs.Laws.Inputs.{Both, goes-on, both-by, refused-by}
 use Rattle.satisfaction.specs.Holds.{verdict}
 use Rattle.satisfaction.specs.VerdictAsked.{verdictReplied, VerdictAnswered}
 use Rattle.satisfaction.proofs.Verdicts.{verdict-answered}
@@ -39,8 +39,9 @@ unfolding verdictReplied
 returns c =
     let asked = c .before .before .before in
     let a = asked .before .before .before .args in
-    let told = subst (λ r. inputsReply r ≡ checked (a .table .now) (a .formula .now)) (c .before .why .given .1) (asked .check-inputs .ensures) in
-    promised (a .table .now) (a .formula .now) (Refused (c .before .why .given .0 .0)) (unprepared-again (a .table .now) (a .formula .now) answer (c .before .why .given .0 .0) told)
+    let why = c .before .why .given in
+    promised (a .table .now) (a .formula .now) (Refused (why .0 .0))
+    (refused-by (a .table .now) (a .formula .now) answer (why .0 .0) (why .1) (asked .check-inputs .ensures))
 
 enum-told : tie.Need-enum-told
 enum-told c = search needs
@@ -49,12 +50,13 @@ prepared : (c : tie.After-enum-told) → let a = c .before .before .before .befo
 prepared c =
     let asked = c .before .before in
     let a = asked .before .before .before .args in
-    both (a .table .now) (a .formula .now) (subst (λ r. inputsReply r ≡ checked (a .table .now) (a .formula .now)) (c .enum-told .given .1) (asked .check-inputs .ensures))
+    both-by (a .table .now) (a .formula .now) (c .enum-told .given .1) (asked .check-inputs .ensures)
 
 holds-at-start-requires : tie.Need-holds-at-start-requires
 holds-at-start-requires c κs = let b = prepared c in (b .table-held, record { formula = b .formula-in; prepared = b .prepared })
 
-replied : (c : tie.After-holds-at-start) → let a = c .before .before .before .before .before .before .args in verdictReplied (a .table .now) (a .formula .now) ≡ accepted (cond (c .holds-at-start .result) 1 0)
+replied : (c : tie.After-holds-at-start) → let a = c .before .before .before .before .before .before .args in
+    verdictReplied (a .table .now) (a .formula .now) ≡ accepted (cond (c .holds-at-start .result) 1 0)
 unfolding verdictReplied
 replied c =
     let a = c .before .before .before .before .before .before .args in

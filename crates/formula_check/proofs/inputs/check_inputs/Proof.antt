@@ -1,7 +1,7 @@
 -- `check_inputs` meets its contract: 14 for each buffer, then 10 for the table and for the formula.
 use borrow.Author.Needs.{needs}
 use mathlib.Core.Path.{_≡_, sym, ap, _∙_}
-use mathlib.Core.Bool.{Bool}
+use mathlib.Core.Bool.{Bool, true}
 use mathlib.Core.List.{List}
 use Prim.Native.Nat.{ℕ}
 use borrow.Author.Tests.{not-true, not-false}
@@ -24,7 +24,9 @@ returns : tie.Need-returns
 returns c = let a = c .before .before .before .args in sym (table-short (a .table .now) (a .formula .now) next (c .if1 .taken))
 
 returns-2 : tie.Need-returns-2
-returns-2 c = let a = c .before .before .before .before .args in sym (formula-short (a .table .now) (a .formula .now) next (c .before .if1 .left) (c .if2 .taken))
+returns-2 c =
+    let a = c .before .before .before .before .args in
+    sym (formula-short (a .table .now) (a .formula .now) next (c .before .if1 .left) (c .if2 .taken))
 
 is-prepared-requires : tie.Need-is-prepared-requires
 is-prepared-requires c κs = search needs
@@ -32,7 +34,8 @@ is-prepared-requires c κs = search needs
 returns-3 : tie.Need-returns-3
 returns-3 c =
     let a = c .before .before .before .before .before .before .args in
-    sym (table-foreign (a .table .now) (a .formula .now) next (c .before .before .before .if1 .left) (c .before .before .if2 .left) (sym (c .before .is-prepared .ensures) ∙ not-true _ (c .if3 .taken)))
+    let foreign = sym (c .before .is-prepared .ensures) ∙ not-true _ (c .if3 .taken) in
+    sym (table-foreign (a .table .now) (a .formula .now) next (c .before .before .before .if1 .left) (c .before .before .if2 .left) foreign)
 
 label-count-requires : tie.Need-label-count-requires
 label-count-requires c κs = search needs
@@ -41,27 +44,43 @@ is-prepared-requires-2 : tie.Need-is-prepared-requires-2
 is-prepared-requires-2 c κs = search needs
 
 -- What the last test finds, over the labels of the table in the bytes.
-tested : (table formula : List ℕ) {n : ℕ} {r b : Bool} → n ≡ labels (tableIn table) → r ≡ isPrepared n formula → r ≡ b → isSome (preparedFormula (labels (tableIn table)) formula) ≡ b
+tested : (table formula : List ℕ) {n : ℕ} {r b : Bool} → n ≡ labels (tableIn table) → r ≡ isPrepared n formula → r ≡ b
+    → isSome (preparedFormula (labels (tableIn table)) formula) ≡ b
 tested table formula e d t = sym (ap (λ n. isPrepared n formula) e) ∙ (sym d ∙ t)
+
+-- Behind the last test: the table is prepared.
+module _ (c : tie.After-is-prepared2) where
+  abbrev third : tie.Else3
+  third = c .before .before
+
+  abbrev entry : tie.Start
+  entry = third .before .before .before .before .before .before
+
+  abbrev table : List ℕ
+  table = entry .args .table .now
+
+  abbrev formula : List ℕ
+  formula = entry .args .formula .now
+
+  known : isSome (preparedTable table) ≡ true
+  known = sym (third .before .is-prepared .ensures) ∙ not-false _ (third .if3 .left)
+
+  found : {b : Bool} → c .is-prepared2 .result ≡ b → isSome (preparedFormula (labels (tableIn table)) formula) ≡ b
+  found e = tested table formula (c .before .label-count .ensures .count) (c .is-prepared2 .ensures .0) e
 
 returns-4 : tie.Need-returns-4
 returns-4 c =
     let last = c .before in
-    let third = last .before .before in
-    let a = third .before .before .before .before .before .before .args in
-    let known = sym (third .before .is-prepared .ensures) ∙ not-false _ (third .if3 .left) in
-    let found = tested (a .table .now) (a .formula .now) (last .before .label-count .ensures .count) (last .is-prepared2 .ensures .0) (not-true _ (c .if4 .taken)) in
-    sym (formula-foreign (a .table .now) (a .formula .now) next (third .before .before .before .if1 .left) (third .before .before .if2 .left) known found)
+    let long = third last .before .before in
+    sym (formula-foreign (table last) (formula last) next (long .before .if1 .left) (long .if2 .left) (known last)
+    (found last (not-true _ (c .if4 .taken))))
 
 returns-5 : tie.Need-returns-5
 returns-5 c =
     let last = c .before in
-    let third = last .before .before in
-    let a = third .before .before .before .before .before .before .args in
-    let known = sym (third .before .is-prepared .ensures) ∙ not-false _ (third .if3 .left) in
-    let found = tested (a .table .now) (a .formula .now) (last .before .label-count .ensures .count) (last .is-prepared2 .ensures .0) (not-false _ (c .if4 .left)) in
-    let (F, e) = is-some-of (preparedFormula (labels (tableIn (a .table .now))) (a .formula .now)) found in
-    sym (both-prepared (a .table .now) (a .formula .now) next (third .before .before .before .if1 .left) (third .before .before .if2 .left) known F e)
+    let long = third last .before .before in
+    let (F, e) = is-some-of (preparedFormula (labels (tableIn (table last))) (formula last)) (found last (not-false _ (c .if4 .left))) in
+    sym (both-prepared (table last) (formula last) next (long .before .if1 .left) (long .if2 .left) (known last) F e)
 
 pub check-inputs-spec : {M : Type 1} → statement M
 check-inputs-spec =

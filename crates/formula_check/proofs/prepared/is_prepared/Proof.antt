@@ -40,9 +40,11 @@ slots-fit-requires c κs = search needs
 
 returns-3 : tie.Need-returns-3
 returns-3 c =
-    let n = c .before .before .before .before .before .before .args .labels in
-    let b = c .before .before .before .before .before .before .args .formula .now in
-    tested n b (slots-foreign n b (sym (ap (slotsFit n b) (c .before .before .before .node-count .ensures)) ∙ (sym (c .before .slots-fit .ensures) ∙ not-true (c .before .slots-fit .result) (c .if3 .taken))))
+    let counted = c .before .before .before in
+    let n = counted .before .before .before .args .labels in
+    let b = counted .before .before .before .args .formula .now in
+    let fails = sym (c .before .slots-fit .ensures) ∙ not-true (c .before .slots-fit .result) (c .if3 .taken) in
+    tested n b (slots-foreign n b (sym (ap (slotsFit n b) (counted .node-count .ensures)) ∙ fails))
 
 mul-zeros-from : tie.Need-mul-zeros-from
 mul-zeros-from c = search needs
@@ -55,22 +57,30 @@ zeros-from-requires c κs = search needs
 
 returns-4 : tie.Need-returns-4
 returns-4 c =
-    let n = c .before .before .before .before .before .before .before .before .args .labels in
-    let b = c .before .before .before .before .before .before .before .before .args .formula .now in
-    tested n b (not-zeros n b (sym (ap (λ k. zerosFrom b (1 + k * nodeSlotLength)) (c .before .before .before .before .before .node-count .ensures)) ∙ (sym (c .before .zeros-from .ensures) ∙ not-true (c .before .zeros-from .result) (c .if4 .taken))))
+    let counted = c .before .before .before .before .before in
+    let n = counted .before .before .before .args .labels in
+    let b = counted .before .before .before .args .formula .now in
+    let fails = sym (c .before .zeros-from .ensures) ∙ not-true (c .before .zeros-from .result) (c .if4 .taken) in
+    tested n b (not-zeros n b (sym (ap (λ k. zerosFrom b (1 + k * nodeSlotLength)) (counted .node-count .ensures)) ∙ fails))
 
 spelled-requires : tie.Need-spelled-requires
 spelled-requires c κs = search needs
 
 returns-5 : tie.Need-returns-5
 returns-5 c =
-    let n = c .before .before .before .before .before .before .before .before .before .args .labels in
-    let b = c .before .before .before .before .before .before .before .before .before .args .formula .now in
-    let count = c .before .before .before .before .before .before .node-count .ensures in
-    let few = c .before .before .before .before .before .if2 .left in
-    tested n b (decided n b (c .before .before .before .before .before .before .before .if1 .left) (λ i. c .before .before .before .before .before .before .before .before .shared-slice-known .given i .fits) (omega arith)
-    (sym (ap (slotsFit n b) count) ∙ (sym (c .before .before .before .before .slots-fit .ensures) ∙ not-false (c .before .before .before .before .slots-fit .result) (c .before .before .before .if3 .left)))
-    (sym (ap (λ k. zerosFrom b (1 + k * nodeSlotLength)) count) ∙ (sym (c .before .before .zeros-from .ensures) ∙ not-false (c .before .before .zeros-from .result) (c .before .if4 .left)))
+    let zeros = c .before .before in
+    let fit = zeros .before .before in
+    let counted = fit .before .before in
+    let start = counted .before .before .before in
+    let n = start .args .labels in
+    let b = start .args .formula .now in
+    let count = counted .node-count .ensures in
+    let few = fit .before .if2 .left in
+    let slots = sym (fit .slots-fit .ensures) ∙ not-false (fit .slots-fit .result) (zeros .before .if3 .left) in
+    let rest = sym (zeros .zeros-from .ensures) ∙ not-false (zeros .zeros-from .result) (c .before .if4 .left) in
+    tested n b (decided n b (counted .before .if1 .left) (λ i. counted .before .before .shared-slice-known .given i .fits) (omega arith)
+    (sym (ap (slotsFit n b) count) ∙ slots)
+    (sym (ap (λ k. zerosFrom b (1 + k * nodeSlotLength)) count) ∙ rest)
     (c .spelled .result)
     (subst (λ k. Decides (SpelledClassed b k) (c .spelled .result)) count (c .spelled .ensures)))
 
@@ -78,4 +88,4 @@ pub is-prepared-spec : {M : Type 1} → statement M
 is-prepared-spec =
     tie.close
     (tie.spec returns node-count-requires returns-2 slots-fit-requires returns-3 mul-zeros-from add-zeros-from zeros-from-requires returns-4
-        spelled-requires returns-5)
+    spelled-requires returns-5)

@@ -25,7 +25,9 @@ returns : tie.Need-returns Inv-loop μ-loop
 returns c =
     let a = c .before .before .before .before .before .args in
     let k = c .before .before .before .loop .k in
-    sym (failed-one (λ i. slotFits (a .labels) (slotAt (a .formula .now) i)) 0 (a .count) k (omega arith) (omega (arith, c .before .before .loop-test .taken)) (sym (c .before .slot-fits .ensures) ∙ not-true (c .before .slot-fits .result) (c .if1 .taken)))
+    let fails = sym (c .before .slot-fits .ensures) ∙ not-true (c .before .slot-fits .result) (c .if1 .taken) in
+    let below = c .before .before .loop-test .taken in
+    sym (failed-one (λ i. slotFits (a .labels) (slotAt (a .formula .now) i)) 0 (a .count) k (omega arith) (omega (arith, below)) fails)
 
 add-k : tie.Need-add-k Inv-loop μ-loop
 add-k c = omega arith
@@ -36,13 +38,15 @@ loop-less c = omega arith
 loop-again : tie.Need-loop-again Inv-loop μ-loop
 loop-again c =
     let a = c .before .before .before .before .before .args in
-    let k = c .before .before .before .loop .k in
-    (omega arith, passed-more (λ i. slotFits (a .labels) (slotAt (a .formula .now) i)) 0 k (c .before .before .before .loop .inv .1) (sym (c .before .slot-fits .ensures) ∙ not-false (c .before .slot-fits .result) (c .if1 .left)))
+    let turn = c .before .before .before .loop in
+    let fits = sym (c .before .slot-fits .ensures) ∙ not-false (c .before .slot-fits .result) (c .if1 .left) in
+    (omega arith, passed-more (λ i. slotFits (a .labels) (slotAt (a .formula .now) i)) 0 (turn .k) (turn .inv .1) fits)
 
 returns-2 : tie.Need-returns-2 Inv-loop μ-loop
 returns-2 c =
     let a = c .before .before .before .args in
-    sym (passed-all (λ i. slotFits (a .labels) (slotAt (a .formula .now) i)) 0 (a .count) (c .before .loop .k) (omega (arith, c .loop-test .left)) (c .before .loop .inv .1))
+    let turn = c .before .loop in
+    sym (passed-all (λ i. slotFits (a .labels) (slotAt (a .formula .now) i)) 0 (a .count) (turn .k) (omega (arith, c .loop-test .left)) (turn .inv .1))
 
 pub slots-fit-spec : {M : Type 1} → statement M
 slots-fit-spec =

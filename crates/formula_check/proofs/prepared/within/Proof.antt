@@ -9,7 +9,9 @@ returns : tie.Need-returns
 returns c = sym (odd-outside (c .before .args .labels) (c .before .args .set) (c .if1 .taken))
 
 returns-2 : tie.Need-returns-2
-returns-2 c = sym (all-within (c .before .before .args .labels) (c .before .before .args .set) (c .before .if1 .left) (c .before .before .fits .set .fits) (c .if2 .taken))
+returns-2 c =
+    let start = c .before .before in
+    sym (all-within (start .args .labels) (start .args .set) (c .before .if1 .left) (start .fits .set .fits) (c .if2 .taken))
 
 add-result : tie.Need-add-result
 add-result c = search needs

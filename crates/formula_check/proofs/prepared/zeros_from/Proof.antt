@@ -23,10 +23,14 @@ zeros-requires c κs = search needs
 
 module _ (b : List ℕ) (from : ℕ) (few : from ≤ formulaLength) where
   each : zerosFrom b from ≡ true → ZerosFrom b from formulaLength
-  each e k l m = eqb-true (getD b k 0) 0 (every-of (λ i. eqb (getD b i 0) 0) (upFrom from (formulaLength - from)) e k (upFrom-to from (formulaLength - from) k l (omega arith)))
+  each e k l m =
+      let numbers = upFrom from (formulaLength - from) in
+      eqb-true (getD b k 0) 0 (every-of (λ i. eqb (getD b i 0) 0) numbers e k (upFrom-to from (formulaLength - from) k l (omega arith)))
 
   decided : (r : Bool) → Decides (ZerosFrom b from formulaLength) r → r ≡ zerosFrom b from
-  decided true d = sym (passed-all (λ i. eqb (getD b i 0) 0) from (formulaLength - from) formulaLength (omega arith) (λ i l m. eq-eqb (getD b i 0) 0 (d .yes refl i l m)))
+  decided true d = sym (
+      passed-all (λ i. eqb (getD b i 0) 0) from (formulaLength - from) formulaLength (omega arith)
+      (λ i l m. eq-eqb (getD b i 0) 0 (d .yes refl i l m)))
   decided false d = go (zerosFrom b from) refl
     where
       go : (t : Bool) → zerosFrom b from ≡ t → false ≡ t

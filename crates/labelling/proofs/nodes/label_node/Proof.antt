@@ -16,10 +16,14 @@ use Rattle.labelling.proofs.nodes.label_node.Statement.{statement}
 use Rattle.labelling.proofs.nodes.label_node.Tie as tie
 
 abbrev AtOnce : tie.Start → List Bool → Node → Type 0
-AtOnce c flags n = Flags (tableIn (c .args .table .now) .states) (λ s. atOnce n (flagAt (c .args .arm .now)) (flagAt (c .args .other .now)) s (stepsFrom (tableIn (c .args .table .now)) s)) flags
+AtOnce c flags n =
+    let t = tableIn (c .args .table .now) in
+    Flags (t .states) (λ s. atOnce n (flagAt (c .args .arm .now)) (flagAt (c .args .other .now)) s (stepsFrom t s)) flags
 
 abbrev Wanted : tie.Start → List Bool → Node → Type 0
-Wanted c flags n = Flags (tableIn (c .args .table .now) .states) (nodeHolds (tableIn (c .args .table .now)) n (flagAt (c .args .arm .now)) (flagAt (c .args .other .now))) flags
+Wanted c flags n =
+    let t = tableIn (c .args .table .now) in
+    Flags (t .states) (nodeHolds t n (flagAt (c .args .arm .now)) (flagAt (c .args .other .now))) flags
 
 -- The steps in the arrays are the table's.
 at-once : (c : tie.After-label-at-once) → AtOnce (c .before .before .before) (c .label-at-once .result) (c .before .before .before .args .node)
@@ -29,7 +33,10 @@ at-once c =
     let t = tableIn (a .table .now) in
     let once : ℕ → Bool = λ s. atOnce (a .node) (flagAt (a .arm .now)) (flagAt (a .other .now)) s (stepsIn (a .steps .now) (a .firsts .now) s) in
     let found = subst (λ n. Flags n once (c .label-at-once .result)) (c .before .state-count .ensures .count) (c .label-at-once .ensures) in
-    flags-same (λ s h. ap (atOnce (a .node) (flagAt (a .arm .now)) (flagAt (a .other .now)) s) (start .pre .1 .0 .leaving s (omega (arith, start .pre .0 .in-range .few-states)))) found
+    let few = start .pre .0 .in-range .few-states in
+    flags-same
+    (λ s h. ap (atOnce (a .node) (flagAt (a .arm .now)) (flagAt (a .other .now)) s) (start .pre .1 .0 .leaving s (omega (arith, few))))
+    found
 
 state-count-requires : tie.Need-state-count-requires
 state-count-requires c κs = c .before .pre .0 .long
@@ -66,61 +73,43 @@ enum-known-node-2 c = search needs
 until-requires-2 : tie.Need-until-requires-2
 until-requires-2 c κs = search needs
 
+-- A node that is known: what holds at once makes what is wanted.
+settled : (c : tie.After-label-at-once) (flags : List Bool) {n : Node} → c .before .before .before .args .node ≡ n
+    → (AtOnce (c .before .before .before) (c .label-at-once .result) n → Wanted (c .before .before .before) flags n)
+    → Wanted (c .before .before .before) flags (c .before .before .before .args .node)
+settled c flags e wanted =
+    let start = c .before .before .before in
+    subst (Wanted start flags) (sym e) (wanted (subst (AtOnce start (c .label-at-once .result)) e (at-once c)))
+
 returns : tie.Need-returns
-returns c =
-    let start = c .before .before .before .before .before in
-    let known = c .before .before in
-    let found = known .label-at-once in
-    subst (Wanted start (found .result)) (sym (c .enum-told .given .1)) (subst (AtOnce start (found .result)) (c .enum-told .given .1) (at-once known))
+returns c = settled (c .before .before) _ (c .enum-told .given .1) (λ once. once)
 
 returns-2 : tie.Need-returns-2
-returns-2 c =
-    let start = c .before .before .before .before .before in
-    let known = c .before .before in
-    let found = known .label-at-once in
-    subst (Wanted start (found .result)) (sym (c .enum-told2 .given .1)) (subst (AtOnce start (found .result)) (c .enum-told2 .given .1) (at-once known))
+returns-2 c = settled (c .before .before) _ (c .enum-told2 .given .1) (λ once. once)
 
 returns-3 : tie.Need-returns-3
-returns-3 c =
-    let start = c .before .before .before .before .before in
-    let known = c .before .before in
-    let found = known .label-at-once in
-    subst (Wanted start (found .result)) (sym (c .enum-told3 .given .1)) (subst (AtOnce start (found .result)) (c .enum-told3 .given .1) (at-once known))
+returns-3 c = settled (c .before .before) _ (c .enum-told3 .given .1) (λ once. once)
 
 returns-4 : tie.Need-returns-4
-returns-4 c =
-    let start = c .before .before .before .before .before in
-    let known = c .before .before in
-    let found = known .label-at-once in
-    subst (Wanted start (found .result)) (sym (c .enum-told4 .given .1)) (subst (AtOnce start (found .result)) (c .enum-told4 .given .1) (at-once known))
+returns-4 c = settled (c .before .before) _ (c .enum-told4 .given .1) (λ once. once)
 
 returns-5 : tie.Need-returns-5
-returns-5 c =
-    let start = c .before .before .before .before .before in
-    let known = c .before .before in
-    let found = known .label-at-once in
-    subst (Wanted start (found .result)) (sym (c .enum-told5 .given .1)) (subst (AtOnce start (found .result)) (c .enum-told5 .given .1) (at-once known))
+returns-5 c = settled (c .before .before) _ (c .enum-told5 .given .1) (λ once. once)
 
 returns-6 : tie.Need-returns-6
 returns-6 c =
-    let start = c .before .before .before .before .before .before .before .before in
     let known = c .before .before .before .before .before in
-    let found = known .label-at-once in
-    let same = c .before .before .before .node .given .1 in
-    subst (Wanted start (c .until .result)) (sym same)
-    (until-flags _ (start .pre .0 .in-range) _ _ (found .result) (c .until .result) (subst (AtOnce start (found .result)) same (at-once known)) (c .until .ensures))
+    let in-range = known .before .before .before .pre .0 .in-range in
+    settled known _ (c .before .before .before .node .given .1) (λ once. until-flags _ in-range _ _ _ _ once (c .until .ensures))
 
 returns-7 : tie.Need-returns-7
 returns-7 c =
-    let start = c .before .before .before .before .before .before .before .before in
     let known = c .before .before .before .before .before in
-    let found = known .label-at-once in
-    let same = c .before .before .before .node2 .given .1 in
-    subst (Wanted start (c .until2 .result)) (sym same)
-    (until-flags _ (start .pre .0 .in-range) _ _ (found .result) (c .until2 .result) (subst (AtOnce start (found .result)) same (at-once known)) (c .until2 .ensures))
+    let in-range = known .before .before .before .pre .0 .in-range in
+    settled known _ (c .before .before .before .node2 .given .1) (λ once. until-flags _ in-range _ _ _ _ once (c .until2 .ensures))
 
 pub label-node-spec : {M : Type 1} → statement M
 label-node-spec =
     tie.close
     (tie.spec state-count-requires label-at-once-requires enum-told enum-told-2 enum-told-3 enum-told-4 enum-told-5 enum-known-node
-        until-requires enum-known-node-2 until-requires-2 returns returns-2 returns-3 returns-4 returns-5 returns-6 returns-7)
+    until-requires enum-known-node-2 until-requires-2 returns returns-2 returns-3 returns-4 returns-5 returns-6 returns-7)

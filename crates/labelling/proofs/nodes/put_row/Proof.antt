@@ -35,7 +35,10 @@ loop-less : tie.Need-loop-less Inv-loop μ-loop
 loop-less c = omega (arith, c .before .loop-test .taken)
 
 loop-again : tie.Need-loop-again Inv-loop μ-loop
-loop-again c = (omega (arith, c .before .loop-test .taken), row-put-on _ _ _ (c .before .before .loop .s) _ (c .before .before .before .pre .0) (c .before .loop-test .taken) (c .before .before .loop .inv .1))
+loop-again c =
+    let taken = c .before .loop-test .taken in
+    let turn = c .before .before in
+    (omega (arith, taken), row-put-on _ _ _ (turn .loop .s) _ (turn .before .pre .0) taken (turn .loop .inv .1))
 
 returns : tie.Need-returns Inv-loop μ-loop
 returns c = row-put-all _ _ _ (c .before .loop .s) (c .loop-test .left) (c .before .loop .inv .1)

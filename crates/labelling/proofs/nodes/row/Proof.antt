@@ -52,4 +52,4 @@ pub row-spec : {M : Type 1} → statement M
 row-spec =
     tie.close
     (tie.spec Inv-loop μ-loop returns loop-holds mul-found add-found element-copy-out-found array-write-found add-s loop-less loop-again
-        returns-2)
+    returns-2)

@@ -66,12 +66,14 @@ returns-2 c = sym (ap (value (c .before .before .before)) (c .before .enum-told2
 returns-3 : tie.Need-returns-3
 returns-3 c =
     let start = c .before .before .before .before in
-    c .if1 .taken ∙ (sym (or-true-left _ (flagAt (start .args .other .now) (start .args .s)) (c .if1 .taken)) ∙ sym (ap (value start) (c .before .before .enum-told3 .given .1)))
+    let either = or-true-left _ (flagAt (start .args .other .now) (start .args .s)) (c .if1 .taken) in
+    c .if1 .taken ∙ (sym either ∙ sym (ap (value start) (c .before .before .enum-told3 .given .1)))
 
 returns-4 : tie.Need-returns-4
 returns-4 c =
     let start = c .before .before .before .before .before in
-    sym (ap (λ b. b || flagAt (start .args .other .now) (start .args .s)) (c .before .if1 .left)) ∙ sym (ap (value start) (c .before .before .before .enum-told3 .given .1))
+    sym (ap (λ b. b || flagAt (start .args .other .now) (start .args .s)) (c .before .if1 .left))
+    ∙ sym (ap (value start) (c .before .before .before .enum-told3 .given .1))
 
 returns-5 : tie.Need-returns-5
 returns-5 c = c .some-step .ensures ∙ sym (ap (value (c .before .before .before .before)) (c .before .before .node .given .1))
@@ -81,7 +83,8 @@ returns-6 c =
     let start = c .before .before .before .before in
     let steps = stepsIn (start .args .steps .now) (start .args .firsts .now) (start .args .s) in
     ap not (c .some-step2 .ensures)
-    ∙ (every-not-some (leadsTo (condIn (c .before .before .node2 .given .0 .0)) (flagAt (start .args .arm .now))) steps ∙ sym (ap (value start) (c .before .before .node2 .given .1)))
+    ∙ (every-not-some (leadsTo (condIn (c .before .before .node2 .given .0 .0)) (flagAt (start .args .arm .now))) steps
+    ∙ sym (ap (value start) (c .before .before .node2 .given .1)))
 
 returns-7 : tie.Need-returns-7
 returns-7 c = sym (ap (value (c .before .before .before)) (c .before .enum-told4 .given .1))
@@ -94,5 +97,5 @@ pub at-once-spec : {M : Type 1} → statement M
 at-once-spec =
     tie.close
     (tie.spec enum-told enum-told-2 element-copy-out-result enum-told-3 element-copy-out-if1 element-copy-out-result-2 enum-known-node
-        some-step-requires enum-known-node-2 some-step-requires-2 enum-told-4 element-copy-out-result-3 enum-known-node-3
-        some-step-requires-3 returns returns-2 returns-3 returns-4 returns-5 returns-6 returns-7 returns-8)
+    some-step-requires enum-known-node-2 some-step-requires-2 enum-told-4 element-copy-out-result-3 enum-known-node-3
+    some-step-requires-3 returns returns-2 returns-3 returns-4 returns-5 returns-6 returns-7 returns-8)

@@ -36,7 +36,10 @@ loop-less : tie.Need-loop-less Inv-loop μ-loop
 loop-less c = omega arith
 
 loop-again : tie.Need-loop-again Inv-loop μ-loop
-loop-again c = (omega (arith, c .before .loop-test .taken), flags-on _ (c .before .before .loop .s) (c .at-once .result) (state (c .before)) (c .at-once .ensures) (c .before .before .loop .inv .1))
+loop-again c =
+    let turn = c .before in
+    let loop = turn .before .loop in
+    (omega (arith, turn .loop-test .taken), flags-on _ (loop .s) (c .at-once .result) (state turn) (c .at-once .ensures) (loop .inv .1))
 
 returns : tie.Need-returns Inv-loop μ-loop
 returns c = flags-all _ _ (c .before .loop .s) (c .loop-test .left) (c .before .loop .inv .1)

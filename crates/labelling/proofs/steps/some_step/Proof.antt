@@ -16,7 +16,8 @@ use Rattle.labelling.proofs.steps.some_step.Tie as tie
 
 abbrev Inv-loop : tie.InvT-loop
 Inv-loop steps firsts wanted condition arm s end k₀ k = (spanOf firsts s .from ≤ k) × (end ≡ spanOf firsts s .to)
-    × (someStep wanted (condIn condition) (flagAt arm) (stepsIn steps firsts s) ≡ anyOf (leadsAsWanted wanted (condIn condition) (flagAt arm)) (stepsBetween steps s k end))
+    × (someStep wanted (condIn condition) (flagAt arm) (stepsIn steps firsts s)
+    ≡ anyOf (leadsAsWanted wanted (condIn condition) (flagAt arm)) (stepsBetween steps s k end))
 
 abbrev μ-loop : tie.MeasureT-loop
 μ-loop steps firsts wanted condition arm s end k₀ k = end - k
@@ -75,7 +76,9 @@ leads-requires : tie.Need-leads-requires Inv-loop μ-loop
 leads-requires c κs =
     let loop = c .before .before .before .before .before in
     let start = loop .before .before in
-    let carried = start .pre .0 .labelled (start .args .s) (loop .loop .k) (start .pre .1) (loop .loop .inv .0) (omega (arith, c .before .before .before .before .loop-test .taken, loop .loop .inv .1)) in
+    let below = c .before .before .before .before .loop-test .taken in
+    let inv = loop .loop .inv in
+    let carried = start .pre .0 .labelled (start .args .s) (loop .loop .k) (start .pre .1) (inv .0) (omega (arith, below, inv .1)) in
     subst Carried (sym (c .before .label-of .ensures)) carried
 
 returns : tie.Need-returns Inv-loop μ-loop
@@ -109,4 +112,4 @@ pub some-step-spec : {M : Type 1} → statement M
 some-step-spec =
     tie.close
     (tie.spec Inv-loop μ-loop leaving-requires loop-holds mul-step element-copy-out-step state-of-requires label-of-requires
-        element-copy-out-leads leads-requires returns add-k loop-less loop-again returns-2)
+    element-copy-out-leads leads-requires returns add-k loop-less loop-again returns-2)

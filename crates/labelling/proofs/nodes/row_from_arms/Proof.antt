@@ -1,0 +1,66 @@
+-- `row_from_arms` meets its contract: the row of node k follows from those of its arms.
+use mathlib.Core.Path.{_≡_, _∙_}
+use Prim.Native.Nat.{ℕ, _<_, _+_}
+use native.Mathlib.Omega.{arith}
+use lib.ListN.{getD}
+use Rattle.actl.specs.Sizes.{mostNodes}
+use Rattle.lts.specs.Steps.{labels}
+use Rattle.lts.specs.Prepared.{tableIn}
+use Rattle.actl.specs.Formulas.{tru, size, nodes}
+use Rattle.actl.proofs.Laws.Prepared.{prepared-few, prepared-count, prepared-slot}
+use Rattle.labelling.proofs.Laws.Nodes.{node-row}
+use Rattle.labelling.proofs.Laws.Prepared.{formula-long, formula-few, formula-shaped}
+use borrow.Author.Needs.{needs}
+use Rattle.labelling.proofs.nodes.row_from_arms.Statement.{statement}
+use Rattle.labelling.proofs.nodes.row_from_arms.Tie as tie
+
+few : (c : tie.Start) → c .args .k < mostNodes
+few c = omega (arith, c .pre .inside, formula-few _ _ (c .pre .formula-held))
+
+node-at-requires : tie.Need-node-at-requires
+node-at-requires c κs =
+    let start = c .before .before in
+    let held = start .pre .formula-held in
+    (formula-long _ _ held, (few start, formula-shaped _ _ held (start .args .k) (start .pre .inside)))
+
+add-row : tie.Need-add-row
+add-row c = omega (arith, few (c .before .before .before))
+
+row-requires : tie.Need-row-requires
+row-requires c κs = search needs
+
+right-arm-requires : tie.Need-right-arm-requires
+right-arm-requires c κs = few (c .before .before .before .before)
+
+row-requires-2 : tie.Need-row-requires-2
+row-requires-2 c κs = search needs
+
+label-node-requires : tie.Need-label-node-requires
+label-node-requires c κs =
+    let ready = c .before .before .before .before .before .before .before .before .pre in
+    (ready .table-held, (ready .steps-of, ready .linked))
+
+returns : tie.Need-returns
+returns c =
+    let right = c .before .before .before .before in
+    let arm = right .before in
+    let read = arm .before in
+    let start = read .before .before .before in
+    let ready = start .pre in
+    let n = labels (tableIn (start .args .table .now)) in
+    let b = start .args .formula .now in
+    let k = start .args .k in
+    record {
+      found = λ F e.
+          let here : k < size F = omega (arith, ready .inside, prepared-count n b e) in
+          let behind-left : k + 1 < size F → right .right-arm .result ≡ k + 1 + size (getD (nodes F) (k + 1) tru) =
+          λ l. right .right-arm .ensures (omega (arith, prepared-few n b e)) ∙ ready .arms-end .arms-end F e (k + 1) l in
+          node-row (tableIn (start .args .table .now)) (ready .table-held .in-range) F (prepared-few n b e) k here _ (ready .rows-behind .rows F e)
+          _ _ (arm .row .ensures) _ behind-left (c .before .before .before .row2 .ensures)
+          (read .node-at .result) (read .node-at .ensures ∙ prepared-slot n b e k here) _ (c .label-node .ensures);
+    }
+
+pub row-from-arms-spec : {M : Type 1} → statement M
+row-from-arms-spec =
+    tie.close
+    (tie.spec node-at-requires add-row row-requires right-arm-requires row-requires-2 label-node-requires returns)
