@@ -3,8 +3,9 @@ use actl::sizes::FORMULA_LENGTH;
 use actl::sizes::NODE_SLOT;
 use actl::sizes::NODES;
 use formula_classes::spelled;
-use formulas::node::mask;
+use formulas::node::first_mask;
 use formulas::node::node_count;
+use formulas::node::second_mask;
 use table_check::zeros;
 ghost use mathlib.Core.Path.{_≡_};
 ghost use mathlib.Core.Bool.{_&&_, _||_};
@@ -64,8 +65,8 @@ fn slot_fits(labels: usize, formula: &[u8], k: usize) -> bool
         return false;
     }
     let masks = masks_of(kind);
-    let first = mask_fits(labels, mask(formula, 2 + k * NODE_SLOT), 1 <= masks);
-    let second = mask_fits(labels, mask(formula, 10 + k * NODE_SLOT), masks == 2);
+    let first = mask_fits(labels, first_mask(formula, k), 1 <= masks);
+    let second = mask_fits(labels, second_mask(formula, k), masks == 2);
     first && second
 }
 

@@ -9,7 +9,7 @@ use lib.ListN.{length, take, drop}
 use lib.Seq.{length-take-le, drop-at}
 use Rattle.actl.specs.Sizes.{nodeSlotLength}
 use Rattle.actl.specs.Actions.{Cond, silent, labels}
-use Rattle.actl.specs.Formulas.{Formula, tru, not, or, ex, ax, eu, euThen}
+use Rattle.actl.specs.Formulas.{Formula, tru, not, or, ex, ax, eu, euThen, isT}
 use Rattle.actl.specs.Prepared.{Slot, slotOf, slotBytes, slotAt}
 use Rattle.actl.specs.Shaped.{shaped}
 use Rattle.actl.specs.NodeBytes.{putAt}
@@ -50,47 +50,44 @@ nodeIn s =
     cond (eqb (s .kind) 7) (Ax (Labels (s .first))) (
     cond (eqb (s .kind) 8) (Until (s .first)) (UntilThen (s .first) (s .second)))))))))
 
-pub node-in-slot : (n : Node) → nodeIn (slotOfNode n) ≡ n
-unfolding nodeIn
-node-in-slot True = refl
-node-in-slot Not = refl
-node-in-slot Or = refl
-node-in-slot (Ex Silent) = refl
-node-in-slot (Ex (Labels m)) = refl
-node-in-slot (Ax Silent) = refl
-node-in-slot (Ax (Labels m)) = refl
-node-in-slot (Until a) = refl
-node-in-slot (UntilThen a b) = refl
+-- The slot of a node is in shape, and it is that node's only.
+slot-of-node : (n : Node) → (nodeIn (slotOfNode n) ≡ n) × (shaped (slotOfNode n) ≡ true)
+unfolding nodeIn shaped
+slot-of-node True = (refl, refl)
+slot-of-node Not = (refl, refl)
+slot-of-node Or = (refl, refl)
+slot-of-node (Ex Silent) = (refl, refl)
+slot-of-node (Ex (Labels m)) = (refl, refl)
+slot-of-node (Ax Silent) = (refl, refl)
+slot-of-node (Ax (Labels m)) = (refl, refl)
+slot-of-node (Until a) = (refl, refl)
+slot-of-node (UntilThen a b) = (refl, refl)
 
-formula-in-slot : (f : Formula) → nodeIn (slotOf f) ≡ nodeOf f
+pub node-in-slot : (n : Node) → nodeIn (slotOfNode n) ≡ n
+node-in-slot n = slot-of-node n .0
+
+-- The slot of a formula is its root's, and its kind tells whether that is T.
+formula-in-slot : (f : Formula) → (nodeIn (slotOf f) ≡ nodeOf f) × (eqb (slotOf f .kind) 1 ≡ isT f)
 unfolding nodeIn
-formula-in-slot tru = refl
-formula-in-slot (not f) = refl
-formula-in-slot (or f g) = refl
-formula-in-slot (ex silent f) = refl
-formula-in-slot (ex (labels m) f) = refl
-formula-in-slot (ax silent f) = refl
-formula-in-slot (ax (labels m) f) = refl
-formula-in-slot (eu a f) = refl
-formula-in-slot (euThen a b f) = refl
+formula-in-slot tru = (refl, refl)
+formula-in-slot (not f) = (refl, refl)
+formula-in-slot (or f g) = (refl, refl)
+formula-in-slot (ex silent f) = (refl, refl)
+formula-in-slot (ex (labels m) f) = (refl, refl)
+formula-in-slot (ax silent f) = (refl, refl)
+formula-in-slot (ax (labels m) f) = (refl, refl)
+formula-in-slot (eu a f) = (refl, refl)
+formula-in-slot (euThen a b f) = (refl, refl)
 
 pub node-of-slot : (n : Node) (f : Formula) → slotOfNode n ≡ slotOf f → n ≡ nodeOf f
-node-of-slot n f e = sym (node-in-slot n) ∙ (ap nodeIn e ∙ formula-in-slot f)
+node-of-slot n f e = sym (node-in-slot n) ∙ (ap nodeIn e ∙ formula-in-slot f .0)
 
-node-slot-shaped : (n : Node) → shaped (slotOfNode n) ≡ true
-unfolding shaped
-node-slot-shaped True = refl
-node-slot-shaped Not = refl
-node-slot-shaped Or = refl
-node-slot-shaped (Ex Silent) = refl
-node-slot-shaped (Ex (Labels m)) = refl
-node-slot-shaped (Ax Silent) = refl
-node-slot-shaped (Ax (Labels m)) = refl
-node-slot-shaped (Until a) = refl
-node-slot-shaped (UntilThen a b) = refl
+pub T-by-kind : (f : Formula) → eqb (slotOf f .kind) 1 ≡ isT f
+T-by-kind f = formula-in-slot f .1
 
 -- What `put_node` leaves, `node_at` may read, and it reads that node: masks are of 64 bits.
-module _ (k : ℕ) (n : Node) (b : List ℕ) (room : 1 + k * nodeSlotLength + nodeSlotLength ≤ length b) (first : slotOfNode n .first < 256 ^ 8) (second : slotOfNode n .second < 256 ^ 8) where
+module _ (k : ℕ) (n : Node) (b : List ℕ) (room : 1 + k * nodeSlotLength + nodeSlotLength ≤ length b)
+    (first : slotOfNode n .first < 256 ^ 8) (second : slotOfNode n .second < 256 ^ 8) where
   pub slot-put : slotAt (putAt k (slotOfNode n) b) k ≡ slotOfNode n
   slot-put =
       let at = 1 + k * nodeSlotLength in
@@ -101,7 +98,7 @@ module _ (k : ℕ) (n : Node) (b : List ℕ) (room : 1 + k * nodeSlotLength + no
       sym (slot-by-parts (slotAt (putAt k s b) k) (f .same-kind) (f .same-first first) (f .same-second second))
 
   pub shaped-put : shaped (slotAt (putAt k (slotOfNode n) b) k) ≡ true
-  shaped-put = ap shaped slot-put ∙ node-slot-shaped n
+  shaped-put = ap shaped slot-put ∙ slot-of-node n .1
 
   pub node-put : (r : Node) → slotOfNode r ≡ slotAt (putAt k (slotOfNode n) b) k → r ≡ n
   node-put r e = sym (node-in-slot r) ∙ (ap nodeIn (e ∙ slot-put) ∙ node-in-slot n)

@@ -7,9 +7,9 @@ ghost use lib.ListN.{length, getD, drop};
 ghost use Rattle.columns.specs.Bytes.{lowFirst};
 ghost use Rattle.columns.specs.Write.{pasted};
 ghost use Rattle.actl.specs.Sizes.{mostNodes, nodeSlotLength, formulaLength};
-ghost use Rattle.actl.specs.Prepared.{number, slot, slotAt};
+ghost use Rattle.actl.specs.Prepared.{number, slot, nextSlot, slotAt};
 ghost use Rattle.actl.specs.NodeBytes.{putAt};
-ghost use Rattle.formulas.specs.Access.{slotOfNode};
+ghost use Rattle.formulas.specs.Access.{fourBytes, condIn, slotOfNode};
 ghost use Rattle.actl.specs.Shaped.{shaped};
 
 // 01: "A step condition is either the silent step or a set of labels." Bit a of a mask is label a.
@@ -39,7 +39,7 @@ fn wide(byte: u8) -> u64
 // Four bytes as a number, the low one first.
 fn half(formula: &[u8], at: usize) -> u64
     requires { ⌜ at + 4 ≤ length (now formula) ⌝ }
-    ensures { λ r. ⌜ r ≡ number 4 (drop at (now (formula .entry))) ⌝ }
+    ensures { λ r. ⌜ r ≡ fourBytes (now (formula .entry)) at ⌝ }
     ensures { λ r. ⌜ r < 4294967296 ⌝ }
 {
     let low = wide(formula[at]) + wide(formula[at + 1]) * 256;
@@ -48,11 +48,26 @@ fn half(formula: &[u8], at: usize) -> u64
 }
 
 // Eight bytes as a number, the low one first: a label mask.
-pub fn mask(formula: &[u8], at: usize) -> u64
+fn mask(formula: &[u8], at: usize) -> u64
     requires { ⌜ at + 8 ≤ length (now formula) ⌝ }
     ensures { λ r. ⌜ r ≡ number 8 (drop at (now (formula .entry))) ⌝ }
 {
     half(formula, at) + half(formula, at + 4) * 4294967296
+}
+
+// The masks in the slot of node k.
+pub fn first_mask(formula: &[u8], k: usize) -> u64
+    requires { ⌜ (formulaLength ≤ length (now formula)) × (k < mostNodes) ⌝ }
+    ensures { λ r. ⌜ r ≡ slotAt (now (formula .entry)) k .first ⌝ }
+{
+    mask(formula, 2 + k * NODE_SLOT)
+}
+
+pub fn second_mask(formula: &[u8], k: usize) -> u64
+    requires { ⌜ (formulaLength ≤ length (now formula)) × (k < mostNodes) ⌝ }
+    ensures { λ r. ⌜ r ≡ slotAt (now (formula .entry)) k .second ⌝ }
+{
+    mask(formula, 10 + k * NODE_SLOT)
 }
 
 pub fn node_count(formula: &[u8]) -> usize
@@ -74,14 +89,11 @@ pub fn node_at(formula: &[u8], k: usize) -> Node
         2 => Node::Not,
         3 => Node::Or,
         4 => Node::Ex(Condition::Silent),
-        5 => Node::Ex(Condition::Labels(mask(formula, 2 + k * NODE_SLOT))),
+        5 => Node::Ex(Condition::Labels(first_mask(formula, k))),
         6 => Node::Ax(Condition::Silent),
-        7 => Node::Ax(Condition::Labels(mask(formula, 2 + k * NODE_SLOT))),
-        8 => Node::Until(mask(formula, 2 + k * NODE_SLOT)),
-        _ => Node::UntilThen(
-            mask(formula, 2 + k * NODE_SLOT),
-            mask(formula, 10 + k * NODE_SLOT),
-        ),
+        7 => Node::Ax(Condition::Labels(first_mask(formula, k))),
+        8 => Node::Until(first_mask(formula, k)),
+        _ => Node::UntilThen(first_mask(formula, k), second_mask(formula, k)),
     }
 }
 
@@ -102,6 +114,17 @@ fn slot_with(kind: u8, first: u64, second: u64) -> Slot
     }
 }
 
+// The slot of EX or AX: the kind of the silent step, and of a set the kind behind it.
+fn next_slot(kind: u8, condition: Condition) -> Slot
+    requires { ⌜ kind < 255 ⌝ }
+    ensures { λ r. ⌜ slot (r .kind) (r .first) (r .second) ≡ nextSlot kind (condIn condition) ⌝ }
+{
+    match condition {
+        Condition::Silent => slot_with(kind, 0, 0),
+        Condition::Labels(set) => slot_with(kind + 1, set, 0),
+    }
+}
+
 fn slot_of(node: Node) -> Slot
     ensures { λ r. ⌜ slot (r .kind) (r .first) (r .second) ≡ slotOfNode node ⌝ }
 {
@@ -109,14 +132,8 @@ fn slot_of(node: Node) -> Slot
         Node::True => slot_with(1, 0, 0),
         Node::Not => slot_with(2, 0, 0),
         Node::Or => slot_with(3, 0, 0),
-        Node::Ex(condition) => match condition {
-            Condition::Silent => slot_with(4, 0, 0),
-            Condition::Labels(set) => slot_with(5, set, 0),
-        },
-        Node::Ax(condition) => match condition {
-            Condition::Silent => slot_with(6, 0, 0),
-            Condition::Labels(set) => slot_with(7, set, 0),
-        },
+        Node::Ex(condition) => next_slot(4, condition),
+        Node::Ax(condition) => next_slot(6, condition),
         Node::Until(set) => slot_with(8, set, 0),
         Node::UntilThen(first, second) => slot_with(9, first, second),
     }
@@ -142,7 +159,8 @@ pub fn put_node(formula: &mut [u8], k: usize, node: Node)
     ensures { λ r. ⌜ now (formula .exit) ≡ putAt k (slotOfNode node) (now (formula .entry)) ⌝ }
 {
     let slot = slot_of(node);
-    formula[1 + k * NODE_SLOT] = slot.kind;
-    put_mask(formula, 2 + k * NODE_SLOT, slot.first);
-    put_mask(formula, 10 + k * NODE_SLOT, slot.second);
+    let at = 1 + k * NODE_SLOT;
+    formula[at] = slot.kind;
+    put_mask(formula, at + 1, slot.first);
+    put_mask(formula, at + 9, slot.second);
 }

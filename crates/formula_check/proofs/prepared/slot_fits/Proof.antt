@@ -33,26 +33,14 @@ returns-2 c =
 masks-of-requires : tie.Need-masks-of-requires
 masks-of-requires c κs = search needs
 
-mul-mask : tie.Need-mul-mask
-mul-mask c = search needs
-
-add-mask : tie.Need-add-mask
-add-mask c = search needs
-
-mask-requires : tie.Need-mask-requires
-mask-requires c κs = search needs
+first-mask-requires : tie.Need-first-mask-requires
+first-mask-requires c κs = search needs
 
 mask-fits-requires : tie.Need-mask-fits-requires
 mask-fits-requires c κs = search needs
 
-mul-mask-2 : tie.Need-mul-mask-2
-mul-mask-2 c = search needs
-
-add-mask-2 : tie.Need-add-mask-2
-add-mask-2 c = search needs
-
-mask-requires-2 : tie.Need-mask-requires-2
-mask-requires-2 c κs = search needs
+second-mask-requires : tie.Need-second-mask-requires
+second-mask-requires c κs = search needs
 
 mask-fits-requires-2 : tie.Need-mask-fits-requires-2
 mask-fits-requires-2 c κs = search needs
@@ -74,8 +62,8 @@ module _ (c : tie.After-mask-fits2) where
   both : (c .before .before .mask-fits .result && c .mask-fits2 .result) ≡ slotFits n s
   both =
       let count = c .before .before .before .before .masks-of .ensures in
-      let m = c .before .before .before .mask .ensures in
-      let o = c .before .mask2 .ensures in
+      let m = c .before .before .before .first-mask .ensures in
+      let o = c .before .second-mask .ensures in
       let first : c .before .before .mask-fits .result ≡ ((firstUsed (s .kind) || eqb (s .first) 0) && maskWithin n (s .first)) =
       c .before .before .mask-fits .ensures ∙ (λ i. (count .0 i || eqb (m i) 0) && maskWithin n (m i)) in
       let second : c .mask-fits2 .result ≡ ((secondUsed (s .kind) || eqb (s .second) 0) && maskWithin n (s .second)) =
@@ -91,5 +79,5 @@ returns-4 c = c .if3 .left ∙ (sym (ap (λ t. t && c .before .mask-fits2 .resul
 pub slot-fits-spec : {M : Type 1} → statement M
 slot-fits-spec =
     tie.close
-    (tie.spec mul-kind add-kind shared-slice-read-kind returns returns-2 masks-of-requires mul-mask add-mask mask-requires
-    mask-fits-requires mul-mask-2 add-mask-2 mask-requires-2 mask-fits-requires-2 returns-3 returns-4)
+    (tie.spec mul-kind add-kind shared-slice-read-kind returns returns-2 masks-of-requires first-mask-requires mask-fits-requires
+    second-mask-requires mask-fits-requires-2 returns-3 returns-4)

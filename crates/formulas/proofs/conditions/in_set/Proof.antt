@@ -20,15 +20,11 @@ shr-result c = omega (arith, carried-heard (c .before .before .pre) (sym (c .bef
 
 returns : tie.Need-returns
 unfolding inSet
-returns c =
-    let e : silent (c .before .before .args .label) ≡ true = sym (c .before .is-silent .ensures) ∙ c .if1 .taken in
-    rw e
+returns c = rw (sym (c .before .is-silent .ensures) ∙ c .if1 .taken)
 
 returns-2 : tie.Need-returns-2
 unfolding inSet
-returns-2 c =
-    let e : silent (c .before .before .args .label) ≡ false = sym (c .before .is-silent .ensures) ∙ c .if1 .left in
-    rw e
+returns-2 c = rw (sym (c .before .is-silent .ensures) ∙ c .if1 .left)
 
 pub in-set-spec : {M : Type 1} → statement M
 in-set-spec = tie.close (tie.spec is-silent-requires shr-result returns returns-2)

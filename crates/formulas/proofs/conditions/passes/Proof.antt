@@ -15,15 +15,11 @@ in-set-requires c κs = search needs
 
 returns : tie.Need-returns
 unfolding passes
-returns c =
-    let e : silent (c .before .before .args .label) ≡ true = sym (c .before .is-silent .ensures) ∙ c .if1 .taken in
-    rw e
+returns c = rw (sym (c .before .is-silent .ensures) ∙ c .if1 .taken)
 
 returns-2 : tie.Need-returns-2
 unfolding passes
-returns-2 c =
-    let e : silent (c .before .before .before .args .label) ≡ false = sym (c .before .before .is-silent .ensures) ∙ c .before .if1 .left in
-    rw e (c .in-set .ensures)
+returns-2 c = rw (sym (c .before .before .is-silent .ensures) ∙ c .before .if1 .left) (c .in-set .ensures)
 
 pub passes-spec : {M : Type 1} → statement M
 passes-spec = tie.close (tie.spec is-silent-requires in-set-requires returns returns-2)

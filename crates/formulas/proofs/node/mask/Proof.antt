@@ -1,6 +1,7 @@
 -- `mask` meets its contract: eight bytes are two fours.
 use native.Mathlib.Omega.{arith}
-use Rattle.actl.proofs.Laws.Numbers.{number-of-eight}
+use Prim.Native.Nat.{_+_}
+use Rattle.actl.proofs.Laws.Numbers.{number-of-four, number-of-eight}
 use borrow.Author.Needs.{needs}
 use Rattle.formulas.proofs.node.mask.Statement.{statement}
 use Rattle.formulas.proofs.node.mask.Tie as tie
@@ -21,8 +22,10 @@ add-result : tie.Need-add-result
 add-result c = search needs
 
 returns : tie.Need-returns
-returns c = let e = number-of-eight (c .before .before .before .args .formula .now) (c .before .before .before .args .at) in omega arith
+returns c =
+    let a = c .before .before .before .args in
+    let b = a .formula .now in
+    omega (arith, number-of-eight b (a .at), number-of-four b (a .at), number-of-four b (a .at + 4))
 
 pub mask-spec : {M : Type 1} → statement M
-mask-spec =
-    tie.close (tie.spec half-requires add-half half-requires-2 mul-result add-result returns)
+mask-spec = tie.close (tie.spec half-requires add-half half-requires-2 mul-result add-result returns)

@@ -1,0 +1,40 @@
+-- `next_slot` meets its contract, by the cases of a step condition.
+use mathlib.Core.Path.{_≡_, sym, ap, _∙_}
+use Prim.Native.Nat.{ℕ, suc, _+_}
+use native.Mathlib.Numerals.{add-one}
+use Rattle.actl.specs.Prepared.{slot, nextSlot}
+use Rattle.formulas.specs.Access.{condIn}
+use borrow.Author.Needs.{needs}
+use Rattle.formulas.proofs.node.next_slot.Statement.{statement}
+use Rattle.formulas.proofs.node.next_slot.Tie as tie
+
+enum-told : tie.Need-enum-told
+enum-told c = search needs
+
+slot-with-requires : tie.Need-slot-with-requires
+slot-with-requires c κs = search needs
+
+enum-known-condition : tie.Need-enum-known-condition
+enum-known-condition c = search needs
+
+add-slot-with : tie.Need-add-slot-with
+add-slot-with c = search needs
+
+slot-with-requires-2 : tie.Need-slot-with-requires-2
+slot-with-requires-2 c κs = search needs
+
+returns : tie.Need-returns
+returns c =
+    let kind = c .before .before .before .args .kind in
+    c .slot-with .ensures ∙ sym (ap (λ x. nextSlot kind (condIn x)) (c .before .enum-told .given .1))
+
+returns-2 : tie.Need-returns-2
+returns-2 c =
+    let kind = c .before .before .before .before .args .kind in
+    let set = c .before .before .condition .given in
+    c .slot-with2 .ensures ∙ (ap (λ x. slot x (set .0 .0) 0) (add-one kind) ∙ sym (ap (λ x. nextSlot kind (condIn x)) (set .1)))
+
+pub next-slot-spec : {M : Type 1} → statement M
+next-slot-spec =
+    tie.close
+    (tie.spec enum-told slot-with-requires enum-known-condition add-slot-with slot-with-requires-2 returns returns-2)
