@@ -29,7 +29,7 @@ const CLASSES: [[u8; 4]; 10] = [
 ];
 
 // What stands at a node: nothing that is a formula, or one that ends before a node and is such an arm.
-pub enum Walked {
+enum Walked {
     Broken,
     Node(usize, u8),
 }

@@ -98,10 +98,10 @@ pub fn node_at(formula: &[u8], k: usize) -> Node
 }
 
 // What a node's slot holds (docs/FORMATS.md).
-pub struct Slot {
-    pub kind: u8,
-    pub first: u64,
-    pub second: u64,
+struct Slot {
+    kind: u8,
+    first: u64,
+    second: u64,
 }
 
 fn slot_with(kind: u8, first: u64, second: u64) -> Slot

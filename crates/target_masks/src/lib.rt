@@ -17,12 +17,14 @@ use lts::sizes::IDLE;
 pub mod places;
 
 ghost use mathlib.Core.Path.{_≡_};
-ghost use Prim.Native.Nat.{_+_, _<_, _≤_};
+ghost use mathlib.Core.Bool.{cond, not};
+ghost use Prim.Native.Nat.{_+_, _^_, _<_, _≤_};
 ghost use lib.Dec.{eqb};
 ghost use lib.ListN.{length, getD};
 ghost use Rattle.actl.specs.Sizes.{mostNodes, formulaLength};
 ghost use Rattle.automaton.specs.Sizes.{placeCount, columnCount};
 ghost use Rattle.lts.specs.Steps.{Carried};
+ghost use Rattle.actl.specs.Actions as actions;
 ghost use Rattle.actl.specs.Formulas.{Formula};
 ghost use Rattle.actl.specs.Prepared.{slotAt};
 ghost use Rattle.target_masks.specs.Masks.{bitIf, columnOf, maskOn, maskOfNode, finalOfNode, Spells, MasksFit, MasksOf, MasksOn, FinalsOf};
@@ -33,6 +35,26 @@ fn bit_if(wanted: bool, k: usize) -> u64
     ensures { λ r. ⌜ r ≡ bitIf wanted k ⌝ }
 {
     if wanted { 1 << k } else { 0 }
+}
+
+// 01: "EU[A] and EU[A;B] remain at their place if a is silent or meets A".
+fn stays(set: u64, label: usize, k: usize) -> u64
+    requires { ⌜ (k ≤ mostNodes) × Carried label ⌝ }
+    ensures { λ r. ⌜ r ≡ bitIf (actions.passes set label) k ⌝ }
+{
+    bit_if(passes(set, label), k)
+}
+
+// A step of AX from place k: to the arm if the condition is met, unless the arm is T, and else to END.
+fn all_steps(met: bool, last: bool, end: usize, k: usize) -> u64
+    requires { ⌜ (k < mostNodes) × (end ≤ mostNodes) ⌝ }
+    ensures { λ r. ⌜ r ≡ cond met (bitIf (not last) (k + 1)) (2 ^ end) ⌝ }
+{
+    if met {
+        bit_if(!last, k + 1)
+    } else {
+        bit_if(true, end)
+    }
 }
 
 // A node's mask, from the masks of its arms; `last` says whether its arm is T.
@@ -53,15 +75,9 @@ fn node_mask(
         Node::Not => arm,
         Node::Or => arm | other,
         Node::Ex(c) => bit_if(meets(c, label), k + 1),
-        Node::Ax(c) => {
-            if meets(c, label) {
-                bit_if(!last, k + 1)
-            } else {
-                bit_if(true, end)
-            }
-        }
-        Node::Until(a) => bit_if(passes(a, label), k) | arm,
-        Node::UntilThen(a, b) => { bit_if(passes(a, label), k) | bit_if(in_set(b, label), k + 1) }
+        Node::Ax(c) => all_steps(meets(c, label), last, end, k),
+        Node::Until(a) => stays(a, label, k) | arm,
+        Node::UntilThen(a, b) => stays(a, label, k) | bit_if(in_set(b, label), k + 1),
     }
 }
 

@@ -17,8 +17,7 @@ use Rattle.automaton.specs.Sizes.{placeCount, columnCount, masksLength}
 use Rattle.lts.specs.Sizes.{mostLabels}
 use Rattle.lts.specs.Steps.{idleLabel, Carried}
 use Rattle.lts.proofs.Silence.{zero-silent, idle-silent}
-use Rattle.actl.specs.Actions.{silent, labels}
-use Rattle.actl.specs.Formulas.{Formula, tru, not, or, ex, ax, eu, euThen, size, isT, At}
+use Rattle.actl.specs.Formulas.{Formula, size, isT, At}
 use Rattle.actl.specs.Prepared.{slotOf, slotAt, preparedFormula}
 use Rattle.formulas.specs.Access.{slotOfNode}
 use Rattle.actl.specs.Shaped.{shaped}
@@ -27,6 +26,7 @@ use Rattle.formula_classes.specs.declared.Shape.{Shape}
 use Rattle.formulas.specs.declared.node.Node.{Node}
 use Rattle.actl.proofs.Subformulas.{at-node, at-lt}
 use Rattle.actl.proofs.Nodes.{size-pos}
+use Rattle.formulas.proofs.NodeSlots.{T-by-kind}
 use Rattle.actl.proofs.Laws.Slots.{node-shaped}
 use Rattle.actl.proofs.Laws.Prepared.{prepared-few, prepared-count, prepared-slot}
 use Rattle.automaton.specs.Listing.{nodeAt, final}
@@ -36,17 +36,6 @@ use Rattle.target_masks.proofs.Laws.MasksFound.{masks-alike, mask-past,
 -- A prepared formula, with the shape that was found of it.
 pub spells : (n : ℕ) (b : List ℕ) {F : Formula} (e : preparedFormula n b ≡ some F) (s : Shape) → ShapeOf s F → Spells b (s .ends) F
 spells n b e s h = record { count = prepared-count n b e; few = prepared-few n b e; slot = prepared-slot n b e; end = h .ends }
-
-T-by-kind : (f : Formula) → eqb (slotOf f .kind) 1 ≡ isT f
-T-by-kind tru = refl
-T-by-kind (not f) = refl
-T-by-kind (or f g) = refl
-T-by-kind (ex silent f) = refl
-T-by-kind (ex (labels m) f) = refl
-T-by-kind (ax silent f) = refl
-T-by-kind (ax (labels m) f) = refl
-T-by-kind (eu a f) = refl
-T-by-kind (euThen a b f) = refl
 
 -- The column of a label: that of label 0 for the idle step, and else its own.
 pub idle-column : (l : ℕ) → l ≡ idleLabel → columnOf l ≡ 0
@@ -78,7 +67,8 @@ module _ {b ends : List ℕ} {F : Formula} (p : Spells b ends F) (k : ℕ) (h : 
     right-is : k + 1 < size F → k + 1 + size (nodeAt F (k + 1)) < size F → right ≡ k + 1 + size (nodeAt F (k + 1))
     right-is x y = let e = p .end (k + 1) x in r (omega (arith, p .few)) (omega (arith, p .few)) ∙ e
 
-    module _ (masks : List ℕ) (l : ℕ) (m : MasksOn F k l masks) (c : l < placeCount) (node : Node) (s : slotOfNode node ≡ slotAt b k) (end : ℕ) (e : end ≡ getD b 0 0)
+    module _ (masks : List ℕ) (l : ℕ) (m : MasksOn F k l masks) (c : l < placeCount)
+        (node : Node) (s : slotOfNode node ≡ slotAt b k) (end : ℕ) (e : end ≡ getD b 0 0)
         (last : Bool) (t : k + 1 < mostNodes → last ≡ eqb (slotAt b (k + 1) .kind) 1) where
       abbrev arm : ℕ
       arm = getD masks ((k + 1) * columnCount + l) 0
@@ -97,15 +87,20 @@ module _ {b ends : List ℕ} {F : Formula} (p : Spells b ends F) (k : ℕ) (h : 
           ap (λ n. maskOfNode node n k l last arm other) (e ∙ p .count)
           ∙ node-mask-is l arm other last
           (λ x. m .behind .mask (k + 1) l (omega arith) (omega arith) (omega arith))
-          (λ x y. ap (λ q. getD masks (q * columnCount + l) 0) (right-is x y) ∙ m .behind .mask (k + 1 + size (nodeAt F (k + 1))) l (omega arith) (omega arith) (omega arith))
+          (λ x y. ap (λ q. getD masks (q * columnCount + l) 0) (right-is x y)
+          ∙ m .behind .mask (k + 1 + size (nodeAt F (k + 1))) l (omega arith) (omega arith) (omega arith))
           T-is node (nodeAt F k) (at-node F k below) (s ∙ p .slot k below)
 
       masks-turn : (v : ℕ) → v ≡ mask → MasksOn F k (l + 1) (set masks (k * columnCount + l) v)
       masks-turn v q = record {
         long = length-set masks (k * columnCount + l) v ∙ m .long;
-        behind = record { mask = λ j i x y z. getD-set-other masks (k * columnCount + l) (j * columnCount + i) v 0 (λ u. omega arith) ∙ m .behind .mask j i x y z };
+        behind = record {
+          mask = λ j i x y z. getD-set-other masks (k * columnCount + l) (j * columnCount + i) v 0 (λ u. omega arith) ∙ m .behind .mask j i x y z;
+        };
         here = λ i x. pick i x (ℕ-discrete i l);
-        fit = set-below masks (k * columnCount + l) v (2 ^ placeCount) (subst (λ n. n < 2 ^ placeCount) (sym (q ∙ mask-is)) (target-fits F k l (p .few))) (m .fit);
+        fit =
+            let low = subst (λ n. n < 2 ^ placeCount) (sym (q ∙ mask-is)) (target-fits F k l (p .few)) in
+            set-below masks (k * columnCount + l) v (2 ^ placeCount) low (m .fit);
       }
         where
           pick : (i : ℕ) → i < l + 1 → Dec (i ≡ l) → getD (set masks (k * columnCount + l) v) (k * columnCount + i) 0 ≡ targetMask F k i
@@ -115,11 +110,14 @@ module _ {b ends : List ℕ} {F : Formula} (p : Spells b ends F) (k : ℕ) (h : 
           pick i x (no d) = getD-set-other masks (k * columnCount + l) (k * columnCount + i) v 0 (λ u. d (omega arith)) ∙ m .here i (omega arith)
 
       -- The same in the column that the code found.
-      pub masks-turn-at : (at : ℕ) → at ≡ columnOf l → (v : ℕ) → v ≡ maskOfNode node end k l last (getD masks ((k + 1) * columnCount + at) 0) (getD masks (right * columnCount + at) 0)
-          → MasksOn F k (l + 1) (set masks (k * columnCount + at) v)
-      masks-turn-at at d v =
-          subst (λ x. v ≡ maskOfNode node end k l last (getD masks ((k + 1) * columnCount + x) 0) (getD masks (right * columnCount + x) 0) → MasksOn F k (l + 1) (set masks (k * columnCount + x) v))
-          (sym (d ∙ own-column l (λ e. omega arith))) (masks-turn v)
+      abbrev mask-by : ℕ → ℕ
+      mask-by at = maskOfNode node end k l last (getD masks ((k + 1) * columnCount + at) 0) (getD masks (right * columnCount + at) 0)
+
+      pub masks-turn-at : (at : ℕ) → at ≡ columnOf l → (v : ℕ) → v ≡ mask-by at → MasksOn F k (l + 1) (set masks (k * columnCount + at) v)
+      masks-turn-at at d v = subst
+          (λ x. v ≡ mask-by x → MasksOn F k (l + 1) (set masks (k * columnCount + x) v))
+          (sym (d ∙ own-column l (λ e. omega arith)))
+          (masks-turn v)
 
     -- The flag of place k, from those behind.
     module _ (finals : List Bool) (m : FinalsOf F (k + 1) finals) (node : Node) (s : slotOfNode node ≡ slotAt b k) where
@@ -136,7 +134,9 @@ module _ {b ends : List ℕ} {F : Formula} (p : Spells b ends F) (k : ℕ) (h : 
       finals-turn v q = record { long = length-set finals k v ∙ m .long; flag = λ j x y. pick j x y (ℕ-discrete j k) }
         where
           pick : (j : ℕ) → k ≤ j → j ≤ size F → Dec (j ≡ k) → getD (set finals k v) j false ≡ final F j
-          pick j x y (yes d) = ap (λ n. getD (set finals k v) n false) d ∙ (getD-set-same finals k v false (omega (arith, m .long, place-few)) ∙ (q ∙ (flag-is ∙ ap (final F) (sym d))))
+          pick j x y (yes d) =
+              ap (λ n. getD (set finals k v) n false) d
+              ∙ (getD-set-same finals k v false (omega (arith, m .long, place-few)) ∙ (q ∙ (flag-is ∙ ap (final F) (sym d))))
           pick j x y (no d) = getD-set-other finals k j v false (λ u. d (omega arith)) ∙ m .flag j (omega arith) y
 
 -- A whole place, and the next one; the start, where every mask is zero.
@@ -160,7 +160,8 @@ masks-before k e f m = record { long = e; behind = m; here = λ i x. absurd (ome
 pub masks-end : (F : Formula) (masks : List ℕ) → ((i : ℕ) → getD masks i 0 ≡ 0) → MasksOf F (size F) masks
 masks-end F masks h = record { mask = λ j l x y z. h (j * columnCount + l) ∙ sym (mask-past F j l x) }
 
-pub finals-end : (F : Formula) (finals : List Bool) → length finals ≡ placeCount → ((i : ℕ) → i < placeCount → getD finals i false ≡ true) → size F ≤ mostNodes → FinalsOf F (size F) finals
+pub finals-end : (F : Formula) (finals : List Bool) → length finals ≡ placeCount → ((i : ℕ) → i < placeCount → getD finals i false ≡ true)
+    → size F ≤ mostNodes → FinalsOf F (size F) finals
 finals-end F finals e h few = record { long = e; flag = λ j x y. h j (omega arith) ∙ sym (final-past F j x) }
 
 -- Fresh arrays.

@@ -1,4 +1,4 @@
--- `masks::mask_place` meets its contract: one label more has its mask each turn.
+-- `mask_place` meets its contract: one label more has its mask each turn.
 use mathlib.Core.Path.{_≡_, refl, sym, ap, _∙_, subst}
 use mathlib.Core.Logic.{inl}
 use Prim.Native.Nat.{_+_, _-_, _≤_, _<_}
@@ -21,7 +21,8 @@ abbrev μ-loop : tie.MeasureT-loop
 few : (c : tie.Start Inv-loop μ-loop) → c .args .k < mostNodes
 few c = place-few (c .pre .1 .0 .1) (c .args .k) (c .pre .0 .1)
 
-few-here : (c : tie.After-column Inv-loop μ-loop) → (c .before .before .before .before .before .before .before .before .args .k < mostNodes) × (c .column .result < placeCount)
+few-here : (c : tie.After-column Inv-loop μ-loop)
+    → (c .before .before .before .before .before .before .before .before .args .k < mostNodes) × (c .column .result < placeCount)
 few-here c = (few (c .before .before .before .before .before .before .before .before), c .column .ensures .1)
 
 few-other : (c : tie.After-column Inv-loop μ-loop) → (c .before .before .before .other-arm .result ≤ 40) × (c .column .result < placeCount)
@@ -31,7 +32,9 @@ node-count-requires : tie.Need-node-count-requires Inv-loop μ-loop
 node-count-requires c κs = c .before .pre .0 .0
 
 node-at-requires : tie.Need-node-at-requires Inv-loop μ-loop
-node-at-requires c κs = let start = c .before .before in (start .pre .0 .0, (few start, place-shaped (start .pre .1 .0 .1) (start .args .k) (start .pre .0 .1)))
+node-at-requires c κs =
+    let start = c .before .before in
+    (start .pre .0 .0, (few start, place-shaped (start .pre .1 .0 .1) (start .args .k) (start .pre .0 .1)))
 
 add-is-true : tie.Need-add-is-true Inv-loop μ-loop
 add-is-true c = omega (arith, few (c .before .before .before))
@@ -80,7 +83,8 @@ node-mask-requires c κs =
     let counted = c .before .before .before .before .before .before .before .before in
     let start = counted .before .before in
     let spelled = start .pre .1 .0 .1 in
-    (few start, (omega (arith, counted .node-count .ensures, spelled .count, spelled .few), inl (omega (arith, c .before .before .before .loop-test .taken))))
+    let label = c .before .before .before .loop-test .taken in
+    (few start, (omega (arith, counted .node-count .ensures, spelled .count, spelled .few), inl (omega (arith, label))))
 
 mul-masks : tie.Need-mul-masks Inv-loop μ-loop
 mul-masks c = omega (arith, few-here (c .before .before .before))
@@ -111,8 +115,9 @@ loop-again c =
     let counted = read .before in
     let start = counted .before .before in (
       omega (arith, taken),
-      λ F p. masks-turn-at p (start .args .k) (start .pre .0 .1) (armed .other-arm .result) (armed .other-arm .ensures .1) (loop .masks) (loop .l) (loop .inv .1 F p) taken
-          (read .node-at .result) (read .node-at .ensures) (counted .node-count .result) (counted .node-count .ensures) (told .is-true .result) (told .is-true .ensures)
+      λ F p. masks-turn-at p (start .args .k) (start .pre .0 .1) (armed .other-arm .result) (armed .other-arm .ensures .1)
+          (loop .masks) (loop .l) (loop .inv .1 F p) taken (read .node-at .result) (read .node-at .ensures)
+          (counted .node-count .result) (counted .node-count .ensures) (told .is-true .result) (told .is-true .ensures)
           (found .result) (found .ensures .0) _ (c .node-mask .ensures),
     )
 
@@ -126,5 +131,5 @@ pub mask-place-spec : {M : Type 1} → statement M
 mask-place-spec =
     tie.close
     (tie.spec Inv-loop μ-loop node-count-requires node-at-requires add-is-true is-true-requires other-arm-requires loop-holds
-        column-requires add-arm mul-arm add-arm-2 mul-arm-2 element-copy-out-arm mul-other add-other mul-other-2 element-copy-out-other
-        node-mask-requires mul-masks add-masks mul-masks-2 element-write-masks add-l loop-less loop-again returns)
+    column-requires add-arm mul-arm add-arm-2 mul-arm-2 element-copy-out-arm mul-other add-other mul-other-2 element-copy-out-other
+    node-mask-requires mul-masks add-masks mul-masks-2 element-write-masks add-l loop-less loop-again returns)

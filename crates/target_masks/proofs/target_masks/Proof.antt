@@ -1,4 +1,4 @@
--- `masks::target_masks` meets its contract: the masks from place k on are right.
+-- `target_masks` meets its contract: the masks from place k on are right.
 use Rattle.automaton.specs.Sizes.{masksLength}
 use Rattle.target_masks.proofs.target_masks.Statement.{statement}
 use Rattle.target_masks.proofs.target_masks.Tie as tie
@@ -12,7 +12,8 @@ use Rattle.target_masks.specs.Masks.{Spells, MasksFit, MasksOf}
 use Rattle.target_masks.proofs.Laws.Places.{zeros-at, masks-from, masks-next, masks-end}
 
 abbrev Inv-loop : tie.InvT-loop
-Inv-loop formula ends masks₀ k₀ masks k = (k ≤ getD formula 0 0) × (length masks ≡ masksLength) × MasksFit masks × ((F : Formula) → Spells formula ends F → MasksOf F k masks)
+Inv-loop formula ends masks₀ k₀ masks k =
+    (k ≤ getD formula 0 0) × (length masks ≡ masksLength) × MasksFit masks × ((F : Formula) → Spells formula ends F → MasksOf F k masks)
 
 abbrev μ-loop : tie.MeasureT-loop
 μ-loop formula ends masks₀ k₀ masks k = k
