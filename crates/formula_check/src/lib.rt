@@ -1,3 +1,3 @@
 // Whether formula bytes are prepared, and what every entry over prepared bytes tests first.
 pub mod inputs;
-pub mod prepared;
+mod prepared;

@@ -53,7 +53,7 @@ fn label_node(
 }
 
 // The row of node k; no state, if there is no place for such a node.
-pub fn row(flags: &[bool; NODE_POSITIONS], k: usize) -> [bool; STATES]
+fn row(flags: &[bool; NODE_POSITIONS], k: usize) -> [bool; STATES]
     ensures { λ r. ⌜ RowRead k (now (flags .entry)) r ⌝ }
 {
     let mut found = [false; STATES];

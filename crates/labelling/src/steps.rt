@@ -29,7 +29,7 @@ fn leads(wanted: bool, condition: Condition, label: usize, there: bool) -> bool
 }
 
 // Whether some step from s leads to the arm under the condition; or, if that is not wanted, whether some step does not.
-pub fn some_step(
+fn some_step(
     steps: &[u16; STEPS],
     firsts: &[u16; FIRSTS],
     wanted: bool,
@@ -56,7 +56,7 @@ pub fn some_step(
 }
 
 // What holds at s of a node, from where its arms hold. Of an until: whether s is an end of its paths.
-pub fn at_once(
+fn at_once(
     steps: &[u16; STEPS],
     firsts: &[u16; FIRSTS],
     node: Node,

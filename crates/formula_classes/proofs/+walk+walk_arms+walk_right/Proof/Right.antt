@@ -1,7 +1,6 @@
 -- What `walk_right` shows at each of its places: the right arm's walk, then the node noted.
 use borrow.Author.Needs.{needs}
 use mathlib.Core.Path.{_≡_, sym, _∙_, subst}
-use mathlib.Core.List.{List}
 use Prim.Native.Nat.{ℕ, _+_, _≤_, _<_}
 use native.Mathlib.Omega.{arith}
 use Rattle.actl.specs.Walk.{Traversed}
@@ -13,41 +12,26 @@ use Rattle.formula_classes.proofs.+walk+walk_arms+walk_right.Lts-walk_r
 use Rattle.formula_classes.proofs.+walk+walk_arms+walk_right.Proof.Measures.{walk-right-at, walk-right-claims}
 
 module _ (t : ℕ) where
-  -- The right arm was walked.
-  abbrev Arm-walked : Type 0
-  Arm-walked = walk-right-lts.After-walk (walk-right-claims t) (walk-right-at t) walk-right.Post
-
-  module _ (c : Arm-walked) where
-    abbrev entry : walk-right-lts.Start (walk-right-claims t) (walk-right-at t) walk-right.Post
-    entry = c .before .before .before .before .before .before
-
-    abbrev kinds : List ℕ
-    kinds = entry .args .kinds .now
-
-    abbrev ends-after : List ℕ
-    ends-after = c .walk .last .1 .1 .0
-
-    abbrev classes-after : List ℕ
-    classes-after = c .walk .last .1 .1 .1 .0
-
-    room : Room kinds ends-after classes-after
-    room = room-kept (entry .pre .1 .0) (c .walk .kept .1 .1 .0) (c .walk .kept .1 .1 .1 .0)
-
-  -- And it is a formula.
+  -- The right arm was walked, and it is a formula.
   abbrev Arm-found : Type 0
   Arm-found = walk-right-lts.After-end (walk-right-claims t) (walk-right-at t) walk-right.Post
 
   module _ (c : Arm-found) where
-    abbrev walked : Arm-walked
+    abbrev walked : walk-right-lts.After-walk (walk-right-claims t) (walk-right-at t) walk-right.Post
     walked = c .before .before .before .before .before .before
 
-    arm : Traversed (kinds walked) (entry walked .args .ends .now) (ends-after walked) (entry walked .args .classes .now)
-        (classes-after walked) (entry walked .args .middle) (c .end .given .0 .0) (c .end .given .0 .1 .0)
-    arm = subst
-        (Walks (kinds walked) (entry walked .args .ends .now) (ends-after walked) (entry walked .args .classes .now)
-        (classes-after walked) (entry walked .args .middle))
-        (c .end .given .1)
-        (walked .walk .ensures)
+    abbrev entry : walk-right-lts.Start (walk-right-claims t) (walk-right-at t) walk-right.Post
+    entry = walked .before .before .before .before .before .before
+
+    arm : Traversed (entry .args .kinds .now) (entry .args .ends .now) (walked .walk .last .1 .1 .0) (entry .args .classes .now)
+        (walked .walk .last .1 .1 .1 .0) (entry .args .middle) (c .end .given .0 .0) (c .end .given .0 .1 .0)
+    arm =
+        let a = entry .args in
+        let after = walked .walk .last .1 .1 in
+        subst (Walks (a .kinds .now) (a .ends .now) (after .0) (a .classes .now) (after .1 .0) (a .middle)) (c .end .given .1) (walked .walk .ensures)
+
+    room : Room (entry .args .kinds .now) (walked .walk .last .1 .1 .0) (walked .walk .last .1 .1 .1 .0)
+    room = room-kept (entry .pre .1 .0) (walked .walk .kept .1 .1 .0) (walked .walk .kept .1 .1 .1 .0)
 
   pub walk-requires : walk-right-lts.Need-walk-requires (walk-right-claims t) (walk-right-at t) walk-right.Post
   walk-requires c κs =
@@ -68,23 +52,23 @@ module _ (t : ℕ) where
 
   pub returns : walk-right-lts.Need-returns (walk-right-claims t) (walk-right-at t) walk-right.Post
   returns c =
-      let walked = c .before .before .before .before .before .before in
-      let a = entry walked .args in
+      let walk = c .before .before .before .before .before .before .walk in
+      let a = c .before .before .before .before .before .before .before .before .before .before .before .before .args in
       subst
-      (Walks (kinds walked) (a .ends .now) (ends-after walked) (a .classes .now) (classes-after walked) (a .middle))
-      (c .enum-told .given .1)
-      (walked .walk .ensures)
+          (Walks (a .kinds .now) (a .ends .now) (walk .last .1 .1 .0) (a .classes .now) (walk .last .1 .1 .1 .0) (a .middle))
+          (c .enum-told .given .1)
+          (walk .ensures)
 
   pub class-of-or-requires : walk-right-lts.Need-class-of-or-requires (walk-right-claims t) (walk-right-at t) walk-right.Post
   class-of-or-requires c κs =
       let found = c .before in
-      (entry (walked found) .pre .1 .1 .1, arm-in-table (arm found))
+      (entry found .pre .1 .1 .1, arm-in-table (arm found))
 
   pub note-requires : walk-right-lts.Need-note-requires (walk-right-claims t) (walk-right-at t) walk-right.Post
   note-requires c κs =
       let found = c .before .before .before .before in
-      let room = room (walked found) in
-      let above = entry (walked found) .pre .1 .1 .0 in
+      let room = room found in
+      let above = entry found .pre .1 .1 .0 in
       omega (arith, above, walked-on (arm found), walked-within (arm found), room .ends-fit, room .classes-fit, room .few)
 
   pub same-length-3 : walk-right-lts.Need-same-length-3 (walk-right-claims t) (walk-right-at t) walk-right.Post
@@ -104,4 +88,4 @@ module _ (t : ℕ) where
       let noted = c .before .before .before .before in
       let classed = noted .before .before .before in
       let found = classed .before .before in
-      right-walked (entry (walked found) .args .left) (arm found) (classed .class-of-or .ensures) (noted .note .ensures)
+      right-walked (entry found .args .left) (arm found) (classed .class-of-or .ensures) (noted .note .ensures)
