@@ -13,26 +13,11 @@ use borrow.Author.Needs.{needs}
 use Rattle.formula_classes.proofs.highest_classless.Statement.{statement}
 use Rattle.formula_classes.proofs.highest_classless.Tie as tie
 
-slice-aggregate-walk-nodes : tie.Need-slice-aggregate-walk-nodes
-slice-aggregate-walk-nodes c = search needs
-
-slice-aggregate-walk-nodes-2 : tie.Need-slice-aggregate-walk-nodes-2
-slice-aggregate-walk-nodes-2 c = search needs
-
-walk-nodes-requires : tie.Need-walk-nodes-requires
-walk-nodes-requires c κs = search needs
-
-array-share-prefix-classes : tie.Need-array-share-prefix-classes
-array-share-prefix-classes c = search needs
-
 slice-aggregate-last-none : tie.Need-slice-aggregate-last-none
 slice-aggregate-last-none c =
     let w = c .before .before .before .walk-nodes in
     let start = c .before .before .before .before .before .before .before in
     sym (length-take-le (start .args .count) (w .last .1 .1 .1 .0) (omega (arith, w .kept .1 .1 .1 .0, start .pre)))
-
-last-none-requires : tie.Need-last-none-requires
-last-none-requires c κs = search needs
 
 returns : tie.Need-returns
 unfolding highestWithoutClass
@@ -50,5 +35,5 @@ returns c = λ F e.
 pub highest-classless-spec : {M : Type 1} → statement M
 highest-classless-spec =
     tie.close
-    (tie.spec slice-aggregate-walk-nodes slice-aggregate-walk-nodes-2 walk-nodes-requires array-share-prefix-classes
-    slice-aggregate-last-none last-none-requires returns)
+    (tie.spec (λ c. search needs) (λ c. search needs) (λ c κs. search needs) (λ c. search needs) slice-aggregate-last-none
+    (λ c κs. search needs) returns)

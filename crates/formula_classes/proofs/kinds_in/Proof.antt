@@ -18,24 +18,6 @@ abbrev μ-loop : tie.MeasureT-loop
 loop-holds : tie.Need-loop-holds Inv-loop μ-loop
 loop-holds c = (omega arith, refl, refl)
 
-mul-kinds : tie.Need-mul-kinds Inv-loop μ-loop
-mul-kinds c = omega arith
-
-add-kinds : tie.Need-add-kinds Inv-loop μ-loop
-add-kinds c = omega arith
-
-shared-slice-read-kinds : tie.Need-shared-slice-read-kinds Inv-loop μ-loop
-shared-slice-read-kinds c = omega arith
-
-array-write-kinds : tie.Need-array-write-kinds Inv-loop μ-loop
-array-write-kinds c = omega arith
-
-add-k : tie.Need-add-k Inv-loop μ-loop
-add-k c = omega arith
-
-loop-less : tie.Need-loop-less Inv-loop μ-loop
-loop-less c = omega arith
-
 loop-again : tie.Need-loop-again Inv-loop μ-loop
 loop-again c =
     let b = c .before .before .before .args .formula .now in
@@ -55,4 +37,5 @@ returns c =
 pub kinds-in-spec : {M : Type 1} → statement M
 kinds-in-spec =
     tie.close
-    (tie.spec Inv-loop μ-loop loop-holds mul-kinds add-kinds shared-slice-read-kinds array-write-kinds add-k loop-less loop-again returns)
+    (tie.spec Inv-loop μ-loop loop-holds (λ c. omega arith) (λ c. omega arith) (λ c. omega arith) (λ c. omega arith) (λ c. omega arith)
+    (λ c. omega arith) loop-again returns)

@@ -9,22 +9,10 @@ use borrow.Author.Needs.{needs}
 use Rattle.formula_classes.proofs.shape_of.Statement.{statement}
 use Rattle.formula_classes.proofs.shape_of.Tie as tie
 
-node-count-requires : tie.Need-node-count-requires
-node-count-requires c κs = search needs
-
 returns : tie.Need-returns
 returns c = λ n F e.
     let b = c .before .before .before .args .formula .now in
     absurd (omega (arith, prepared-count n b e, prepared-few n b e))
-
-slice-aggregate-walk-nodes : tie.Need-slice-aggregate-walk-nodes
-slice-aggregate-walk-nodes c = search needs
-
-slice-aggregate-walk-nodes-2 : tie.Need-slice-aggregate-walk-nodes-2
-slice-aggregate-walk-nodes-2 c = search needs
-
-walk-nodes-requires : tie.Need-walk-nodes-requires
-walk-nodes-requires c κs = search needs
 
 returns-2 : tie.Need-returns-2
 returns-2 c = λ n F e.
@@ -43,4 +31,4 @@ returns-2 c = λ n F e.
 pub shape-of-spec : {M : Type 1} → statement M
 shape-of-spec =
     tie.close
-    (tie.spec node-count-requires returns slice-aggregate-walk-nodes slice-aggregate-walk-nodes-2 walk-nodes-requires returns-2)
+    (tie.spec (λ c κs. search needs) returns (λ c. search needs) (λ c. search needs) (λ c κs. search needs) returns-2)

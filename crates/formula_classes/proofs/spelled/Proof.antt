@@ -14,21 +14,6 @@ use Rattle.formula_classes.proofs.spelled.Lts as lts
 use Rattle.formula_classes.proofs.spelled.Reads as reads
 use Rattle.formula_classes.proofs.walk_nodes.Reads as walk-nodes-reads
 
-slice-aggregate-walk-nodes : tie.Need-slice-aggregate-walk-nodes
-slice-aggregate-walk-nodes c = search needs
-
-slice-aggregate-walk-nodes-2 : tie.Need-slice-aggregate-walk-nodes-2
-slice-aggregate-walk-nodes-2 c = search needs
-
-walk-nodes-requires : tie.Need-walk-nodes-requires
-walk-nodes-requires c κs = search needs
-
-enum-known-end : tie.Need-enum-known-end
-enum-known-end c = search needs
-
-enum-told : tie.Need-enum-told
-enum-told c = search needs
-
 returns : tie.Need-returns
 returns c =
     let w = c .before .before .before .before .walk-nodes in
@@ -75,5 +60,5 @@ returns-3 c =
 pub spelled-spec : {M : Type 1} → statement M
 spelled-spec =
     tie.close
-    (tie.spec slice-aggregate-walk-nodes slice-aggregate-walk-nodes-2 walk-nodes-requires enum-known-end enum-told returns returns-2
+    (tie.spec (λ c. search needs) (λ c. search needs) (λ c κs. search needs) (λ c. search needs) (λ c. search needs) returns returns-2
     returns-3)

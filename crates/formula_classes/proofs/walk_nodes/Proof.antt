@@ -9,12 +9,6 @@ use borrow.Author.Needs.{needs}
 use Rattle.formula_classes.proofs.walk_nodes.Statement.{statement}
 use Rattle.formula_classes.proofs.walk_nodes.Tie as tie
 
-kinds-in-requires : tie.Need-kinds-in-requires
-kinds-in-requires c κs = search needs
-
-array-share-prefix-kinds : tie.Need-array-share-prefix-kinds
-array-share-prefix-kinds c = search needs
-
 slice-aggregate-walk : tie.Need-slice-aggregate-walk
 slice-aggregate-walk c =
     let a = c .before .before .before .before .before .args in
@@ -31,12 +25,6 @@ walk-requires c κs =
       few = omega (arith, long, start .pre);
     }
 
-same-length : tie.Need-same-length
-same-length c = search needs
-
-same-length-2 : tie.Need-same-length-2
-same-length-2 c = search needs
-
 returns : tie.Need-returns
 returns c =
     let w = c .before .before .before .before .walk in
@@ -50,4 +38,4 @@ returns c =
 pub walk-nodes-spec : {M : Type 1} → statement M
 walk-nodes-spec =
     tie.close
-    (tie.spec kinds-in-requires array-share-prefix-kinds slice-aggregate-walk walk-requires same-length same-length-2 returns)
+    (tie.spec (λ c κs. search needs) (λ c. search needs) slice-aggregate-walk walk-requires (λ c. search needs) (λ c. search needs) returns)

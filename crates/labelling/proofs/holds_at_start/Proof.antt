@@ -5,9 +5,6 @@ use Rattle.labelling.proofs.Laws.Prepared.{formula-long, root-at-start}
 use Rattle.labelling.proofs.holds_at_start.Statement.{statement}
 use Rattle.labelling.proofs.holds_at_start.Tie as tie
 
-steps-of-requires : tie.Need-steps-of-requires
-steps-of-requires c κs = search needs
-
 shape-of-requires : tie.Need-shape-of-requires
 shape-of-requires c κs = formula-long _ _ (c .before .before .before .pre .1)
 
@@ -18,12 +15,6 @@ label-nodes-requires c κs =
     let start = stepped .before .before .before in
     (start .pre .0, (stepped .steps-of .ensures, (start .pre .1, record { arms-end = λ F e k h. shaped .shape-of .ensures _ F e .ends k h })))
 
-start-state-requires : tie.Need-start-state-requires
-start-state-requires c κs = search needs
-
-array-read-result : tie.Need-array-read-result
-array-read-result c = search needs
-
 returns : tie.Need-returns
 returns c =
     let stepped = c .before .before .before .before .before .before .before .before in
@@ -32,4 +23,4 @@ returns c =
 pub holds-at-start-spec : {M : Type 1} → statement M
 holds-at-start-spec =
     tie.close
-    (tie.spec steps-of-requires shape-of-requires label-nodes-requires start-state-requires array-read-result returns)
+    (tie.spec (λ c κs. search needs) shape-of-requires label-nodes-requires (λ c κs. search needs) (λ c. search needs) returns)

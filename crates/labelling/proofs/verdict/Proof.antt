@@ -28,12 +28,6 @@ Promised table formula r = (verdictReply r ≡ verdictReplied table formula) × 
 promised : (table formula : List ℕ) (r : VerdictReply) → verdictReply r ≡ verdictReplied table formula → Promised table formula r
 promised table formula r e = (e, subst (VerdictAnswered table formula) (sym e) (verdict-answered table formula))
 
-check-inputs-requires : tie.Need-check-inputs-requires
-check-inputs-requires c κs = search needs
-
-enum-known-why : tie.Need-enum-known-why
-enum-known-why c = search needs
-
 returns : tie.Need-returns
 unfolding verdictReplied
 returns c =
@@ -42,9 +36,6 @@ returns c =
     let why = c .before .why .given in
     promised (a .table .now) (a .formula .now) (Refused (why .0 .0))
     (refused-by (a .table .now) (a .formula .now) answer (why .0 .0) (why .1) (asked .check-inputs .ensures))
-
-enum-told : tie.Need-enum-told
-enum-told c = search needs
 
 prepared : (c : tie.After-enum-told) → let a = c .before .before .before .before .before .args in Both (a .table .now) (a .formula .now)
 prepared c =
@@ -73,4 +64,4 @@ returns-3 c = promised _ _ Fails (sym (replied (c .before) ∙ ap (λ h. accepte
 pub verdict-spec : {M : Type 1} → statement M
 verdict-spec =
     tie.close
-    (tie.spec check-inputs-requires enum-known-why returns enum-told holds-at-start-requires returns-2 returns-3)
+    (tie.spec (λ c κs. search needs) (λ c. search needs) returns (λ c. search needs) holds-at-start-requires returns-2 returns-3)

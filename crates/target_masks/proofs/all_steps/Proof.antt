@@ -7,15 +7,6 @@ use borrow.Author.Needs.{needs}
 use Rattle.target_masks.proofs.all_steps.Statement.{statement}
 use Rattle.target_masks.proofs.all_steps.Tie as tie
 
-add-bit-if : tie.Need-add-bit-if
-add-bit-if c = search needs
-
-bit-if-requires : tie.Need-bit-if-requires
-bit-if-requires c κs = search needs
-
-bit-if-requires-2 : tie.Need-bit-if-requires-2
-bit-if-requires-2 c κs = search needs
-
 returns : tie.Need-returns
 returns c =
     let a = c .before .before .args in
@@ -27,4 +18,6 @@ returns-2 c =
     c .bit-if2 .ensures ∙ sym (ap (λ b. cond b (bitIf (not (a .last)) (a .k + 1)) (2 ^ a .end)) (c .before .if1 .left))
 
 pub all-steps-spec : {M : Type 1} → statement M
-all-steps-spec = tie.close (tie.spec add-bit-if bit-if-requires bit-if-requires-2 returns returns-2)
+all-steps-spec =
+    tie.close
+    (tie.spec (λ c. search needs) (λ c κs. search needs) (λ c κs. search needs) returns returns-2)

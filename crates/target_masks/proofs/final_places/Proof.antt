@@ -34,9 +34,6 @@ loop-holds c =
           (finals-end F _ (length-replicate placeCount true) (λ i h. getD-replicate placeCount i true false h) (p .few)),
     )
 
-sub-k : tie.Need-sub-k Inv-loop μ-loop
-sub-k c = omega arith
-
 add-arm : tie.Need-add-arm Inv-loop μ-loop
 add-arm c = omega (arith, few c)
 
@@ -55,14 +52,8 @@ node-at-requires c κs =
     let start = turn .before .before .before .before in
     (start .pre .0, (few turn, place-shaped (start .pre .1 .1) (turn .before .loop .k - 1) (omega arith)))
 
-node-final-requires : tie.Need-node-final-requires Inv-loop μ-loop
-node-final-requires c κs = search needs
-
 array-write-finals : tie.Need-array-write-finals Inv-loop μ-loop
 array-write-finals c = omega (arith, few (c .before .before .before))
-
-loop-less : tie.Need-loop-less Inv-loop μ-loop
-loop-less c = omega arith
 
 loop-again : tie.Need-loop-again Inv-loop μ-loop
 loop-again c =
@@ -84,5 +75,5 @@ returns c =
 pub final-places-spec : {M : Type 1} → statement M
 final-places-spec =
     tie.close
-    (tie.spec Inv-loop μ-loop node-count-requires loop-holds sub-k add-arm array-read-arm other-arm-requires array-read-other
-    node-at-requires node-final-requires array-write-finals loop-less loop-again returns)
+    (tie.spec Inv-loop μ-loop node-count-requires loop-holds (λ c. omega arith) add-arm array-read-arm other-arm-requires array-read-other
+    node-at-requires (λ c κs. search needs) array-write-finals (λ c. omega arith) loop-again returns)

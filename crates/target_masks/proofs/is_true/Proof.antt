@@ -5,21 +5,10 @@ use Rattle.target_masks.proofs.is_true.Tie as tie
 use mathlib.Core.Path.{_≡_}
 use native.Mathlib.Omega.{arith}
 
-mul-result : tie.Need-mul-result
-mul-result c = search needs
-
-add-result : tie.Need-add-result
-add-result c = search needs
-
-shared-slice-read-result : tie.Need-shared-slice-read-result
-shared-slice-read-result c = search needs
-
-returns : tie.Need-returns
-returns c = search needs
-
 returns-2 : tie.Need-returns-2
 returns-2 c = λ h. absurd (omega arith)
 
 pub is-true-spec : {M : Type 1} → statement M
 is-true-spec =
-    tie.close (tie.spec mul-result add-result shared-slice-read-result returns returns-2)
+    tie.close
+    (tie.spec (λ c. search needs) (λ c. search needs) (λ c. search needs) (λ c. search needs) returns-2)

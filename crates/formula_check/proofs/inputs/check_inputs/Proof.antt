@@ -28,20 +28,11 @@ returns-2 c =
     let a = c .before .before .before .before .args in
     sym (formula-short (a .table .now) (a .formula .now) next (c .before .if1 .left) (c .if2 .taken))
 
-is-prepared-requires : tie.Need-is-prepared-requires
-is-prepared-requires c κs = search needs
-
 returns-3 : tie.Need-returns-3
 returns-3 c =
     let a = c .before .before .before .before .before .before .args in
     let foreign = sym (c .before .is-prepared .ensures) ∙ not-true _ (c .if3 .taken) in
     sym (table-foreign (a .table .now) (a .formula .now) next (c .before .before .before .if1 .left) (c .before .before .if2 .left) foreign)
-
-label-count-requires : tie.Need-label-count-requires
-label-count-requires c κs = search needs
-
-is-prepared-requires-2 : tie.Need-is-prepared-requires-2
-is-prepared-requires-2 c κs = search needs
 
 -- What the last test finds, over the labels of the table in the bytes.
 tested : (table formula : List ℕ) {n : ℕ} {r b : Bool} → n ≡ labels (tableIn table) → r ≡ isPrepared n formula → r ≡ b
@@ -85,4 +76,4 @@ returns-5 c =
 pub check-inputs-spec : {M : Type 1} → statement M
 check-inputs-spec =
     tie.close
-    (tie.spec returns returns-2 is-prepared-requires returns-3 label-count-requires is-prepared-requires-2 returns-4 returns-5)
+    (tie.spec returns returns-2 (λ c κs. search needs) returns-3 (λ c κs. search needs) (λ c κs. search needs) returns-4 returns-5)

@@ -26,17 +26,11 @@ returns c =
     let b = c .before .before .args .formula .now in
     tested n b (short-bytes n b (c .if1 .taken))
 
-node-count-requires : tie.Need-node-count-requires
-node-count-requires c κs = search needs
-
 returns-2 : tie.Need-returns-2
 returns-2 c =
     let n = c .before .before .before .before .args .labels in
     let b = c .before .before .before .before .args .formula .now in
     tested n b (many-nodes n b (subst (λ k. 40 < k) (c .before .node-count .ensures) (c .if2 .taken)))
-
-slots-fit-requires : tie.Need-slots-fit-requires
-slots-fit-requires c κs = search needs
 
 returns-3 : tie.Need-returns-3
 returns-3 c =
@@ -46,15 +40,6 @@ returns-3 c =
     let fails = sym (c .before .slots-fit .ensures) ∙ not-true (c .before .slots-fit .result) (c .if3 .taken) in
     tested n b (slots-foreign n b (sym (ap (slotsFit n b) (counted .node-count .ensures)) ∙ fails))
 
-mul-zeros-from : tie.Need-mul-zeros-from
-mul-zeros-from c = search needs
-
-add-zeros-from : tie.Need-add-zeros-from
-add-zeros-from c = search needs
-
-zeros-from-requires : tie.Need-zeros-from-requires
-zeros-from-requires c κs = search needs
-
 returns-4 : tie.Need-returns-4
 returns-4 c =
     let counted = c .before .before .before .before .before in
@@ -62,9 +47,6 @@ returns-4 c =
     let b = counted .before .before .before .args .formula .now in
     let fails = sym (c .before .zeros-from .ensures) ∙ not-true (c .before .zeros-from .result) (c .if4 .taken) in
     tested n b (not-zeros n b (sym (ap (λ k. zerosFrom b (1 + k * nodeSlotLength)) (counted .node-count .ensures)) ∙ fails))
-
-spelled-requires : tie.Need-spelled-requires
-spelled-requires c κs = search needs
 
 returns-5 : tie.Need-returns-5
 returns-5 c =
@@ -87,5 +69,5 @@ returns-5 c =
 pub is-prepared-spec : {M : Type 1} → statement M
 is-prepared-spec =
     tie.close
-    (tie.spec returns node-count-requires returns-2 slots-fit-requires returns-3 mul-zeros-from add-zeros-from zeros-from-requires returns-4
-    spelled-requires returns-5)
+    (tie.spec returns (λ c κs. search needs) returns-2 (λ c κs. search needs) returns-3 (λ c. search needs) (λ c. search needs)
+    (λ c κs. search needs) returns-4 (λ c κs. search needs) returns-5)

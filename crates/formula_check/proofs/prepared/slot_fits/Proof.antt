@@ -11,15 +11,6 @@ use borrow.Author.Needs.{needs}
 use Rattle.formula_check.proofs.prepared.slot_fits.Statement.{statement}
 use Rattle.formula_check.proofs.prepared.slot_fits.Tie as tie
 
-mul-kind : tie.Need-mul-kind
-mul-kind c = search needs
-
-add-kind : tie.Need-add-kind
-add-kind c = search needs
-
-shared-slice-read-kind : tie.Need-shared-slice-read-kind
-shared-slice-read-kind c = search needs
-
 returns : tie.Need-returns
 returns c =
     let a = c .before .before .before .args in
@@ -29,21 +20,6 @@ returns-2 : tie.Need-returns-2
 returns-2 c =
     let a = c .before .before .before .before .args in
     sym (kind-high (a .labels) (slotAt (a .formula .now) (a .k)) (c .if2 .taken))
-
-masks-of-requires : tie.Need-masks-of-requires
-masks-of-requires c κs = search needs
-
-first-mask-requires : tie.Need-first-mask-requires
-first-mask-requires c κs = search needs
-
-mask-fits-requires : tie.Need-mask-fits-requires
-mask-fits-requires c κs = search needs
-
-second-mask-requires : tie.Need-second-mask-requires
-second-mask-requires c κs = search needs
-
-mask-fits-requires-2 : tie.Need-mask-fits-requires-2
-mask-fits-requires-2 c κs = search needs
 
 -- Both masks were tested, of a kind that is known.
 module _ (c : tie.After-mask-fits2) where
@@ -79,5 +55,5 @@ returns-4 c = c .if3 .left ∙ (sym (ap (λ t. t && c .before .mask-fits2 .resul
 pub slot-fits-spec : {M : Type 1} → statement M
 slot-fits-spec =
     tie.close
-    (tie.spec mul-kind add-kind shared-slice-read-kind returns returns-2 masks-of-requires first-mask-requires mask-fits-requires
-    second-mask-requires mask-fits-requires-2 returns-3 returns-4)
+    (tie.spec (λ c. search needs) (λ c. search needs) (λ c. search needs) returns returns-2 (λ c κs. search needs) (λ c κs. search needs)
+    (λ c κs. search needs) (λ c κs. search needs) (λ c κs. search needs) returns-3 returns-4)

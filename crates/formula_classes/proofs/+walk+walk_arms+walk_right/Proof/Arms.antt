@@ -1,5 +1,4 @@
 -- What `walk_arms` shows at each of its places: the arm's walk, then `|` by its right arm, or the node noted.
-use borrow.Author.Needs.{needs}
 use mathlib.Core.Path.{_≡_, sym, _∙_, subst}
 use mathlib.Core.List.{List}
 use Prim.Native.Nat.{ℕ, _+_, _≤_, _<_}
@@ -62,12 +61,6 @@ module _ (t : ℕ) where
   walk-requires c κs =
       let entry = c .before .before .before .before .before in
       (omega (arith, entry .pre .0, entry .pre .1 .1 .inside), entry .pre .1 .0)
-
-  pub enum-known-middle : walk-arms-lts.Need-enum-known-middle (walk-arms-claims t) (walk-arms-at t) walk-arms.Post
-  enum-known-middle c = search needs
-
-  pub enum-told : walk-arms-lts.Need-enum-told (walk-arms-claims t) (walk-arms-at t) walk-arms.Post
-  enum-told c = search needs
 
   pub same-length : walk-arms-lts.Need-same-length (walk-arms-claims t) (walk-arms-at t) walk-arms.Post
   same-length c = c .before .before .before .before .before .before .walk .kept .1 .1 .0

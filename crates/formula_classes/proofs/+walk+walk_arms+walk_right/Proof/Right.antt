@@ -1,5 +1,4 @@
 -- What `walk_right` shows at each of its places: the right arm's walk, then the node noted.
-use borrow.Author.Needs.{needs}
 use mathlib.Core.Path.{_≡_, sym, _∙_, subst}
 use Prim.Native.Nat.{ℕ, _+_, _≤_, _<_}
 use native.Mathlib.Omega.{arith}
@@ -38,12 +37,6 @@ module _ (t : ℕ) where
       let entry = c .before .before .before .before .before in
       (omega (arith, entry .pre .0), entry .pre .1 .0)
 
-  pub enum-known-end : walk-right-lts.Need-enum-known-end (walk-right-claims t) (walk-right-at t) walk-right.Post
-  enum-known-end c = search needs
-
-  pub enum-told : walk-right-lts.Need-enum-told (walk-right-claims t) (walk-right-at t) walk-right.Post
-  enum-told c = search needs
-
   pub same-length : walk-right-lts.Need-same-length (walk-right-claims t) (walk-right-at t) walk-right.Post
   same-length c = c .before .before .before .before .before .before .walk .kept .1 .1 .0
 
@@ -52,12 +45,10 @@ module _ (t : ℕ) where
 
   pub returns : walk-right-lts.Need-returns (walk-right-claims t) (walk-right-at t) walk-right.Post
   returns c =
-      let walk = c .before .before .before .before .before .before .walk in
-      let a = c .before .before .before .before .before .before .before .before .before .before .before .before .args in
-      subst
-          (Walks (a .kinds .now) (a .ends .now) (walk .last .1 .1 .0) (a .classes .now) (walk .last .1 .1 .1 .0) (a .middle))
-          (c .enum-told .given .1)
-          (walk .ensures)
+      let walked = c .before .before .before .before .before .before in
+      let a = walked .before .before .before .before .before .before .args in
+      let after = walked .walk .last .1 .1 in
+      subst (Walks (a .kinds .now) (a .ends .now) (after .0) (a .classes .now) (after .1 .0) (a .middle)) (c .enum-told .given .1) (walked .walk .ensures)
 
   pub class-of-or-requires : walk-right-lts.Need-class-of-or-requires (walk-right-claims t) (walk-right-at t) walk-right.Post
   class-of-or-requires c κs =

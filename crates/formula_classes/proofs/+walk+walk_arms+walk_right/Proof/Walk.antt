@@ -1,5 +1,4 @@
 -- What `walk` shows at each of its places: no kind, T, or a node with an arm.
-use borrow.Author.Needs.{needs}
 use mathlib.Core.Path.{_≡_, sym, _∙_}
 use mathlib.Core.List.{List}
 use Prim.Native.Nat.{ℕ, _≤_, _<_}
@@ -27,9 +26,6 @@ module _ (t : ℕ) where
     room : Room (entry .args .kinds .now) (entry .args .ends .now) (entry .args .classes .now)
     room = entry .pre .1
 
-  pub kind-at-requires : walk-lts.Need-kind-at-requires (walk-claims t) (walk-at t) walk.Post
-  kind-at-requires c κs = search needs
-
   pub returns : walk-lts.Need-returns (walk-claims t) (walk-at t) walk.Post
   returns c =
       let a = c .before .before .before .before .before .args in
@@ -39,9 +35,6 @@ module _ (t : ℕ) where
   add-note c =
       let node = c .before .before .before in
       omega (arith, known node .inside, room node .few)
-
-  pub class-from-requires : walk-lts.Need-class-from-requires (walk-claims t) (walk-at t) walk.Post
-  class-from-requires c κs = search needs
 
   pub note-requires : walk-lts.Need-note-requires (walk-claims t) (walk-at t) walk.Post
   note-requires c κs =

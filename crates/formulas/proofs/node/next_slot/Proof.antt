@@ -8,21 +8,6 @@ use borrow.Author.Needs.{needs}
 use Rattle.formulas.proofs.node.next_slot.Statement.{statement}
 use Rattle.formulas.proofs.node.next_slot.Tie as tie
 
-enum-told : tie.Need-enum-told
-enum-told c = search needs
-
-slot-with-requires : tie.Need-slot-with-requires
-slot-with-requires c κs = search needs
-
-enum-known-condition : tie.Need-enum-known-condition
-enum-known-condition c = search needs
-
-add-slot-with : tie.Need-add-slot-with
-add-slot-with c = search needs
-
-slot-with-requires-2 : tie.Need-slot-with-requires-2
-slot-with-requires-2 c κs = search needs
-
 returns : tie.Need-returns
 returns c =
     let kind = c .before .before .before .args .kind in
@@ -37,4 +22,4 @@ returns-2 c =
 pub next-slot-spec : {M : Type 1} → statement M
 next-slot-spec =
     tie.close
-    (tie.spec enum-told slot-with-requires enum-known-condition add-slot-with slot-with-requires-2 returns returns-2)
+    (tie.spec (λ c. search needs) (λ c κs. search needs) (λ c. search needs) (λ c. search needs) (λ c κs. search needs) returns returns-2)

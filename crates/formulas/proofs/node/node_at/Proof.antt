@@ -28,30 +28,6 @@ module _ (c : tie.Start) where
     with-first : {a : ℕ} → secondUsed kind ≡ false → read .first ≡ a → slot kind a 0 ≡ read
     with-first s f = slot-with-first read (c .pre .1 .1) e s f
 
-mul-match : tie.Need-mul-match
-mul-match c = search needs
-
-add-match : tie.Need-add-match
-add-match c = search needs
-
-shared-slice-read-match : tie.Need-shared-slice-read-match
-shared-slice-read-match c = search needs
-
-first-mask-requires : tie.Need-first-mask-requires
-first-mask-requires c κs = search needs
-
-first-mask-requires-2 : tie.Need-first-mask-requires-2
-first-mask-requires-2 c κs = search needs
-
-first-mask-requires-3 : tie.Need-first-mask-requires-3
-first-mask-requires-3 c κs = search needs
-
-first-mask-requires-4 : tie.Need-first-mask-requires-4
-first-mask-requires-4 c κs = search needs
-
-second-mask-requires : tie.Need-second-mask-requires
-second-mask-requires c κs = search needs
-
 returns : tie.Need-returns
 returns c = without-masks (c .before .before .before) (c .match .keys1) refl refl
 
@@ -88,5 +64,6 @@ returns-9 c =
 pub node-at-spec : {M : Type 1} → statement M
 node-at-spec =
     tie.close
-    (tie.spec mul-match add-match shared-slice-read-match first-mask-requires first-mask-requires-2 first-mask-requires-3
-    first-mask-requires-4 second-mask-requires returns returns-2 returns-3 returns-4 returns-5 returns-6 returns-7 returns-8 returns-9)
+    (tie.spec (λ c. search needs) (λ c. search needs) (λ c. search needs) (λ c κs. search needs) (λ c κs. search needs)
+    (λ c κs. search needs) (λ c κs. search needs) (λ c κs. search needs) returns returns-2 returns-3 returns-4 returns-5 returns-6 returns-7
+    returns-8 returns-9)

@@ -14,20 +14,8 @@ abbrev μ-loop : tie.MeasureT-loop
 loop-holds : tie.Need-loop-holds Inv-loop μ-loop
 loop-holds c = masked-none _ _ _
 
-cast-formula : tie.Need-cast-formula Inv-loop μ-loop
-cast-formula c = omega arith
-
-add-formula : tie.Need-add-formula Inv-loop μ-loop
-add-formula c = omega arith
-
 slice-write-formula : tie.Need-slice-write-formula Inv-loop μ-loop
 slice-write-formula c = omega (arith, masked-length (c .before .before .pre) (c .before .loop .inv))
-
-add-i : tie.Need-add-i Inv-loop μ-loop
-add-i c = omega arith
-
-loop-less : tie.Need-loop-less Inv-loop μ-loop
-loop-less c = omega arith
 
 loop-again : tie.Need-loop-again Inv-loop μ-loop
 loop-again c = masked-more (c .before .before .pre) (c .before .loop .inv) (omega arith)
@@ -41,4 +29,5 @@ returns c = masked-all (c .before .before .pre) (c .before .loop .inv) (omega ar
 pub put-mask-spec : {M : Type 1} → statement M
 put-mask-spec =
     tie.close
-    (tie.spec Inv-loop μ-loop loop-holds cast-formula add-formula slice-write-formula add-i loop-less loop-again same-length returns)
+    (tie.spec Inv-loop μ-loop loop-holds (λ c. omega arith) (λ c. omega arith) slice-write-formula (λ c. omega arith) (λ c. omega arith)
+    loop-again same-length returns)

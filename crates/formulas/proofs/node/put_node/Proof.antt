@@ -19,26 +19,8 @@ module _ (c : tie.After-slot-of) where
   kind-length : length (set (c .before .before .args .formula .now) slot-place (c .slot-of .result .kind)) ≡ length (c .before .before .args .formula .now)
   kind-length = length-set (c .before .before .args .formula .now) slot-place (c .slot-of .result .kind)
 
-slot-of-requires : tie.Need-slot-of-requires
-slot-of-requires c κs = search needs
-
-mul-at : tie.Need-mul-at
-mul-at c = search needs
-
-add-at : tie.Need-add-at
-add-at c = search needs
-
-slice-write-formula : tie.Need-slice-write-formula
-slice-write-formula c = search needs
-
-add-put-mask : tie.Need-add-put-mask
-add-put-mask c = search needs
-
 put-mask-requires : tie.Need-put-mask-requires
 put-mask-requires c κs = omega (arith, c .before .before .before .pre, kind-length (c .before))
-
-add-put-mask-2 : tie.Need-add-put-mask-2
-add-put-mask-2 c = search needs
 
 put-mask-requires-2 : tie.Need-put-mask-requires-2
 put-mask-requires-2 c κs =
@@ -68,5 +50,5 @@ returns c =
 pub put-node-spec : {M : Type 1} → statement M
 put-node-spec =
     tie.close
-    (tie.spec slot-of-requires mul-at add-at slice-write-formula add-put-mask put-mask-requires add-put-mask-2 put-mask-requires-2
-    same-length returns)
+    (tie.spec (λ c κs. search needs) (λ c. search needs) (λ c. search needs) (λ c. search needs) (λ c. search needs) put-mask-requires
+    (λ c. search needs) put-mask-requires-2 same-length returns)

@@ -46,33 +46,6 @@ label-at-once-requires c κs =
     let start = c .before .before in
     (start .pre .1 .0 .fit, omega (arith, c .state-count .ensures .count, start .pre .0 .in-range .few-states))
 
-enum-told : tie.Need-enum-told
-enum-told c = search needs
-
-enum-told-2 : tie.Need-enum-told-2
-enum-told-2 c = search needs
-
-enum-told-3 : tie.Need-enum-told-3
-enum-told-3 c = search needs
-
-enum-told-4 : tie.Need-enum-told-4
-enum-told-4 c = search needs
-
-enum-told-5 : tie.Need-enum-told-5
-enum-told-5 c = search needs
-
-enum-known-node : tie.Need-enum-known-node
-enum-known-node c = search needs
-
-until-requires : tie.Need-until-requires
-until-requires c κs = search needs
-
-enum-known-node-2 : tie.Need-enum-known-node-2
-enum-known-node-2 c = search needs
-
-until-requires-2 : tie.Need-until-requires-2
-until-requires-2 c κs = search needs
-
 -- A node that is known: what holds at once makes what is wanted.
 settled : (c : tie.After-label-at-once) (flags : List Bool) {n : Node} → c .before .before .before .args .node ≡ n
     → (AtOnce (c .before .before .before) (c .label-at-once .result) n → Wanted (c .before .before .before) flags n)
@@ -111,5 +84,6 @@ returns-7 c =
 pub label-node-spec : {M : Type 1} → statement M
 label-node-spec =
     tie.close
-    (tie.spec state-count-requires label-at-once-requires enum-told enum-told-2 enum-told-3 enum-told-4 enum-told-5 enum-known-node
-    until-requires enum-known-node-2 until-requires-2 returns returns-2 returns-3 returns-4 returns-5 returns-6 returns-7)
+    (tie.spec state-count-requires label-at-once-requires (λ c. search needs) (λ c. search needs) (λ c. search needs) (λ c. search needs)
+    (λ c. search needs) (λ c. search needs) (λ c κs. search needs) (λ c. search needs) (λ c κs. search needs) returns returns-2 returns-3
+    returns-4 returns-5 returns-6 returns-7)

@@ -15,51 +15,6 @@ use Rattle.labelling.proofs.steps.at_once.Tie as tie
 abbrev value : tie.Start → Node → Bool
 value c node = atOnce node (flagAt (c .args .arm .now)) (flagAt (c .args .other .now)) (c .args .s) (stepsIn (c .args .steps .now) (c .args .firsts .now) (c .args .s))
 
-enum-told : tie.Need-enum-told
-enum-told c = search needs
-
-enum-told-2 : tie.Need-enum-told-2
-enum-told-2 c = search needs
-
-element-copy-out-result : tie.Need-element-copy-out-result
-element-copy-out-result c = search needs
-
-enum-told-3 : tie.Need-enum-told-3
-enum-told-3 c = search needs
-
-element-copy-out-if1 : tie.Need-element-copy-out-if1
-element-copy-out-if1 c = search needs
-
-element-copy-out-result-2 : tie.Need-element-copy-out-result-2
-element-copy-out-result-2 c = search needs
-
-enum-known-node : tie.Need-enum-known-node
-enum-known-node c = search needs
-
-some-step-requires : tie.Need-some-step-requires
-some-step-requires c κs = search needs
-
-enum-known-node-2 : tie.Need-enum-known-node-2
-enum-known-node-2 c = search needs
-
-some-step-requires-2 : tie.Need-some-step-requires-2
-some-step-requires-2 c κs = search needs
-
-enum-told-4 : tie.Need-enum-told-4
-enum-told-4 c = search needs
-
-element-copy-out-result-3 : tie.Need-element-copy-out-result-3
-element-copy-out-result-3 c = search needs
-
-enum-known-node-3 : tie.Need-enum-known-node-3
-enum-known-node-3 c = search needs
-
-some-step-requires-3 : tie.Need-some-step-requires-3
-some-step-requires-3 c κs = search needs
-
-returns : tie.Need-returns
-returns c = search needs
-
 returns-2 : tie.Need-returns-2
 returns-2 c = sym (ap (value (c .before .before .before)) (c .before .enum-told2 .given .1))
 
@@ -96,6 +51,6 @@ returns-8 c = c .some-step3 .ensures ∙ sym (ap (value (c .before .before .befo
 pub at-once-spec : {M : Type 1} → statement M
 at-once-spec =
     tie.close
-    (tie.spec enum-told enum-told-2 element-copy-out-result enum-told-3 element-copy-out-if1 element-copy-out-result-2 enum-known-node
-    some-step-requires enum-known-node-2 some-step-requires-2 enum-told-4 element-copy-out-result-3 enum-known-node-3
-    some-step-requires-3 returns returns-2 returns-3 returns-4 returns-5 returns-6 returns-7 returns-8)
+    (tie.spec (λ c. search needs) (λ c. search needs) (λ c. search needs) (λ c. search needs) (λ c. search needs) (λ c. search needs)
+    (λ c. search needs) (λ c κs. search needs) (λ c. search needs) (λ c κs. search needs) (λ c. search needs) (λ c. search needs)
+    (λ c. search needs) (λ c κs. search needs) (λ c. search needs) returns-2 returns-3 returns-4 returns-5 returns-6 returns-7 returns-8)
