@@ -15,10 +15,10 @@ use Rattle.lts.specs.Steps.{Table, labels}
 use Rattle.lts.specs.Prepared.{tableIn, preparedTable}
 use Rattle.lts.specs.HoldsTable.{HoldsTable}
 use Rattle.lts.specs.Answers.{isSome}
-use Rattle.lts.proofs.Laws.Prepared.{is-some-of, prepared-in, prepared-of, prepared-holds}
+use Rattle.lts.proofs.Laws.Prepared.{prepared-in, prepared-of, prepared-holds}
 use Rattle.actl.specs.Formulas.{Formula}
 use Rattle.actl.specs.Prepared.{preparedFormula}
-use Rattle.actl.specs.FormulaReading.{withTable, withFormula, longEnough, onPrepared}
+use Rattle.actl.specs.FormulaReading.{withTable, withFormula, onPrepared}
 use Rattle.formula_check.specs.Inputs.{unprepared, inputsReply}
 use Rattle.formula_check.specs.declared.inputs.Inputs.{Inputs}
 use Rattle.formula_check.specs.declared.inputs.Inputs.the-variants.{Prepared, Refused}

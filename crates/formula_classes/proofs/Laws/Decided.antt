@@ -1,32 +1,32 @@
 -- The check decides: bytes pass all its tests exactly if they are a prepared formula.
 use mathlib.Core.Path.{_≡_, refl, sym, ap, _∙_, subst}
-use mathlib.Core.Bool.{Bool, true, false, true≢false, false≢true, cond, _&&_}
-use mathlib.Core.List.{List, [], _∷_, _++_, map, List·Memᴰ}
+use mathlib.Core.Bool.{Bool, true, false, false≢true, cond}
+use mathlib.Core.List.{List, [], _∷_, map, List·Memᴰ}
 use mathlib.Core.Option.{Option, none, some}
-use Prim.Native.Nat.{ℕ, zero, suc, _+_, _*_, _-_, _≤_, _<_}
+use Prim.Native.Nat.{ℕ, _+_, _*_, _-_, _≤_, _<_}
 use native.Mathlib.Omega.{arith}
 use lib.Dec.{eqb}
-use lib.ListN.{length, getD, take, drop, replicate, length-take, length-map, length-append, List·getD-map}
-use lib.Seq.{getD-take, getD-append-add, ext-getD}
-use borrow.Author.Tests.{eqb-true, eq-eqb}
+use lib.ListN.{length, getD, length-take, length-map}
+use lib.Seq.{getD-take}
+use borrow.Author.Tests.{eq-eqb}
 use Rattle.actl.specs.Sizes.{mostNodes, nodeSlotLength, formulaLength}
-use Rattle.lts.specs.Lists.{upFrom, bind, every}
+use Rattle.lts.specs.Lists.{upFrom}
 use Rattle.lts.specs.Answers.{isSome, Decides}
 use Rattle.lts.proofs.Lists.{upFrom-of, every-of, every-to, and-true-of, and-true-to, getD-mem, map-of, map-to}
-use Rattle.actl.specs.Formulas.{Formula, tru, size, nodes, classOf}
-use Rattle.actl.specs.Prepared.{Slot, slot, slotOf, slotBytes, formulaBytes, slotAt, slotWithin, IsForm, treesIn, formed, preparedFormula}
+use Rattle.actl.specs.Formulas.{Formula, tru, size, nodes}
+use Rattle.actl.specs.Prepared.{Slot, slotOf, slotAt, slotWithin, IsForm, formed, preparedFormula}
 use Rattle.actl.specs.Shaped.{shaped}
-use Rattle.actl.specs.Walk.{kindsOf, kindsIn}
+use Rattle.actl.specs.Walk.{kindsIn}
 use Rattle.actl.specs.Check.{isPrepared, slotFits, slotsFit, zerosFrom, SpelledClassed}
-use Rattle.actl.proofs.Nodes.{length-nodes, size-pos}
+use Rattle.actl.proofs.Nodes.{length-nodes}
 use Rattle.actl.proofs.Laws.Skeletons.{class-by-kinds}
 use Rattle.actl.proofs.Laws.Classed.{nodes-classed, root-among-nodes}
-use Rattle.actl.proofs.Laws.Parsing.{Decoded, decoded}
+use Rattle.actl.proofs.Laws.Parsing.{decoded}
 use Rattle.actl.proofs.Laws.Forms.{length-form, form-zeros}
-use Rattle.actl.proofs.Laws.Lists.{length-upFrom, getD-upFrom}
+use Rattle.actl.proofs.Laws.Lists.{length-upFrom}
 use Rattle.actl.proofs.Laws.Prepared.{prepared-of, prepared-few, prepared-count, prepared-slot, prepared-shaped, is-form-to}
 use Rattle.actl.proofs.Laws.Recoded.{Bytes, form-of-bytes}
-use Rattle.formula_classes.proofs.Laws.Walked.{kinds-prepared, length-kinds-in}
+use Rattle.formula_classes.proofs.Laws.Walked.{kinds-prepared}
 
 none-prepared : (o : Option Formula) → ((F : Formula) → o ≡ some F → ⊥) → isSome o ≡ false
 none-prepared none h = refl

@@ -1,10 +1,9 @@
 -- A walk from node 0 over a formula's kinds: the ends and the classes that it leaves are those of the formula's nodes.
-use mathlib.Core.Path.{_≡_, refl, sym, ap, _∙_, subst}
-use mathlib.Core.Bool.{Bool, true, false, cond, not as negate}
-use mathlib.Core.List.{List, [], _∷_, _++_, map, append-nil}
-use mathlib.Core.Option.{Option, none, some}
+use mathlib.Core.Path.{_≡_, refl, sym, ap, _∙_}
+use mathlib.Core.Bool.{Bool, true, false, not as negate}
+use mathlib.Core.List.{List, [], _∷_, _++_, append-nil}
+use mathlib.Core.Option.{some}
 use Prim.Native.Nat.{ℕ, zero, suc, _+_, _*_, _-_, _≤_, _<_}
-use native.Mathlib.Nat.{zero-add}
 use native.Mathlib.Decide.{decLt}
 use native.Mathlib.Omega.{arith}
 use lib.Dec.{eqb}
@@ -13,8 +12,8 @@ use lib.Seq.{sets, sets-eq, take-at, getD-append-add, ext-getD}
 use borrow.Author.Tests.{eqb-true, eqb-false}
 use Rattle.actl.specs.Sizes.{nodeSlotLength}
 use Rattle.lts.specs.Lists.{upFrom}
-use Rattle.actl.specs.Formulas.{Formula, tru, not, or, ex, ax, eu, euThen, size, nodes, classOf, hasNoClass, highestFrom, highestWithoutClass}
-use Rattle.actl.specs.Prepared.{slotAt, preparedFormula}
+use Rattle.actl.specs.Formulas.{Formula, tru, not, or, ex, ax, eu, euThen, size, nodes, classOf}
+use Rattle.actl.specs.Prepared.{preparedFormula}
 use Rattle.lts.specs.Answers.{Decides}
 use Rattle.lts.proofs.Laws.Decides.{decided-yes, decided-no}
 use Rattle.actl.specs.Check.{SpelledClassed}
@@ -22,7 +21,7 @@ use Rattle.actl.specs.Walk.{kindOf, kindsOf, kindsIn, armOf, classOfArm, endsFr
 use Rattle.formula_classes.specs.WalkReplies.{Walks}
 use Rattle.formula_classes.specs.declared.Walked.{Walked}
 use Rattle.formula_classes.specs.declared.Walked.the-variants.{Broken, Node}
-use Rattle.actl.proofs.Nodes.{length-nodes, size-pos}
+use Rattle.actl.proofs.Nodes.{length-nodes}
 use Rattle.actl.proofs.Laws.Skeletons.{size-by-kinds, class-by-kinds, ends-by-kinds, classes-by-kinds}
 use Rattle.actl.proofs.Laws.Lists.{length-upFrom, getD-upFrom}
 use Rattle.actl.proofs.Laws.Prepared.{prepared-count, prepared-slot}

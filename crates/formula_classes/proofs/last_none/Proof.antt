@@ -1,5 +1,5 @@
 -- `last_none` meets its contract: the classes that are left, with the last none so far, give what the whole list gives.
-use mathlib.Core.Path.{_≡_, refl, sym, ap, _∙_, subst}
+use mathlib.Core.Path.{sym, ap, _∙_, subst}
 use mathlib.Core.Bool.{cond}
 use mathlib.Core.Logic.{⊎-elim}
 use mathlib.Core.Option.{none, some}

@@ -1,5 +1,5 @@
 -- `spelled` meets its contract: the kinds are those of a formula with a class exactly if the walk ends behind the last of them.
-use mathlib.Core.Path.{_≡_, subst}
+use mathlib.Core.Path.{subst}
 use mathlib.Core.List.{List}
 use Prim.Native.Nat.{ℕ}
 use lib.ListN.{replicate}

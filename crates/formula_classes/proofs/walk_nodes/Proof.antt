@@ -1,6 +1,5 @@
 -- `walk_nodes` meets its contract: the kinds that were read are those of the first nodes.
-use mathlib.Core.Path.{_≡_, sym, ap, _∙_, subst}
-use Prim.Native.Nat.{_≤_}
+use mathlib.Core.Path.{sym, ap, _∙_, subst}
 use native.Mathlib.Omega.{arith}
 use lib.ListN.{length}
 use Rattle.formula_classes.specs.WalkReplies.{Walks}

@@ -1,13 +1,11 @@
 -- What holds at a node, from the rows of its arms: the node in a slot is the subformula's, and its rows make the next one.
 use mathlib.Core.Path.{_≡_, refl, sym, ap, _∙_, subst}
-use mathlib.Core.Logic.{_⊎_, inl, inr}
-use mathlib.Core.Bool.{Bool, true, false, cond, not as negate, _||_}
+use mathlib.Core.Logic.{inr}
+use mathlib.Core.Bool.{Bool, not as negate, _||_}
 use mathlib.Core.List.{List}
-use mathlib.Core.Option.{some}
-use Prim.Native.Nat.{ℕ, zero, suc, _+_, _*_, _≤_, _<_}
+use Prim.Native.Nat.{ℕ, suc, _+_, _*_, _≤_, _<_}
 use native.Mathlib.Decide.{ℕ-discrete}
 use native.Mathlib.Omega.{arith}
-use lib.Dec.{eqb}
 use lib.ListN.{length, getD}
 use Rattle.actl.specs.Sizes.{mostNodes}
 use Rattle.lts.specs.Sizes.{mostStates}
@@ -15,14 +13,11 @@ use Rattle.lts.specs.Steps.{Table, labels as labelCount}
 use Rattle.lts.specs.Prepared.{tableIn}
 use Rattle.lts.specs.HoldsTable.{HoldsTable}
 use Rattle.lts.specs.Range.{InRange}
-use Rattle.actl.specs.Actions.{Mask, inSet, Cond, silent, labels, meets}
-use Rattle.actl.specs.Formulas.{Formula, tru, not, or, ex, ax, eu, euThen, size, nodes, At, root, in-not, in-left, in-right, in-ex, in-ax, in-eu, in-euThen}
-use Rattle.actl.specs.Prepared.{Slot, slotOf}
-use Rattle.formulas.specs.Access.{condIn, slotOfNode}
-use Rattle.formulas.specs.declared.node.Condition.{Condition}
-use Rattle.formulas.specs.declared.node.Condition.the-variants.{Silent, Labels}
+use Rattle.actl.specs.Actions.{Mask, inSet, silent, labels, meets}
+use Rattle.actl.specs.Formulas.{Formula, tru, not, or, ex, ax, eu, euThen, size, nodes, At, in-not, in-left, in-right, in-ex, in-ax, in-eu, in-euThen}
+use Rattle.actl.specs.Prepared.{slotOf}
+use Rattle.formulas.specs.Access.{slotOfNode}
 use Rattle.formulas.specs.declared.node.Node.{Node}
-use Rattle.formulas.specs.declared.node.Node.the-variants.{True, Not, Or, Ex, Ax, Until, UntilThen}
 use Rattle.formulas.proofs.NodeSlots.{nodeIn, node-in-slot}
 use Rattle.actl.proofs.Laws.Prepared.{prepared-few, prepared-count}
 use Rattle.actl.proofs.Subformulas.{node-at, at-node, at-lt}

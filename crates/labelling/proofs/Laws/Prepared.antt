@@ -1,25 +1,23 @@
 -- Prepared formulas as labelling reads them: their length, their count of nodes, and the rows from the last node on.
-use mathlib.Core.Path.{_≡_, refl, sym, ap, _∙_}
+use mathlib.Core.Path.{_≡_, sym, ap, _∙_}
 use mathlib.Core.Bool.{Bool, true, false}
 use mathlib.Core.List.{List}
-use mathlib.Core.Option.{some}
-use Prim.Native.Nat.{ℕ, _+_, _≤_, _<_}
+use Prim.Native.Nat.{ℕ, _≤_, _<_}
 use native.Mathlib.Nat.{zero-add}
 use native.Mathlib.Omega.{arith}
-use lib.ListN.{length, getD, replicate, length-take, length-replicate}
+use lib.ListN.{length, getD, length-take}
 use Rattle.actl.specs.Sizes.{mostNodes, formulaLength, nodePositions}
 use Rattle.lts.specs.Steps.{labels}
 use Rattle.lts.specs.Prepared.{tableIn}
 use Rattle.lts.specs.HoldsTable.{HoldsTable}
-use Rattle.actl.specs.Formulas.{Formula, tru, size, nodes, root}
-use Rattle.actl.specs.Prepared.{preparedFormula, slotAt}
+use Rattle.actl.specs.Formulas.{Formula, root}
+use Rattle.actl.specs.Prepared.{slotAt}
 use Rattle.actl.specs.Shaped.{shaped}
 use Rattle.actl.proofs.Nodes.{size-pos}
 use Rattle.actl.proofs.Subformulas.{node-at}
 use Rattle.actl.proofs.Laws.Forms.{length-form}
 use Rattle.actl.proofs.Laws.Prepared.{prepared-of, prepared-few, prepared-count, prepared-shaped}
 use Rattle.satisfaction.specs.Holds.{holds}
-use Rattle.until_search.specs.Flags.{NodeFlags}
 use Rattle.labelling.specs.Nodes.{RowsFrom, NodesLabelled, AtStart}
 use Rattle.actl.specs.HoldsFormula.{HoldsFormula}
 

@@ -1,6 +1,5 @@
 -- `holds_at_start` meets its contract: the flag of node 0 at the start.
 use borrow.Author.Needs.{needs}
-use mathlib.Core.Path.{_≡_, refl, sym, ap, _∙_}
 use Rattle.labelling.proofs.Laws.Prepared.{formula-long, root-at-start}
 use Rattle.labelling.proofs.holds_at_start.Statement.{statement}
 use Rattle.labelling.proofs.holds_at_start.Tie as tie

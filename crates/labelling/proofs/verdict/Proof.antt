@@ -7,7 +7,6 @@ use Prim.Native.Nat.{ℕ}
 use Rattle.lts.specs.Reply.{Reply, accepted}
 use Rattle.lts.specs.Steps.{Table}
 use Rattle.actl.specs.Formulas.{Formula}
-use Rattle.formula_check.specs.Inputs.{inputsReply}
 use Rattle.formula_check.proofs.Laws.Inputs.{Both, goes-on, both-by, refused-by}
 use Rattle.satisfaction.specs.Holds.{verdict}
 use Rattle.satisfaction.specs.VerdictAsked.{verdictReplied, VerdictAnswered}

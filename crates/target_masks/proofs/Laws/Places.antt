@@ -5,8 +5,7 @@ use mathlib.Core.Bool.{Bool, true, false, cond}
 use mathlib.Core.List.{List, [], _∷_}
 use mathlib.Core.Option.{some}
 use Prim.Native.Nat.{ℕ, zero, suc, _+_, _-_, _*_, _^_, _<_, _≤_}
-use native.Mathlib.Numerals.{add-one}
-use native.Mathlib.Decide.{decLt, ℕ-discrete}
+use native.Mathlib.Decide.{ℕ-discrete}
 use native.Mathlib.Omega.{arith}
 use lib.Dec.{eqb}
 use borrow.Author.Tests.{eq-eqb, ne-eqb}
@@ -17,15 +16,14 @@ use Rattle.automaton.specs.Sizes.{placeCount, columnCount, masksLength}
 use Rattle.lts.specs.Sizes.{mostLabels}
 use Rattle.lts.specs.Steps.{idleLabel, Carried}
 use Rattle.lts.proofs.Silence.{zero-silent, idle-silent}
-use Rattle.actl.specs.Formulas.{Formula, size, isT, At}
-use Rattle.actl.specs.Prepared.{slotOf, slotAt, preparedFormula}
+use Rattle.actl.specs.Formulas.{Formula, size, isT}
+use Rattle.actl.specs.Prepared.{slotAt, preparedFormula}
 use Rattle.formulas.specs.Access.{slotOfNode}
 use Rattle.actl.specs.Shaped.{shaped}
 use Rattle.formula_classes.specs.WalkReplies.{ShapeOf}
 use Rattle.formula_classes.specs.declared.Shape.{Shape}
 use Rattle.formulas.specs.declared.node.Node.{Node}
-use Rattle.actl.proofs.Subformulas.{at-node, at-lt}
-use Rattle.actl.proofs.Nodes.{size-pos}
+use Rattle.actl.proofs.Subformulas.{at-node}
 use Rattle.formulas.proofs.NodeSlots.{T-by-kind}
 use Rattle.actl.proofs.Laws.Slots.{node-shaped}
 use Rattle.actl.proofs.Laws.Prepared.{prepared-few, prepared-count, prepared-slot}

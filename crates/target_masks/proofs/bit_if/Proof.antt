@@ -2,8 +2,7 @@
 use borrow.Author.Needs.{needs}
 use Rattle.target_masks.proofs.bit_if.Statement.{statement}
 use Rattle.target_masks.proofs.bit_if.Tie as tie
-use mathlib.Core.Path.{_≡_, ap, _∙_}
-use mathlib.Core.Bool.{cond}
+use mathlib.Core.Path.{_∙_}
 use native.Mathlib.Nat.{one-mul}
 use native.Mathlib.Omega.{arith}
 use lib.Pow.{shl-exact}

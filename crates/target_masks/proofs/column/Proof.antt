@@ -1,5 +1,5 @@
 -- `column` meets its contract: a label that is not the idle step's is one of 40.
-use mathlib.Core.Path.{_≡_, sym}
+use mathlib.Core.Path.{sym}
 use mathlib.Core.Logic.{inl, inr}
 use native.Mathlib.Omega.{arith}
 use Rattle.target_masks.proofs.Laws.Places.{idle-column, own-column}

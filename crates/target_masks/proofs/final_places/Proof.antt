@@ -1,7 +1,7 @@
 -- `final_places` meets its contract: the flags from place k on are right.
 use mathlib.Core.Path.{_≡_, sym, _∙_, subst}
 use mathlib.Core.Bool.{true, false}
-use Prim.Native.Nat.{_+_, _-_, _≤_, _<_}
+use Prim.Native.Nat.{_-_, _≤_, _<_}
 use native.Mathlib.Omega.{arith}
 use lib.ListN.{getD, length-replicate, getD-replicate, replicate}
 use Rattle.actl.specs.Sizes.{mostNodes}

@@ -2,7 +2,6 @@
 use borrow.Author.Needs.{needs}
 use Rattle.target_masks.proofs.is_true.Statement.{statement}
 use Rattle.target_masks.proofs.is_true.Tie as tie
-use mathlib.Core.Path.{_≡_}
 use native.Mathlib.Omega.{arith}
 
 returns-2 : tie.Need-returns-2

@@ -1,7 +1,7 @@
 -- `mask_place` meets its contract: one label more has its mask each turn.
-use mathlib.Core.Path.{_≡_, refl, sym, ap, _∙_, subst}
+use mathlib.Core.Path.{_≡_, subst}
 use mathlib.Core.Logic.{inl}
-use Prim.Native.Nat.{_+_, _-_, _≤_, _<_}
+use Prim.Native.Nat.{_-_, _≤_, _<_}
 use native.Mathlib.Omega.{arith}
 use Rattle.actl.specs.Sizes.{mostNodes}
 use Rattle.automaton.specs.Sizes.{placeCount}

@@ -1,5 +1,5 @@
 -- `node_mask` meets its contract, by the kind of the node.
-use mathlib.Core.Path.{_≡_, ap, _∙_}
+use mathlib.Core.Path.{ap, _∙_}
 use mathlib.Core.Bool.{cond, not}
 use Prim.Native.Nat.{_+_, _^_}
 use lib.Bits.{bitOr}

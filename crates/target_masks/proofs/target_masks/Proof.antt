@@ -2,9 +2,8 @@
 use Rattle.automaton.specs.Sizes.{masksLength}
 use Rattle.target_masks.proofs.target_masks.Statement.{statement}
 use Rattle.target_masks.proofs.target_masks.Tie as tie
-use Rattle.formulas.proofs.node.node_count.Reads as node-count-reads
-use mathlib.Core.Path.{_≡_, refl, sym, ap, _∙_, subst}
-use Prim.Native.Nat.{ℕ, _+_, _-_, _≤_, _<_}
+use mathlib.Core.Path.{_≡_, sym, _∙_, subst}
+use Prim.Native.Nat.{ℕ, _-_, _≤_, _<_}
 use native.Mathlib.Omega.{arith}
 use lib.ListN.{length, getD, length-replicate, replicate}
 use Rattle.actl.specs.Formulas.{Formula}

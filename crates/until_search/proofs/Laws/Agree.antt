@@ -1,18 +1,16 @@
 -- Tests that agree at every state of a table agree along its steps: they lead from such a state to such a state.
-use mathlib.Core.Path.{_≡_, refl, sym, ap, _∙_, subst}
-use mathlib.Core.Logic.{_⊎_, inl, inr}
-use mathlib.Core.Bool.{Bool, true, false, not, _&&_, _||_}
+use mathlib.Core.Path.{_≡_, refl, ap, _∙_}
+use mathlib.Core.Logic.{inl, inr}
+use mathlib.Core.Bool.{Bool, _&&_, _||_}
 use mathlib.Core.List.{List, [], _∷_, List·Memᴰ, List·Memᴰ·head, List·Memᴰ·tail}
-use Prim.Native.Nat.{ℕ, zero, suc, _≤_, _<_}
+use Prim.Native.Nat.{ℕ, zero, suc, _<_}
 use native.Mathlib.Omega.{arith}
-use lib.ListN.{length}
 use Rattle.lts.specs.Lists.{anyOf, every}
 use Rattle.lts.specs.Steps.{Step, Table, IsStep, stepsFrom}
 use Rattle.lts.specs.Range.{InRange}
 use Rattle.lts.proofs.StepsFrom.{steps-are}
-use Rattle.actl.specs.Actions.{Mask, inSet, Cond, meets, passes}
+use Rattle.actl.specs.Actions.{Mask, passes}
 use Rattle.satisfaction.specs.Holds.{within, enters}
-use Rattle.until_search.specs.Flags.{leadsTo}
 
 module _ {A : Type 0} (p q : A → Bool) where
   pub some-same : (l : List A) → ((x : A) → List·Memᴰ x l → p x ≡ q x) → anyOf p l ≡ anyOf q l

@@ -3,8 +3,8 @@ use borrow.Author.Needs.{needs}
 use Rattle.actl.specs.Sizes.{formulaLength}
 use Rattle.formula_check.proofs.prepared.zeros_from.Statement.{statement}
 use Rattle.formula_check.proofs.prepared.zeros_from.Tie as tie
-use mathlib.Core.Path.{_≡_, refl, sym, _∙_}
-use mathlib.Core.Bool.{Bool, true, false, false≢true}
+use mathlib.Core.Path.{_≡_, refl, sym}
+use mathlib.Core.Bool.{Bool, true, false}
 use mathlib.Core.List.{List}
 use Prim.Native.Nat.{ℕ, _-_, _≤_}
 use native.Mathlib.Omega.{arith}
@@ -13,7 +13,7 @@ use lib.ListN.{getD}
 use borrow.Author.Tests.{eq-eqb, eqb-true}
 use Rattle.lts.specs.Answers.{Decides}
 use Rattle.lts.specs.Check.{ZerosFrom}
-use Rattle.lts.specs.Lists.{every, upFrom}
+use Rattle.lts.specs.Lists.{upFrom}
 use Rattle.lts.proofs.Lists.{every-of, upFrom-to}
 use Rattle.actl.specs.Check.{zerosFrom}
 use Rattle.actl.proofs.Laws.Lists.{passed-all}

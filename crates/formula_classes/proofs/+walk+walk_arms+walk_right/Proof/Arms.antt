@@ -1,7 +1,7 @@
 -- What `walk_arms` shows at each of its places: the arm's walk, then `|` by its right arm, or the node noted.
-use mathlib.Core.Path.{_≡_, sym, _∙_, subst}
+use mathlib.Core.Path.{_∙_, subst}
 use mathlib.Core.List.{List}
-use Prim.Native.Nat.{ℕ, _+_, _≤_, _<_}
+use Prim.Native.Nat.{ℕ, _+_}
 use native.Mathlib.Omega.{arith}
 use Rattle.actl.specs.Walk.{Traversed}
 use Rattle.actl.proofs.Laws.Unique.{no-arm}

@@ -1,6 +1,6 @@
 -- What `walk_right` shows at each of its places: the right arm's walk, then the node noted.
-use mathlib.Core.Path.{_≡_, sym, _∙_, subst}
-use Prim.Native.Nat.{ℕ, _+_, _≤_, _<_}
+use mathlib.Core.Path.{_∙_, subst}
+use Prim.Native.Nat.{ℕ}
 use native.Mathlib.Omega.{arith}
 use Rattle.actl.specs.Walk.{Traversed}
 use Rattle.formula_classes.specs.WalkReplies.{Walks}

@@ -1,7 +1,6 @@
 -- What `walk` shows at each of its places: no kind, T, or a node with an arm.
-use mathlib.Core.Path.{_≡_, sym, _∙_}
-use mathlib.Core.List.{List}
-use Prim.Native.Nat.{ℕ, _≤_, _<_}
+use mathlib.Core.Path.{sym, _∙_}
+use Prim.Native.Nat.{ℕ}
 use native.Mathlib.Omega.{arith}
 use Rattle.actl.proofs.Laws.Unique.{no-kind}
 use Rattle.actl.proofs.Laws.Walks.{Known, known-kind}

@@ -1,11 +1,7 @@
 -- `in_set` meets its contract: the shifted mask is odd exactly if the label's bit is set.
-use mathlib.Core.Path.{_≡_, refl, sym, ap, _∙_}
-use mathlib.Core.Bool.{true, false, not, _&&_}
-use lib.Dec.{eqb}
+use mathlib.Core.Path.{sym, _∙_}
 use borrow.Author.Needs.{needs}
 use native.Mathlib.Omega.{arith}
-use Prim.Native.Nat.{_/_, _%_, _^_}
-use Rattle.lts.specs.Steps.{silent}
 use Rattle.lts.proofs.Silence.{carried-heard}
 use Rattle.actl.specs.Actions.{inSet}
 use Rattle.formulas.proofs.conditions.in_set.Statement.{statement}

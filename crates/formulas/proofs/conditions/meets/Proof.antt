@@ -1,7 +1,7 @@
 -- `meets` meets its contract, by the cases of a step condition.
 use borrow.Author.Needs.{needs}
-use mathlib.Core.Path.{_≡_, refl, sym, ap, _∙_}
-use Rattle.actl.specs.Actions.{Cond, meets}
+use mathlib.Core.Path.{sym, ap, _∙_}
+use Rattle.actl.specs.Actions.{meets}
 use Rattle.formulas.specs.Access.{condIn}
 use Rattle.formulas.proofs.conditions.meets.Statement.{statement}
 use Rattle.formulas.proofs.conditions.meets.Tie as tie

@@ -1,8 +1,6 @@
 -- `passes` meets its contract: a silent step passes, and so does one with a label of the set.
-use mathlib.Core.Path.{_≡_, sym, _∙_}
-use mathlib.Core.Bool.{true, false}
+use mathlib.Core.Path.{sym, _∙_}
 use borrow.Author.Needs.{needs}
-use Rattle.lts.specs.Steps.{silent}
 use Rattle.actl.specs.Actions.{passes}
 use Rattle.formulas.proofs.conditions.passes.Statement.{statement}
 use Rattle.formulas.proofs.conditions.passes.Tie as tie

@@ -1,6 +1,5 @@
 -- `next_slot` meets its contract, by the cases of a step condition.
-use mathlib.Core.Path.{_≡_, sym, ap, _∙_}
-use Prim.Native.Nat.{ℕ, suc, _+_}
+use mathlib.Core.Path.{sym, ap, _∙_}
 use native.Mathlib.Numerals.{add-one}
 use Rattle.actl.specs.Prepared.{slot, nextSlot}
 use Rattle.formulas.specs.Access.{condIn}

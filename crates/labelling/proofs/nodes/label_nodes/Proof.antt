@@ -4,7 +4,7 @@ use mathlib.Core.Bool.{false}
 use Prim.Native.Nat.{_≤_, _<_, _+_, _-_}
 use native.Mathlib.Omega.{arith}
 use lib.ListN.{getD, replicate, length-replicate}
-use Rattle.actl.specs.Sizes.{mostNodes, nodePositions}
+use Rattle.actl.specs.Sizes.{nodePositions}
 use Rattle.labelling.specs.Nodes.{RowsFrom}
 use Rattle.labelling.proofs.Laws.Prepared.{formula-long, formula-few, rows-none, rows-all}
 use Rattle.labelling.proofs.Laws.Nodes.{rows-on}

@@ -1,6 +1,5 @@
 -- `put_row` meets its contract: the flags of the states below s are put in.
-use mathlib.Core.Path.{_≡_, refl, sym, ap, _∙_, subst}
-use Prim.Native.Nat.{ℕ, _≤_, _<_, _+_, _-_, _*_}
+use Prim.Native.Nat.{_≤_, _-_}
 use native.Mathlib.Omega.{arith}
 use Rattle.lts.specs.Sizes.{mostStates}
 use Rattle.labelling.proofs.Laws.Rows.{RowPutBelow, row-put-none, row-put-on, row-put-all}

@@ -1,6 +1,6 @@
 -- `row` meets its contract: the flags of the states below s are copied.
-use mathlib.Core.Path.{_≡_, refl, sym, ap, _∙_, subst}
-use Prim.Native.Nat.{ℕ, _≤_, _<_, _+_, _-_, _*_}
+use mathlib.Core.Path.{refl}
+use Prim.Native.Nat.{_≤_, _<_, _+_, _-_, _*_}
 use native.Mathlib.Omega.{arith}
 use Rattle.actl.specs.Sizes.{mostNodes}
 use Rattle.lts.specs.Sizes.{mostStates}

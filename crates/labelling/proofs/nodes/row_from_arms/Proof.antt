@@ -1,6 +1,6 @@
 -- `row_from_arms` meets its contract: the row of node k follows from those of its arms.
 use mathlib.Core.Path.{_≡_, _∙_}
-use Prim.Native.Nat.{ℕ, _<_, _+_}
+use Prim.Native.Nat.{_<_, _+_}
 use native.Mathlib.Omega.{arith}
 use lib.ListN.{getD}
 use Rattle.actl.specs.Sizes.{mostNodes}

@@ -1,6 +1,6 @@
 -- `at_once` meets its contract, by the cases of a node.
 use borrow.Author.Needs.{needs}
-use mathlib.Core.Path.{_≡_, refl, sym, ap, _∙_, subst}
+use mathlib.Core.Path.{sym, ap, _∙_}
 use mathlib.Core.Bool.{Bool, not, _||_}
 use Rattle.tables.specs.StepArray.{stepsIn}
 use Rattle.lts.proofs.Lists.{or-true-left}

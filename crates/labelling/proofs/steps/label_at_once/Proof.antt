@@ -1,7 +1,5 @@
 -- `label_at_once` meets its contract: the states below s are labelled.
-use mathlib.Core.Path.{_≡_, refl, sym, ap, _∙_, subst}
-use mathlib.Core.Bool.{Bool}
-use Prim.Native.Nat.{ℕ, _≤_, _<_, _+_, _-_}
+use Prim.Native.Nat.{_≤_, _<_, _-_}
 use native.Mathlib.Omega.{arith}
 use Rattle.lts.specs.Sizes.{mostStates}
 use Rattle.tables.specs.StepArray.{stepsIn}

@@ -1,7 +1,7 @@
 -- `some_step` meets its contract: the steps from k on are searched, and none before k comes out as wanted.
-use mathlib.Core.Path.{_≡_, refl, sym, ap, _∙_, subst}
-use mathlib.Core.Bool.{Bool, true, false}
-use Prim.Native.Nat.{ℕ, _≤_, _<_, _+_, _-_}
+use mathlib.Core.Path.{_≡_, sym, ap, _∙_, subst}
+use mathlib.Core.Bool.{Bool}
+use Prim.Native.Nat.{_≤_, _<_, _-_}
 use native.Mathlib.Omega.{arith}
 use Rattle.lts.specs.Sizes.{mostSteps}
 use Rattle.lts.specs.Lists.{anyOf}
