@@ -1,9 +1,7 @@
+-- `write_refusal` meets its contract: one line of two numbers.
 use borrow.Author.Needs.{needs}
 use Rattle.listing_text.proofs.write_refusal.Statement.{statement}
 use Rattle.listing_text.proofs.write_refusal.Tie as tie
-use Rattle.listing_text.proofs.write_refusal.Reads as reads
-use Rattle.listing_text.proofs.write_refusal.Lts as lts
-use Rattle.columns.proofs.write.write_numbers.Reads as write-numbers-reads
 use mathlib.Core.Path.{_∙_}
 use native.Mathlib.Nat.{zero-add}
 use Rattle.explanations.specs.Printed.{refusalLine}

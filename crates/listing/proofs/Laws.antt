@@ -1,0 +1,4 @@
+-- Laws of rows and edges in their places.
+pub mod Pasted
+pub mod ReadBack
+pub mod Stores

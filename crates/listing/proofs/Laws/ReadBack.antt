@@ -1,0 +1,69 @@
+-- What is written in place n is read from place n, and what stands in the other places stays.
+use mathlib.Core.Path.{_≡_, refl, sym, ap, _∙_}
+use mathlib.Core.Logic.{_≢_}
+use mathlib.Core.List.{List}
+use Prim.Native.Nat.{ℕ, _+_, _*_, _≤_, _<_}
+use native.Mathlib.Nat.{add-zero}
+use native.Mathlib.Decide.{decLt, decLe}
+use native.Mathlib.Omega.{arith}
+use lib.ListN.{length, getD}
+use Rattle.columns.specs.Write.{pasted}
+use Rattle.automaton.specs.Listing.{Row, Edge}
+use Rattle.automaton.specs.Bytes.{rowLength, edgeLength, rowBytes, edgeBytes, bitOf, edgeAt}
+use Rattle.automaton.proofs.Bytes.{two-bytes}
+use Rattle.listing.specs.Places.{putRow, putEdge, rowStored}
+use Rattle.listing.specs.declared.Row as stored-row
+use Rattle.listing.proofs.Laws.Pasted.{pasted-there, pasted-before, pasted-behind}
+
+-- Byte j of a part of w bytes in place n, if a part of as many bytes is written there, or in another place.
+module _ (w n : ℕ) (part out : List ℕ) (len : length part ≡ w) (room : n * w + w ≤ length out) where
+  first-there : 0 < w → getD (pasted out (n * w) part) (n * w) 0 ≡ getD part 0 0
+  first-there h = ap (λ k. getD (pasted out (n * w) part) k 0) (sym (add-zero (n * w))) ∙ pasted-there out (n * w) part (omega arith) 0 (omega arith)
+
+  byte-there : (j : ℕ) → j < w → getD (pasted out (n * w) part) (n * w + j) 0 ≡ getD part j 0
+  byte-there j h = pasted-there out (n * w) part (omega arith) j (omega arith)
+
+  byte-elsewhere : (k : ℕ) → (n * w ≤ k → k < n * w + w → ⊥) → getD (pasted out (n * w) part) k 0 ≡ getD out k 0
+  byte-elsewhere k h = pick (decLt k (n * w)) (decLe (n * w + w) k)
+    where
+      pick : Dec (k < n * w) → Dec (n * w + w ≤ k) → getD (pasted out (n * w) part) k 0 ≡ getD out k 0
+      pick (yes before) _ = pasted-before out (n * w) part (omega arith) k before
+      pick (no _) (yes behind) = pasted-behind out (n * w) part (omega arith) k (omega (arith, len))
+      pick (no early) (no late) = absurd (h (omega arith) (omega arith))
+
+module _ (n : ℕ) (r : Row) (out : List ℕ) (room : n * rowLength + rowLength ≤ length out) where
+  pub row-read-back : rowStored (putRow n r out) n ≡ record { place = r .place; state = r .state; mark = bitOf (r .final) }
+  unfolding putRow
+  row-read-back =
+      let there = byte-there rowLength n (rowBytes r) out refl room in
+      λ i. record { place = first-there rowLength n (rowBytes r) out refl room (omega arith) i; state = there 1 (omega arith) i; mark = there 2 (omega arith) i }
+
+  pub row-kept : (m : ℕ) → m ≢ n → rowStored (putRow n r out) m ≡ rowStored out m
+  unfolding putRow
+  row-kept m h =
+      let kept = byte-elsewhere rowLength n (rowBytes r) out refl room in
+      let place = kept (m * rowLength) (λ a b. h (omega arith)) in
+      let state = kept (m * rowLength + 1) (λ a b. h (omega arith)) in
+      let mark = kept (m * rowLength + 2) (λ a b. h (omega arith)) in
+      λ i. record { place = place i; state = state i; mark = mark i }
+
+module _ (n : ℕ) (e : Edge) (out : List ℕ) (room : n * edgeLength + edgeLength ≤ length out) where
+  pub edge-read-back : e .row < 65536 → e .target < 65536 → edgeAt (putEdge n e out) n ≡ e
+  unfolding putEdge
+  edge-read-back r t =
+      let first = first-there edgeLength n (edgeBytes e) out refl room (omega arith) in
+      let there = byte-there edgeLength n (edgeBytes e) out refl room in
+      let row = (λ i. first i + there 1 (omega arith) i * 256) ∙ two-bytes (e .row) r in
+      let target = (λ i. there 3 (omega arith) i + there 4 (omega arith) i * 256) ∙ two-bytes (e .target) t in
+      λ i. record { row = row i; label = there 2 (omega arith) i; target = target i }
+
+  pub edge-kept : (m : ℕ) → m ≢ n → edgeAt (putEdge n e out) m ≡ edgeAt out m
+  unfolding putEdge
+  edge-kept m h =
+      let kept = byte-elsewhere edgeLength n (edgeBytes e) out refl room in
+      let b0 = kept (m * edgeLength) (λ a b. h (omega arith)) in
+      let b1 = kept (m * edgeLength + 1) (λ a b. h (omega arith)) in
+      let b2 = kept (m * edgeLength + 2) (λ a b. h (omega arith)) in
+      let b3 = kept (m * edgeLength + 3) (λ a b. h (omega arith)) in
+      let b4 = kept (m * edgeLength + 4) (λ a b. h (omega arith)) in
+      λ i. record { row = b0 i + b1 i * 256; label = b2 i; target = b3 i + b4 i * 256 }
