@@ -3,11 +3,11 @@ use automaton::sizes::EDGE_LENGTH;
 use automaton::sizes::ROW_LENGTH;
 ghost use mathlib.Core.Path.{_≡_};
 ghost use Prim.Native.Nat.{_+_, _*_, _≤_, _<_};
-ghost use lib.ListN.{length, getD};
-ghost use Rattle.automaton.specs.Bytes.{rowLength, edgeLength, bitOf};
+ghost use lib.ListN.{length};
+ghost use Rattle.automaton.specs.Bytes.{rowLength, edgeLength, bitOf, edgeAt};
 ghost use Rattle.columns.specs.Bytes.{lowFirst};
 ghost use Rattle.columns.specs.Write.{pasted};
-ghost use Rattle.listing.specs.Places.{rowOf, edgeTo, putRow, putEdge, pairAt, rowStored, edgeStored};
+ghost use Rattle.listing.specs.Places.{rowOf, edgeTo, putRow, putEdge, RowRead, EdgeRead};
 
 // A row as it stands in its place; the mark is 1 if it is final.
 pub struct Row {
@@ -32,13 +32,6 @@ fn wide(b: u8) -> usize
     ensures { λ r. ⌜ (r ≡ b) × (r < 256) ⌝ }
 {
     b as usize
-}
-
-fn byte(bytes: &[u8], at: usize) -> usize
-    requires { ⌜ at < length (now bytes) ⌝ }
-    ensures { λ r. ⌜ (r ≡ getD (now (bytes .entry)) at 0) × (r < 256) ⌝ }
-{
-    wide(bytes[at])
 }
 
 // Row n, in its place.
@@ -77,32 +70,25 @@ pub fn put_edge(out: &mut [u8], n: usize, row: usize, label: usize, target: usiz
 // The row that stands in place i.
 pub fn row_at(rows: &[u8], i: usize) -> Row
     requires { ⌜ i * rowLength + rowLength ≤ length (now rows) ⌝ }
-    ensures { λ r. ⌜ r ≡ rowStored (now (rows .entry)) i ⌝ }
+    ensures { λ r. ⌜ RowRead (now (rows .entry)) i r ⌝ }
 {
     let at = i * ROW_LENGTH;
     Row {
-        place: byte(rows, at),
-        state: byte(rows, at + 1),
-        mark: byte(rows, at + 2),
+        place: wide(rows[at]),
+        state: wide(rows[at + 1]),
+        mark: wide(rows[at + 2]),
     }
-}
-
-fn pair(bytes: &[u8], at: usize) -> usize
-    requires { ⌜ at + 2 ≤ length (now bytes) ⌝ }
-    ensures { λ r. ⌜ r ≡ pairAt (now (bytes .entry)) at ⌝ }
-{
-    byte(bytes, at) + byte(bytes, at + 1) * 256
 }
 
 // The edge that stands in place j.
 pub fn edge_at(edges: &[u8], j: usize) -> Edge
     requires { ⌜ j * edgeLength + edgeLength ≤ length (now edges) ⌝ }
-    ensures { λ r. ⌜ r ≡ edgeStored (now (edges .entry)) j ⌝ }
+    ensures { λ r. ⌜ EdgeRead (edgeAt (now (edges .entry)) j) r ⌝ }
 {
     let at = j * EDGE_LENGTH;
     Edge {
-        row: pair(edges, at),
-        label: byte(edges, at + 2),
-        target: pair(edges, at + 3),
+        row: wide(edges[at]) + wide(edges[at + 1]) * 256,
+        label: wide(edges[at + 2]),
+        target: wide(edges[at + 3]) + wide(edges[at + 4]) * 256,
     }
 }

@@ -2,34 +2,40 @@
 use columns::write::write_numbers;
 use listing::edge_at;
 use listing::row_at;
+ghost use mathlib.Core.Path.{_≡_};
 ghost use mathlib.Core.Bool.{true, false};
 ghost use Prim.Native.Nat.{_+_, _*_, _≤_};
 ghost use lib.ListN.{length};
 ghost use Rattle.automaton.specs.Bytes.{rowLength, edgeLength};
 ghost use Rattle.explanations.specs.Printed.{refusalLine, listingText, TextWritten};
-ghost use Rattle.listing_text.specs.Lines.{summaryOf, LineFits, LineWritten, LinesFit, LinesWritten};
+ghost use Rattle.listing_text.specs.Lines.{summaryOf, lineNumbers, LineFits, LineWritten, LinesFit, LinesWritten};
 
-fn write_row(rows: &[u8], i: usize, out: &mut [u8], at: usize) -> usize
-    requires { ⌜ LineFits true (now rows) i at (now out) ⌝ }
-    ensures { λ r. ⌜ LineWritten true (now (rows .entry)) i at (now (out .entry)) (now (out .exit)) r ⌝ }
+// What the line of a row has.
+fn row_numbers(rows: &[u8], i: usize) -> [u64; 4]
+    requires { ⌜ i * rowLength + rowLength ≤ length (now rows) ⌝ }
+    ensures { λ r. ⌜ r ≡ lineNumbers true (now (rows .entry)) i ⌝ }
 {
     let row = row_at(rows, i);
-    let values = [
+    [
         i as u64,
         row.place as u64,
         row.state as u64,
         row.mark as u64,
-    ];
-    write_numbers(values, 4, out, at)
+    ]
 }
 
-fn write_edge(edges: &[u8], j: usize, out: &mut [u8], at: usize) -> usize
-    requires { ⌜ LineFits false (now edges) j at (now out) ⌝ }
-    ensures { λ r. ⌜ LineWritten false (now (edges .entry)) j at (now (out .entry)) (now (out .exit)) r ⌝ }
+// What the line of an edge has; the last number is not printed.
+fn edge_numbers(edges: &[u8], j: usize) -> [u64; 4]
+    requires { ⌜ j * edgeLength + edgeLength ≤ length (now edges) ⌝ }
+    ensures { λ r. ⌜ r ≡ lineNumbers false (now (edges .entry)) j ⌝ }
 {
     let edge = edge_at(edges, j);
-    let values = [edge.row as u64, edge.label as u64, edge.target as u64, 0];
-    write_numbers(values, 3, out, at)
+    [
+        edge.row as u64,
+        edge.label as u64,
+        edge.target as u64,
+        0,
+    ]
 }
 
 // The line of row i, or of edge i.
@@ -38,9 +44,9 @@ fn write_line(of_rows: bool, bytes: &[u8], i: usize, out: &mut [u8], at: usize) 
     ensures { λ r. ⌜ LineWritten «of_rows» (now (bytes .entry)) i at (now (out .entry)) (now (out .exit)) r ⌝ }
 {
     if of_rows {
-        return write_row(bytes, i, out, at);
+        return write_numbers(row_numbers(bytes, i), 4, out, at);
     }
-    write_edge(bytes, i, out, at)
+    write_numbers(edge_numbers(bytes, i), 3, out, at)
 }
 
 // The lines of the first `count` rows, or edges.

@@ -9,10 +9,9 @@ use native.Mathlib.Omega.{arith}
 use lib.ListN.{length, getD}
 use Rattle.columns.specs.Write.{pasted}
 use Rattle.automaton.specs.Listing.{Row, Edge}
-use Rattle.automaton.specs.Bytes.{rowLength, edgeLength, rowBytes, edgeBytes, bitOf, edgeAt}
+use Rattle.automaton.specs.Bytes.{rowLength, edgeLength, rowBytes, edgeBytes, bitOf, rowState, rowFinal, edgeAt}
 use Rattle.automaton.proofs.Bytes.{two-bytes}
-use Rattle.listing.specs.Places.{putRow, putEdge, rowStored}
-use Rattle.listing.specs.declared.Row as stored-row
+use Rattle.listing.specs.Places.{rowPlace, putRow, putEdge}
 use Rattle.listing.proofs.Laws.Pasted.{pasted-there, pasted-before, pasted-behind}
 
 -- Byte j of a part of w bytes in place n, if a part of as many bytes is written there, or in another place.
@@ -31,21 +30,34 @@ module _ (w n : ℕ) (part out : List ℕ) (len : length part ≡ w) (room : n *
       pick (no _) (yes behind) = pasted-behind out (n * w) part (omega arith) k (omega (arith, len))
       pick (no early) (no late) = absurd (h (omega arith) (omega arith))
 
+-- Two lists of bytes have the same row in place i.
+pub record SameRow (rows other : List ℕ) (i : ℕ) : Type 0 where
+  pub place : rowPlace rows i ≡ rowPlace other i
+  pub state : rowState rows i ≡ rowState other i
+  pub mark : rowFinal rows i ≡ rowFinal other i
+
+-- A row stands in place i.
+pub record RowStands (r : Row) (rows : List ℕ) (i : ℕ) : Type 0 where
+  pub place : rowPlace rows i ≡ r .place
+  pub state : rowState rows i ≡ r .state
+  pub mark : rowFinal rows i ≡ bitOf (r .final)
+
 module _ (n : ℕ) (r : Row) (out : List ℕ) (room : n * rowLength + rowLength ≤ length out) where
-  pub row-read-back : rowStored (putRow n r out) n ≡ record { place = r .place; state = r .state; mark = bitOf (r .final) }
+  pub row-read-back : RowStands r (putRow n r out) n
   unfolding putRow
   row-read-back =
       let there = byte-there rowLength n (rowBytes r) out refl room in
-      λ i. record { place = first-there rowLength n (rowBytes r) out refl room (omega arith) i; state = there 1 (omega arith) i; mark = there 2 (omega arith) i }
+      record { place = first-there rowLength n (rowBytes r) out refl room (omega arith); state = there 1 (omega arith); mark = there 2 (omega arith) }
 
-  pub row-kept : (m : ℕ) → m ≢ n → rowStored (putRow n r out) m ≡ rowStored out m
+  pub row-kept : (m : ℕ) → m ≢ n → SameRow (putRow n r out) out m
   unfolding putRow
   row-kept m h =
       let kept = byte-elsewhere rowLength n (rowBytes r) out refl room in
-      let place = kept (m * rowLength) (λ a b. h (omega arith)) in
-      let state = kept (m * rowLength + 1) (λ a b. h (omega arith)) in
-      let mark = kept (m * rowLength + 2) (λ a b. h (omega arith)) in
-      λ i. record { place = place i; state = state i; mark = mark i }
+      record {
+        place = kept (m * rowLength) (λ a b. h (omega arith));
+        state = kept (m * rowLength + 1) (λ a b. h (omega arith));
+        mark = kept (m * rowLength + 2) (λ a b. h (omega arith));
+      }
 
 module _ (n : ℕ) (e : Edge) (out : List ℕ) (room : n * edgeLength + edgeLength ≤ length out) where
   pub edge-read-back : e .row < 65536 → e .target < 65536 → edgeAt (putEdge n e out) n ≡ e

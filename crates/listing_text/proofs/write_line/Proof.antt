@@ -2,38 +2,45 @@
 use borrow.Author.Needs.{needs}
 use Rattle.listing_text.proofs.write_line.Statement.{statement}
 use Rattle.listing_text.proofs.write_line.Tie as tie
-use mathlib.Core.Path.{sym, subst}
-use Rattle.listing_text.specs.Lines.{LineFits, LineWritten}
+use mathlib.Core.Bool.{true, false}
+use Rattle.listing_text.proofs.Laws.Lines.{line-stands, line-written}
 
-write-row-requires : tie.Need-write-row-requires
-write-row-requires c κs =
-    let d = c .before .before .before .before in
-    subst (λ kind. LineFits kind (d .args .bytes .now) (d .args .i) (d .args .at) (d .args .out .now)) (c .before .if1 .taken) (d .pre)
+row-numbers-requires : tie.Need-row-numbers-requires
+row-numbers-requires c κs = let d = c .before .before .before in line-stands (d .args .of-rows) true (c .if1 .taken) (d .pre)
+
+write-numbers-requires : tie.Need-write-numbers-requires
+write-numbers-requires c κs = search needs
 
 same-length : tie.Need-same-length
 same-length c = search needs
 
 returns : tie.Need-returns
 returns c =
-    let w = c .before .before .write-row in
-    let row = c .before .before .before .before in
-    let a = row .before .before .before .args in
-    subst (λ kind. LineWritten kind (a .bytes .now) (a .i) (a .at) (a .out .now) (w .last .1 .1 .0) (w .result)) (sym (row .if1 .taken)) (w .ensures)
+    let w = c .before .before in
+    let row = w .before .before in
+    let a = row .before .before .before .before .args in
+    line-written (a .of-rows) true (a .bytes .now) (a .i) (a .at) (a .out .now) (row .before .if1 .taken) (row .row-numbers .ensures)
+    (w .write-numbers .ensures .1 .0) (w .write-numbers .ensures .0)
 
-write-edge-requires : tie.Need-write-edge-requires
-write-edge-requires c κs =
-    let d = c .before .before .before .before in
-    subst (λ kind. LineFits kind (d .args .bytes .now) (d .args .i) (d .args .at) (d .args .out .now)) (c .before .if1 .left) (d .pre)
+edge-numbers-requires : tie.Need-edge-numbers-requires
+edge-numbers-requires c κs = let d = c .before .before .before in line-stands (d .args .of-rows) false (c .if1 .left) (d .pre)
+
+write-numbers-requires-2 : tie.Need-write-numbers-requires-2
+write-numbers-requires-2 c κs = search needs
 
 same-length-2 : tie.Need-same-length-2
 same-length-2 c = search needs
 
 returns-2 : tie.Need-returns-2
 returns-2 c =
-    let w = c .before .before .write-edge in
-    let edge = c .before .before .before .before in
-    let a = edge .before .before .before .args in
-    subst (λ kind. LineWritten kind (a .bytes .now) (a .i) (a .at) (a .out .now) (w .last .1 .1 .0) (w .result)) (sym (edge .if1 .left)) (w .ensures)
+    let w = c .before .before in
+    let edge = w .before .before in
+    let a = edge .before .before .before .before .args in
+    line-written (a .of-rows) false (a .bytes .now) (a .i) (a .at) (a .out .now) (edge .before .if1 .left) (edge .edge-numbers .ensures)
+    (w .write-numbers2 .ensures .1 .0) (w .write-numbers2 .ensures .0)
 
 pub write-line-spec : {M : Type 1} → statement M
-write-line-spec = tie.close (tie.spec write-row-requires same-length returns write-edge-requires same-length-2 returns-2)
+write-line-spec =
+    tie.close
+    (tie.spec row-numbers-requires write-numbers-requires same-length returns edge-numbers-requires write-numbers-requires-2 same-length-2
+        returns-2)

@@ -7,7 +7,7 @@ use native.Mathlib.Omega.{arith}
 use Rattle.columns.proofs.Laws.Pasting.{pasting-length}
 use Rattle.explanations.proofs.Printing.{Lines}
 use Rattle.listing_text.specs.Lines.{lineText, lineWidth}
-use Rattle.listing_text.proofs.Laws.Lines.{lines-start, line-fits, line-more, lines-written}
+use Rattle.listing_text.proofs.Laws.Lines.{AreBytes, lines-start, line-fits, line-more, lines-written}
 
 abbrev Inv-loop : tie.InvT-loop
 Inv-loop of-rows bytes count out₀ at end₀ i₀ out end i = Lines (lineText of-rows bytes) (lineWidth of-rows) out₀ at out end i × (i ≤ count)
@@ -33,8 +33,9 @@ loop-again : tie.Need-loop-again Inv-loop μ-loop
 loop-again c =
     let in-loop = c .before .before .before .before in
     let l = in-loop .before .loop in
-    let fit = in-loop .before .before .before .before .pre in
-    (line-more fit (l .inv .0) (in-loop .loop-test .taken) (c .before .before .write-line .ensures), omega arith)
+    let known = in-loop .before .before .before in
+    let bytes : AreBytes (known .before .args .bytes .now) = λ k. omega (arith, known .shared-slice-known .given k) in
+    (line-more (known .before .pre) (l .inv .0) (in-loop .loop-test .taken) bytes (c .before .before .write-line .ensures), omega arith)
 
 same-length : tie.Need-same-length Inv-loop μ-loop
 same-length c = pasting-length (c .before .loop .inv .0 .pasting)
