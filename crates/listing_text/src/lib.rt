@@ -30,12 +30,7 @@ fn edge_numbers(edges: &[u8], j: usize) -> [u64; 4]
     ensures { λ r. ⌜ r ≡ lineNumbers false (now (edges .entry)) j ⌝ }
 {
     let edge = edge_at(edges, j);
-    [
-        edge.row as u64,
-        edge.label as u64,
-        edge.target as u64,
-        0,
-    ]
+    [edge.row as u64, edge.label as u64, edge.target as u64, 0]
 }
 
 // The line of row i, or of edge i.

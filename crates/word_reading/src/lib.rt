@@ -124,6 +124,25 @@ fn read_letter(
     }
 }
 
+// Two letters: the frontiers take turns.
+fn read_two(
+    steps: &[u16; STEPS],
+    firsts: &[u16; FIRSTS],
+    masks: &[u64; MASKS_LENGTH],
+    first: u8,
+    second: u8,
+    reached: &mut [u64; FRONTIER],
+    next: &mut [u64; FRONTIER],
+)
+    requires { ⌜ StepsFit (now steps) (now firsts) ⌝ }
+    requires { ⌜ Carried first × Carried second ⌝ }
+    ensures { λ _. ⌜ now (next .exit) ≡ letterRead (stepsIn (now (steps .entry)) (now (firsts .entry))) (now (masks .entry)) first (now (reached .entry)) (now (next .entry)) ⌝ }
+    ensures { λ _. ⌜ now (reached .exit) ≡ letterRead (stepsIn (now (steps .entry)) (now (firsts .entry))) (now (masks .entry)) second (now (next .exit)) (now (reached .entry)) ⌝ }
+{
+    read_letter(steps, firsts, masks, first, reached, next);
+    read_letter(steps, firsts, masks, second, next, reached);
+}
+
 // The places to which the word leads from the root at a start state. Two frontiers take turns. The two arrays may be fields of one value.
 pub fn read_word<'a>(
     steps: &'a [u16; STEPS],
@@ -142,8 +161,7 @@ pub fn read_word<'a>(
     bring(&mut reached, start, 1);
     let mut i = 0;
     while i + 1 < word.len() {
-        read_letter(steps, firsts, masks, word[i], &reached, &mut next);
-        read_letter(steps, firsts, masks, word[i + 1], &next, &mut reached);
+        read_two(steps, firsts, masks, word[i], word[i + 1], &mut reached, &mut next);
         i += 2;
     }
     if i < word.len() {

@@ -29,60 +29,63 @@ loop-holds c =
 add-loop : tie.Need-add-loop Inv-loop μ-loop
 add-loop c = omega (arith, c .loop .inv .0)
 
-shared-slice-read-read-letter : tie.Need-shared-slice-read-read-letter Inv-loop μ-loop
-shared-slice-read-read-letter c = omega (arith, c .before .loop-test .taken)
+shared-slice-read-read-two : tie.Need-shared-slice-read-read-two Inv-loop μ-loop
+shared-slice-read-read-two c = omega (arith, c .before .loop-test .taken)
 
-read-letter-requires : tie.Need-read-letter-requires Inv-loop μ-loop
-read-letter-requires c κs =
-    let p = c .before .before .before .before .before .before .before .before .pre in
-    (p .0, p .1 .1 .carried (c .before .before .before .before .loop .i) (omega (arith, c .before .before .before .loop-test .taken)))
+add-read-two : tie.Need-add-read-two Inv-loop μ-loop
+add-read-two c = omega (arith, c .before .before .loop .inv .0)
 
-add-read-letter : tie.Need-add-read-letter Inv-loop μ-loop
-add-read-letter c = omega (arith, c .before .before .before .before .before .loop .inv .0)
+shared-slice-read-read-two-2 : tie.Need-shared-slice-read-read-two-2 Inv-loop μ-loop
+shared-slice-read-read-two-2 c = c .before .before .loop-test .taken
 
-shared-slice-read-read-letter-2 : tie.Need-shared-slice-read-read-letter-2 Inv-loop μ-loop
-shared-slice-read-read-letter-2 c = c .before .before .before .before .before .loop-test .taken
-
-read-letter-requires-2 : tie.Need-read-letter-requires-2 Inv-loop μ-loop
-read-letter-requires-2 c κs =
-    let p = c .before .before .before .before .before .before .before .before .before .before .before .before .pre in
-    (p .0, p .1 .1 .carried (c .before .before .before .before .before .before .before .before .loop .i + 1) (c .before .before .before .before .before .before .before .loop-test .taken))
+read-two-requires : tie.Need-read-two-requires Inv-loop μ-loop
+read-two-requires c κs =
+    let in-loop = c .before .before .before .before in
+    let i = in-loop .before .loop .i in
+    let p = in-loop .before .before .before .before .before .pre in
+    (p .0, (p .1 .1 .carried i (omega (arith, in-loop .loop-test .taken)), p .1 .1 .carried (i + 1) (in-loop .loop-test .taken)))
 
 add-i : tie.Need-add-i Inv-loop μ-loop
-add-i c = omega (arith, c .before .before .before .before .before .before .before .before .loop-test .taken)
+add-i c = omega (arith, c .before .before .before .before .before .loop-test .taken)
 
 loop-less : tie.Need-loop-less Inv-loop μ-loop
-loop-less c = omega (arith, c .before .before .before .before .before .before .before .before .loop-test .taken)
+loop-less c = omega (arith, c .before .before .before .before .before .loop-test .taken)
 
 loop-again : tie.Need-loop-again Inv-loop μ-loop
 loop-again c =
-    let a = c .before .before .before .before .before .before .before .before .before .before .before .before .before .args in
-    let loop = c .before .before .before .before .before .before .before .before .before .loop in
-    let taken = c .before .before .before .before .before .before .before .before .loop-test .taken in
-    let first = c .before .before .before .before .read-letter .ensures in (
+    let in-loop = c .before .before .before .before .before in
+    let loop = in-loop .before .loop in
+    let taken = in-loop .loop-test .taken in
+    let a = in-loop .before .before .before .before .before .args in
+    let from = stepsIn (a .steps .now) (a .firsts .now) in
+    let two = c .read-two .ensures in (
       omega (arith, taken),
-      loop .inv .1 ∙ word-turns (stepsIn (a .steps .now) (a .firsts .now)) (a .masks .now) (a .word .now) (loop .i) (loop .reached) (loop .next) taken _ _ first (c .read-letter2 .ensures),
+      loop .inv .1 ∙ word-turns from (a .masks .now) (a .word .now) (loop .i) (loop .reached) (loop .next) taken _ _ (two .0) (two .1),
     )
 
-shared-slice-read-read-letter-3 : tie.Need-shared-slice-read-read-letter-3 Inv-loop μ-loop
-shared-slice-read-read-letter-3 c = c .before .if1 .taken
+shared-slice-read-read-letter : tie.Need-shared-slice-read-read-letter Inv-loop μ-loop
+shared-slice-read-read-letter c = c .before .if1 .taken
 
-read-letter-requires-3 : tie.Need-read-letter-requires-3 Inv-loop μ-loop
-read-letter-requires-3 c κs =
-    let p = c .before .before .before .before .before .before .before .before .before .pre in
-    (p .0, p .1 .1 .carried (c .before .before .before .before .before .loop .i) (c .before .before .before .if1 .taken))
+read-letter-requires : tie.Need-read-letter-requires Inv-loop μ-loop
+read-letter-requires c κs =
+    let odd = c .before .before .before in
+    let at-loop = odd .before .before in
+    let p = at-loop .before .before .before .before .pre in
+    (p .0, p .1 .1 .carried (at-loop .loop .i) (odd .if1 .taken))
 
 all-places-requires : tie.Need-all-places-requires Inv-loop μ-loop
 all-places-requires c κs = search needs
 
 returns : tie.Need-returns Inv-loop μ-loop
 returns c =
-    let a = c .before .before .before .before .before .before .before .before .before .before .before .before .args in
+    let odd = c .before .before .before .before .before .before in
+    let at-loop = odd .before .before in
+    let a = at-loop .before .before .before .before .args in
     let from = stepsIn (a .steps .now) (a .firsts .now) in
-    let loop = c .before .before .before .before .before .before .before .before .loop in
-    let taken = c .before .before .before .before .before .before .if1 .taken in
-    let last = word-turn from (a .masks .now) (a .word .now) (loop .i) (loop .reached) (loop .next) taken _ (c .before .before .read-letter3 .ensures) in
-    let over = word-over from (a .masks .now) (a .word .now) (loop .i + 1) _ (loop .reached) (c .before .before .before .before .before .before .before .loop-test .left) in
+    let loop = at-loop .loop in
+    let read = c .before .before .read-letter .ensures in
+    let last = word-turn from (a .masks .now) (a .word .now) (loop .i) (loop .reached) (loop .next) (odd .if1 .taken) _ read in
+    let over = word-over from (a .masks .now) (a .word .now) (loop .i + 1) _ (loop .reached) (odd .before .loop-test .left) in
     c .all-places .ensures ∙ ap allPlaces (sym (loop .inv .1 ∙ (last ∙ over)))
 
 all-places-requires-2 : tie.Need-all-places-requires-2 Inv-loop μ-loop
@@ -90,14 +93,17 @@ all-places-requires-2 c κs = search needs
 
 returns-2 : tie.Need-returns-2 Inv-loop μ-loop
 returns-2 c =
-    let a = c .before .before .before .before .before .before .before .before .args in
-    let loop = c .before .before .before .before .loop in
+    let even = c .before .before in
+    let at-loop = even .before .before in
+    let a = at-loop .before .before .before .before .args in
+    let loop = at-loop .loop in
     let from = stepsIn (a .steps .now) (a .firsts .now) in
-    c .all-places2 .ensures ∙ ap allPlaces (sym (loop .inv .1 ∙ word-over from (a .masks .now) (a .word .now) (loop .i) (loop .reached) (loop .next) (c .before .before .if1 .left)))
+    let over = word-over from (a .masks .now) (a .word .now) (loop .i) (loop .reached) (loop .next) (even .if1 .left) in
+    c .all-places2 .ensures ∙ ap allPlaces (sym (loop .inv .1 ∙ over))
 
 pub read-word-spec : {M : Type 1} → statement M
 read-word-spec =
     tie.close
-    (tie.spec Inv-loop μ-loop bring-requires loop-holds add-loop shared-slice-read-read-letter read-letter-requires add-read-letter
-        shared-slice-read-read-letter-2 read-letter-requires-2 add-i loop-less loop-again shared-slice-read-read-letter-3
-        read-letter-requires-3 all-places-requires returns all-places-requires-2 returns-2)
+    (tie.spec Inv-loop μ-loop bring-requires loop-holds add-loop shared-slice-read-read-two add-read-two shared-slice-read-read-two-2
+        read-two-requires add-i loop-less loop-again shared-slice-read-read-letter read-letter-requires all-places-requires returns
+        all-places-requires-2 returns-2)
