@@ -161,7 +161,15 @@ pub fn read_word<'a>(
     bring(&mut reached, start, 1);
     let mut i = 0;
     while i + 1 < word.len() {
-        read_two(steps, firsts, masks, word[i], word[i + 1], &mut reached, &mut next);
+        read_two(
+            steps,
+            firsts,
+            masks,
+            word[i],
+            word[i + 1],
+            &mut reached,
+            &mut next,
+        );
         i += 2;
     }
     if i < word.len() {

@@ -24,7 +24,8 @@ use Rattle.building.specs.declared.BuildReply.the-variants.{Refused}
 module _ (table formula rows edges : List ℕ) where
   -- The promises of building: the reply and the lent places by equations, and the demands, which follow.
   abbrev pub Promised : BuildReply → List ℕ → List ℕ → Type 0
-  Promised r x y = (buildReply r ≡ buildReplied table formula rows edges) × ((x ≡ rowsLeft table formula rows edges) × ((y ≡ edgesLeft table formula rows edges) × FromPrepared table formula (buildReply r) x y))
+  Promised r x y = (buildReply r ≡ buildReplied table formula rows edges)
+      × ((x ≡ rowsLeft table formula rows edges) × ((y ≡ edgesLeft table formula rows edges) × FromPrepared table formula (buildReply r) x y))
 
   demanded : (r : BuildReply) (x y : List ℕ) → buildReply r ≡ buildReplied table formula rows edges → x ≡ rowsLeft table formula rows edges → y ≡ edgesLeft table formula rows edges → Promised r x y
   demanded r x y e d f = (e, (d, (f, subst₃ (FromPrepared table formula) (sym e) (sym d) (sym f) (building-explains table formula rows edges))))

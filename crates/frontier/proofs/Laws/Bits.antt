@@ -35,7 +35,8 @@ unfolding trailingZeros
 low-set zero n h = absurd (omega arith)
 low-set (suc w) n h = case (n % 2) refl h (low-set w (n / 2))
   where
-    case : (r : ℕ) → n % 2 ≡ r → under r (trailingZeros w (n / 2)) < suc w → (trailingZeros w (n / 2) < w → bitAt (n / 2) (trailingZeros w (n / 2)) ≡ true) → bitAt n (under r (trailingZeros w (n / 2))) ≡ true
+    case : (r : ℕ) → n % 2 ≡ r → under r (trailingZeros w (n / 2)) < suc w → (trailingZeros w (n / 2) < w → bitAt (n / 2) (trailingZeros w (n / 2)) ≡ true)
+        → bitAt n (under r (trailingZeros w (n / 2))) ≡ true
     case zero e h more = bit-half n (trailingZeros w (n / 2)) ∙ more (omega arith)
     case (suc r) e h more = eq-eqb (n / 1 % 2) 1 (omega arith)
 

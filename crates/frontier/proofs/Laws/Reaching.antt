@@ -115,7 +115,8 @@ module _ (t : Table) (w : InRange t) (masks : List ℕ) (l : ℕ) where
 
   pub length-letter : (reached next : List ℕ) → length next ≡ frontierLength → length (letterRead (stepsFrom t) masks l reached next) ≡ frontierLength
   length-letter reached next e =
-      through-good (stateRead (stepsFrom t) masks reached l) (λ x. length x ≡ frontierLength) 256 (λ s x h i. length-state reached s x ∙ i) 256 0 (emptied next) (omega arith) (length-emptied next ∙ e)
+      through-good (stateRead (stepsFrom t) masks reached l) (λ x. length x ≡ frontierLength) 256 (λ s x h i. length-state reached s x ∙ i)
+      256 0 (emptied next) (omega arith) (length-emptied next ∙ e)
 
   module _ (v q : ℕ) (few : v < 256) where
     abbrev brings : List ℕ → ℕ → Bool
@@ -166,8 +167,10 @@ module _ (t : Table) (w : InRange t) (masks : List ℕ) (l : ℕ) where
           let (has, goes) = and-true-of (bitAt (getD reached s 0) k) (bitAt (maskOn masks k l) q) u in
           let from-here = reached-to reached s k i has in
           let (f, p) = steps-are t s st .0 n in
+          let labelled : IsStep t (record { from = s; label = l; to = st .to }) =
+          subst (λ (y : ℕ). IsStep t (record { from = s; label = y; to = st .to })) (eqb-true (st .label) l e) (leaving t f p) in
           let step : IsStep t (record { from = s; label = l; to = v }) =
-          subst (λ (x : ℕ). IsStep t (record { from = s; label = l; to = x })) (sym (eqb-true v (st .to) o)) (subst (λ (y : ℕ). IsStep t (record { from = s; label = y; to = st .to })) (eqb-true (st .label) l e) (leaving t f p)) in
+          subst (λ (x : ℕ). IsStep t (record { from = s; label = l; to = x })) (sym (eqb-true v (st .to) o)) labelled in
           (s, below, (k, from-here, (step, leads-of F k l q (sym (mask-leads k (within s k below from-here)) ∙ goes))))
 
       pub letter-to : (x j : ℕ) → x < 256 → reachedAt reached x j ≡ true → Joins t F (at j x) l (at q v) → reachedAt (letterRead (stepsFrom t) masks l reached next) v q ≡ true

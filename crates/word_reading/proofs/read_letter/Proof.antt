@@ -81,7 +81,9 @@ returns c =
     let a = c .before .before .before .before .before .before .args in
     let wide = c .before .before .before .before .before .wide in
     let f = stateRead (stepsIn (a .steps .now) (a .firsts .now)) (a .masks .now) (a .reached .now) in
-    let whole = ap (through (f (wide .result)) 256 0) (sym (c .before .before .before .clear .ensures)) ∙ (c .before .loop .inv .1 ∙ left-over (f (wide .result)) 256 (c .before .loop .s) (c .before .loop .next) (c .loop-test .left)) in
+    let loop = c .before .loop in
+    let over = left-over (f (wide .result)) 256 (loop .s) (loop .next) (c .loop-test .left) in
+    let whole = ap (through (f (wide .result)) 256 0) (sym (c .before .before .before .clear .ensures)) ∙ (loop .inv .1 ∙ over) in
     sym (ap (λ l. through (f l) 256 0 (emptied (a .next .now))) (sym (wide .ensures)) ∙ whole)
 
 pub read-letter-spec : {M : Type 1} → statement M

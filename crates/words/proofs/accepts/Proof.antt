@@ -39,7 +39,8 @@ returns c =
     let asked = c .before .before .before in
     let a = asked .before .before .before .before .args in
     let told = subst (λ r. inputsReply r ≡ checked (a .table .now) (a .formula .now)) (c .before .why .given .1) (asked .check-inputs .ensures) in
-    promised (a .table .now) (a .formula .now) (a .word .now) (Refused (c .before .why .given .0 .0)) (unprepared-again (a .table .now) (a .formula .now) (answered (a .word .now)) (c .before .why .given .0 .0) told)
+    let why = c .before .why .given .0 .0 in
+    promised (a .table .now) (a .formula .now) (a .word .now) (Refused why) (unprepared-again (a .table .now) (a .formula .now) (answered (a .word .now)) why told)
 
 enum-told : tie.Need-enum-told
 enum-told c = search needs

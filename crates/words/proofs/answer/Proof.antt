@@ -14,8 +14,12 @@ use Rattle.words.proofs.answer.Statement.{statement}
 use Rattle.words.proofs.answer.Tie as tie
 
 -- What the check of the letters found.
-known : (c : tie.After-bad-letter) → badLetter (labels (tableIn (c .before .before .before .before .before .args .table .now))) (c .before .before .before .before .before .args .word .now) ≡ foundIn (c .bad-letter .result)
-known c = sym (c .bad-letter .ensures ∙ ap (λ n. badLetter n (c .before .before .before .before .before .args .word .now)) (c .before .label-count .ensures .count))
+module _ (c : tie.After-bad-letter) where
+  abbrev entry : tie.Start
+  entry = c .before .before .before .before .before
+
+  known : badLetter (labels (tableIn (entry .args .table .now))) (entry .args .word .now) ≡ foundIn (c .bad-letter .result)
+  known = sym (c .bad-letter .ensures ∙ ap (λ n. badLetter n (entry .args .word .now)) (c .before .label-count .ensures .count))
 
 label-count-requires : tie.Need-label-count-requires
 label-count-requires c κs = search needs
@@ -32,7 +36,9 @@ enum-told c = search needs
 is-accepted-requires : tie.Need-is-accepted-requires
 is-accepted-requires c κs =
     let start = c .before .before .before .before .before .before .before in
-    (start .pre .0, (start .pre .1, letters-carried (labels (tableIn (start .args .table .now))) (start .args .word .now) (start .pre .0 .in-range .few-labels) (known (c .before .before) ∙ ap foundIn (c .enum-told .given .1))))
+    let none = known (c .before .before) ∙ ap foundIn (c .enum-told .given .1) in
+    let carried = letters-carried (labels (tableIn (start .args .table .now))) (start .args .word .now) (start .pre .0 .in-range .few-labels) none in
+    (start .pre .0, (start .pre .1, carried))
 
 answer-of-requires : tie.Need-answer-of-requires
 answer-of-requires c κs = search needs
@@ -47,11 +53,12 @@ returns-2 : tie.Need-returns-2
 returns-2 c =
     let start = c .before .before .before .before .before .before .before .before .before in
     let t = tableIn (start .args .table .now) in
+    let none = known (c .before .before .before .before) ∙ ap foundIn (c .before .before .enum-told .given .1) in
     record {
       reply = λ F e.
           c .answer-of .ensures
           ∙ (ap (λ b. accepted (bitOf b)) (c .before .is-accepted .ensures .answer F e)
-          ∙ sym (ap (λ o. unlessFound o 13 (accepted (bitOf (accepts t F (start .args .word .now))))) (known (c .before .before .before .before) ∙ ap foundIn (c .before .before .enum-told .given .1))));
+          ∙ sym (ap (λ o. unlessFound o 13 (accepted (bitOf (accepts t F (start .args .word .now))))) none));
     }
 
 pub answer-spec : {M : Type 1} → statement M

@@ -21,7 +21,10 @@ is-final-requires : tie.Need-is-final-requires Inv-loop μ-loop
 is-final-requires c κs = omega (arith, c .loop-test .taken)
 
 returns : tie.Need-returns Inv-loop μ-loop
-returns c = sym (c .before .before .before .loop .inv .1 ∙ any-found _ placeCount (c .before .before .before .loop .k) (c .before .before .loop-test .taken) (sym (c .before .is-final .ensures) ∙ c .if1 .taken))
+returns c =
+    let in-loop = c .before .before in
+    let l = in-loop .before .loop in
+    sym (l .inv .1 ∙ any-found _ placeCount (l .k) (in-loop .loop-test .taken) (sym (c .before .is-final .ensures) ∙ c .if1 .taken))
 
 add-k : tie.Need-add-k Inv-loop μ-loop
 add-k c = omega (arith, c .before .before .loop-test .taken)
@@ -30,7 +33,11 @@ loop-less : tie.Need-loop-less Inv-loop μ-loop
 loop-less c = omega (arith, c .before .before .loop-test .taken)
 
 loop-again : tie.Need-loop-again Inv-loop μ-loop
-loop-again c = (omega (arith, c .before .before .loop-test .taken), c .before .before .before .loop .inv .1 ∙ any-later _ placeCount (c .before .before .before .loop .k) (c .before .before .loop-test .taken) (sym (c .before .is-final .ensures) ∙ c .if1 .left))
+loop-again c =
+    let in-loop = c .before .before in
+    let l = in-loop .before .loop in
+    let taken = in-loop .loop-test .taken in
+    (omega (arith, taken), l .inv .1 ∙ any-later _ placeCount (l .k) taken (sym (c .before .is-final .ensures) ∙ c .if1 .left))
 
 returns-2 : tie.Need-returns-2 Inv-loop μ-loop
 returns-2 c = sym (c .before .loop .inv .1 ∙ any-over _ placeCount (c .before .loop .k) (c .loop-test .left))

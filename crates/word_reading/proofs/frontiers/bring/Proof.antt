@@ -52,7 +52,8 @@ returns : tie.Need-returns
 unfolding brought
 returns c =
     let a = c .before .before .before .before .before .args in
-    let had : c .before .kept .result ≡ placesAt (a .frontier .now) (a .s) = c .before .kept .ensures ∙ ap (λ b. cond b (getD (a .frontier .now) (a .s) 0) 0) (c .before .before .before .has .ensures) in
+    let had : c .before .kept .result ≡ placesAt (a .frontier .now) (a .s) =
+    c .before .kept .ensures ∙ ap (λ b. cond b (getD (a .frontier .now) (a .s) 0) 0) (c .before .before .before .has .ensures) in
     let bit : c .bit .result ≡ 2 ^ (a .s % 64) = c .bit .ensures in
     (λ i. set (set (a .frontier .now) (a .s) (bitOr (had i) (a .places))) (256 + a .s / 64) (bitOr (marksAt (a .frontier .now) (a .s)) (bit i)))
 

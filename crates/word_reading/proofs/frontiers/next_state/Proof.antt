@@ -37,9 +37,11 @@ add-result c = omega arith
 
 returns : tie.Need-returns Inv-loop μ-loop
 returns c =
-    let start = c .before .before .before .before .before in
-    let loop = c .before .before .before .before .loop in
-    state-found (start .args .frontier .now) (start .args .s) (loop .v) (c .before .next-bit .result) (c .before .before .before .loop-test .taken) (loop .inv .0) (loop .inv .2) (c .before .next-bit .ensures) (c .if1 .taken)
+    let in-loop = c .before .before .before in
+    let a = in-loop .before .before .args in
+    let loop = in-loop .before .loop in
+    let bit = c .before .next-bit in
+    state-found (a .frontier .now) (a .s) (loop .v) (bit .result) (in-loop .loop-test .taken) (loop .inv .0) (loop .inv .2) (bit .ensures) (c .if1 .taken)
 
 mul-v : tie.Need-mul-v Inv-loop μ-loop
 mul-v c = omega arith
@@ -52,9 +54,11 @@ loop-less c = omega arith
 
 loop-again : tie.Need-loop-again Inv-loop μ-loop
 loop-again c =
-    let start = c .before .before .before .before .before in
-    let loop = c .before .before .before .before .loop in
-    let later = state-later (start .args .frontier .now) (start .args .s) (loop .v) (c .before .next-bit .result) (c .before .before .before .loop-test .taken) (loop .inv .0) (loop .inv .2) (c .before .next-bit .ensures) (c .if1 .left) in
+    let in-loop = c .before .before .before in
+    let a = in-loop .before .before .args in
+    let loop = in-loop .before .loop in
+    let bit = c .before .next-bit in
+    let later = state-later (a .frontier .now) (a .s) (loop .v) (bit .result) (in-loop .loop-test .taken) (loop .inv .0) (loop .inv .2) (bit .ensures) (c .if1 .left) in
     (omega arith, omega arith, later)
 
 returns-2 : tie.Need-returns-2 Inv-loop μ-loop
