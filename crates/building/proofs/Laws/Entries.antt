@@ -8,9 +8,11 @@ use Rattle.lts.specs.Steps.{Table, labels}
 use Rattle.lts.specs.Prepared.{tableIn}
 use Rattle.actl.specs.Formulas.{Formula}
 use Rattle.actl.specs.Prepared.{preparedFormula}
-use Rattle.formula_check.specs.Inputs.{unprepared}
+use Rattle.formula_check.specs.Inputs.{inputsReply}
 use Rattle.formula_check.specs.declared.inputs.Unprepared.{Unprepared}
-use Rattle.formula_check.proofs.Laws.Inputs.{checked, Both, goes-on, unprepared-again}
+use Rattle.formula_check.specs.declared.inputs.Inputs.{Inputs}
+use Rattle.formula_check.specs.declared.inputs.Inputs.the-variants as inputs
+use Rattle.formula_check.proofs.Laws.Inputs.{checked, Both, goes-on, inputs-refused}
 use Rattle.automaton.specs.Listing.{Listing, listing}
 use Rattle.automaton.specs.Bytes.{rowsBytes, edgesBytes}
 use Rattle.building.specs.Replies.{buildReply}
@@ -27,16 +29,17 @@ module _ (table formula rows edges : List ℕ) where
   Promised r x y = (buildReply r ≡ buildReplied table formula rows edges)
       × ((x ≡ rowsLeft table formula rows edges) × ((y ≡ edgesLeft table formula rows edges) × FromPrepared table formula (buildReply r) x y))
 
-  demanded : (r : BuildReply) (x y : List ℕ) → buildReply r ≡ buildReplied table formula rows edges → x ≡ rowsLeft table formula rows edges → y ≡ edgesLeft table formula rows edges → Promised r x y
+  demanded : (r : BuildReply) (x y : List ℕ) → buildReply r ≡ buildReplied table formula rows edges
+      → x ≡ rowsLeft table formula rows edges → y ≡ edgesLeft table formula rows edges → Promised r x y
   demanded r x y e d f = (e, (d, (f, subst₃ (FromPrepared table formula) (sym e) (sym d) (sym f) (building-explains table formula rows edges))))
 
   abbrev next : Table → Formula → Reply Listing
   next t F = fitted (listing t F) rows edges
 
-  pub refused-inputs : (why : Unprepared) → unprepared why ≡ checked table formula → Promised (Refused why) rows edges
+  pub refused-inputs : {i : Inputs} → inputsReply i ≡ checked table formula → {why : Unprepared} → i ≡ inputs.Refused why → Promised (Refused why) rows edges
   unfolding built
-  refused-inputs why e =
-      let d = unprepared-again table formula next why e in
+  refused-inputs outcome {why} e =
+      let d = inputs-refused table formula outcome next e in
       demanded (Refused why) rows edges (ap (answers counts) d) (ap (λ x. leftIn rowsBytes x rows) d) (ap (λ x. leftIn edgesBytes x edges) d)
 
   pub promised : (b : Both table formula) (F : Formula) → preparedFormula (labels (tableIn table)) formula ≡ some F
@@ -44,4 +47,5 @@ module _ (table formula rows edges : List ℕ) where
   unfolding built
   promised b F d {r} {x} {y} l =
       let z = goes-on table formula next b F d in
-      demanded r x y (l .reply ∙ sym (ap (answers counts) z)) (l .rows-left ∙ sym (ap (λ x. leftIn rowsBytes x rows) z)) (l .edges-left ∙ sym (ap (λ x. leftIn edgesBytes x edges) z))
+      demanded r x y (l .reply ∙ sym (ap (answers counts) z)) (l .rows-left ∙ sym (ap (λ x. leftIn rowsBytes x rows) z))
+      (l .edges-left ∙ sym (ap (λ x. leftIn edgesBytes x edges) z))

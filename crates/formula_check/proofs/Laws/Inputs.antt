@@ -18,11 +18,12 @@ use Rattle.lts.specs.Answers.{isSome}
 use Rattle.lts.proofs.Laws.Prepared.{prepared-in, prepared-of, prepared-holds}
 use Rattle.actl.specs.Formulas.{Formula}
 use Rattle.actl.specs.Prepared.{preparedFormula}
-use Rattle.actl.specs.FormulaReading.{withTable, withFormula, onPrepared}
+use Rattle.actl.specs.HoldsFormula.{HoldsFormula}
+use Rattle.actl.specs.FormulaReading.{withTable, withFormula, longEnough, onPrepared}
 use Rattle.formula_check.specs.Inputs.{unprepared, inputsReply}
-use Rattle.formula_check.specs.declared.inputs.Inputs.{Inputs}
-use Rattle.formula_check.specs.declared.inputs.Inputs.the-variants.{Prepared, Refused}
 use Rattle.formula_check.specs.declared.inputs.Unprepared.{Unprepared}
+use Rattle.formula_check.specs.declared.inputs.Inputs.{Inputs}
+use Rattle.formula_check.specs.declared.inputs.Inputs.the-variants as inputs
 use Rattle.actl.proofs.Laws.Replies.{accepted-lengths, on-prepared-accepted}
 
 none-of : {A : Type 0} (o : Option A) → isSome o ≡ false → o ≡ none
@@ -125,3 +126,14 @@ module _ (table formula : List ℕ) where
   pub goes-on : {A : Type 0} (next : Table → Formula → Reply A) (b : Both) (F : Formula) → preparedFormula (labels (tableIn table)) formula ≡ some F
       → onPrepared table formula next ≡ next (tableIn table) F
   goes-on next b F d = both-prepared table formula next (b .table-long) (b .formula-long) (ap isSome (b .is-table)) F d
+
+  -- The same by the case that `check_inputs` answered, for the entries that call it.
+  module _ {i : Inputs} (outcome : inputsReply i ≡ checked table formula) where
+    pub inputs-refused : {A : Type 0} (next : Table → Formula → Reply A) {why : Unprepared} → i ≡ inputs.Refused why → unprepared why ≡ onPrepared table formula next
+    inputs-refused next {why} e = unprepared-again next why (subst (λ r. inputsReply r ≡ checked table formula) e outcome)
+
+    pub inputs-prepared : i ≡ inputs.Prepared → Both
+    inputs-prepared e = both (subst (λ r. inputsReply r ≡ checked table formula) e outcome)
+
+  pub both-held : Both → HoldsTable table × HoldsFormula (labels (tableIn table)) formula
+  both-held b = (b .table-held, record { formula = b .formula-in; prepared = b .prepared })

@@ -7,7 +7,7 @@ use Prim.Native.Nat.{ℕ}
 use Rattle.lts.specs.Reply.{Reply, accepted}
 use Rattle.lts.specs.Steps.{Table}
 use Rattle.actl.specs.Formulas.{Formula}
-use Rattle.formula_check.proofs.Laws.Inputs.{Both, goes-on, both-by, refused-by}
+use Rattle.formula_check.proofs.Laws.Inputs.{Both, goes-on, inputs-refused, inputs-prepared, both-held}
 use Rattle.satisfaction.specs.Holds.{verdict}
 use Rattle.satisfaction.specs.VerdictAsked.{verdictReplied, VerdictAnswered}
 use Rattle.satisfaction.proofs.Verdicts.{verdict-answered}
@@ -32,18 +32,14 @@ unfolding verdictReplied
 returns c =
     let asked = c .before .before .before in
     let a = asked .before .before .before .args in
-    let why = c .before .why .given in
-    promised (a .table .now) (a .formula .now) (Refused (why .0 .0))
-    (refused-by (a .table .now) (a .formula .now) answer (why .0 .0) (why .1) (asked .check-inputs .ensures))
+    promised (a .table .now) (a .formula .now) (Refused (c .before .why .given .0 .0))
+    (inputs-refused (a .table .now) (a .formula .now) (asked .check-inputs .ensures) answer (c .before .why .given .1))
 
 prepared : (c : tie.After-enum-told) → let a = c .before .before .before .before .before .args in Both (a .table .now) (a .formula .now)
-prepared c =
-    let asked = c .before .before in
-    let a = asked .before .before .before .args in
-    both-by (a .table .now) (a .formula .now) (c .enum-told .given .1) (asked .check-inputs .ensures)
+prepared c = inputs-prepared _ _ (c .before .before .check-inputs .ensures) (c .enum-told .given .1)
 
 holds-at-start-requires : tie.Need-holds-at-start-requires
-holds-at-start-requires c κs = let b = prepared c in (b .table-held, record { formula = b .formula-in; prepared = b .prepared })
+holds-at-start-requires c κs = both-held _ _ (prepared c)
 
 replied : (c : tie.After-holds-at-start) → let a = c .before .before .before .before .before .before .args in
     verdictReplied (a .table .now) (a .formula .now) ≡ accepted (cond (c .holds-at-start .result) 1 0)

@@ -6,8 +6,7 @@ use Prim.Native.Nat.{ℕ}
 use Rattle.lts.specs.Reply.{Reply}
 use Rattle.lts.specs.Steps.{Table}
 use Rattle.actl.specs.Formulas.{Formula}
-use Rattle.formula_check.specs.Inputs.{inputsReply}
-use Rattle.formula_check.proofs.Laws.Inputs.{checked, Both, both, goes-on, unprepared-again}
+use Rattle.formula_check.proofs.Laws.Inputs.{Both, goes-on, inputs-refused, inputs-prepared, both-held}
 use Rattle.automaton.specs.WordAsked.{wordReplied, WordAnswered}
 use Rattle.automaton.proofs.WordsAccepted.{word-answered}
 use Rattle.words.specs.Answered.{wordAnswer}
@@ -27,32 +26,19 @@ Promised table formula word r = (wordReply r ≡ wordReplied table formula word)
 promised : (table formula word : List ℕ) (r : WordReply) → wordReply r ≡ wordReplied table formula word → Promised table formula word r
 promised table formula word r e = (e, subst (WordAnswered table formula word) (sym e) (word-answered table formula word))
 
-check-inputs-requires : tie.Need-check-inputs-requires
-check-inputs-requires c κs = search needs
-
-enum-known-why : tie.Need-enum-known-why
-enum-known-why c = search needs
-
 returns : tie.Need-returns
 unfolding wordReplied
 returns c =
     let asked = c .before .before .before in
     let a = asked .before .before .before .before .args in
-    let told = subst (λ r. inputsReply r ≡ checked (a .table .now) (a .formula .now)) (c .before .why .given .1) (asked .check-inputs .ensures) in
-    let why = c .before .why .given .0 .0 in
-    promised (a .table .now) (a .formula .now) (a .word .now) (Refused why) (unprepared-again (a .table .now) (a .formula .now) (answered (a .word .now)) why told)
-
-enum-told : tie.Need-enum-told
-enum-told c = search needs
+    promised (a .table .now) (a .formula .now) (a .word .now) (Refused (c .before .why .given .0 .0))
+    (inputs-refused (a .table .now) (a .formula .now) (asked .check-inputs .ensures) (answered (a .word .now)) (c .before .why .given .1))
 
 prepared : (c : tie.After-enum-told) → let a = c .before .before .before .before .before .before .args in Both (a .table .now) (a .formula .now)
-prepared c =
-    let asked = c .before .before in
-    let a = asked .before .before .before .before .args in
-    both (a .table .now) (a .formula .now) (subst (λ r. inputsReply r ≡ checked (a .table .now) (a .formula .now)) (c .enum-told .given .1) (asked .check-inputs .ensures))
+prepared c = inputs-prepared _ _ (c .before .before .check-inputs .ensures) (c .enum-told .given .1)
 
 answer-requires : tie.Need-answer-requires
-answer-requires c κs = let b = prepared c in (b .table-held, record { formula = b .formula-in; prepared = b .prepared })
+answer-requires c κs = both-held _ _ (prepared c)
 
 returns-2 : tie.Need-returns-2
 unfolding wordReplied
@@ -60,9 +46,10 @@ returns-2 c =
     let a = c .before .before .before .before .before .before .before .args in
     let b = prepared (c .before) in
     promised (a .table .now) (a .formula .now) (a .word .now) (c .answer .result)
-    (c .answer .ensures .reply (b .formula-in) (b .prepared) ∙ sym (goes-on (a .table .now) (a .formula .now) (answered (a .word .now)) b (b .formula-in) (b .prepared)))
+    (c .answer .ensures .reply (b .formula-in) (b .prepared)
+    ∙ sym (goes-on (a .table .now) (a .formula .now) (answered (a .word .now)) b (b .formula-in) (b .prepared)))
 
 pub accepts-spec : {M : Type 1} → statement M
 accepts-spec =
     tie.close
-    (tie.spec check-inputs-requires enum-known-why returns enum-told answer-requires returns-2)
+    (tie.spec (λ c κs. search needs) (λ c. search needs) returns (λ c. search needs) answer-requires returns-2)

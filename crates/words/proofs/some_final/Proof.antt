@@ -22,9 +22,9 @@ is-final-requires c κs = omega (arith, c .loop-test .taken)
 
 returns : tie.Need-returns Inv-loop μ-loop
 returns c =
-    let in-loop = c .before .before in
-    let l = in-loop .before .loop in
-    sym (l .inv .1 ∙ any-found _ placeCount (l .k) (in-loop .loop-test .taken) (sym (c .before .is-final .ensures) ∙ c .if1 .taken))
+    let tested = c .before .before in
+    let loop = tested .before .loop in
+    sym (loop .inv .1 ∙ any-found _ placeCount (loop .k) (tested .loop-test .taken) (sym (c .before .is-final .ensures) ∙ c .if1 .taken))
 
 add-k : tie.Need-add-k Inv-loop μ-loop
 add-k c = omega (arith, c .before .before .loop-test .taken)
@@ -34,10 +34,10 @@ loop-less c = omega (arith, c .before .before .loop-test .taken)
 
 loop-again : tie.Need-loop-again Inv-loop μ-loop
 loop-again c =
-    let in-loop = c .before .before in
-    let l = in-loop .before .loop in
-    let taken = in-loop .loop-test .taken in
-    (omega (arith, taken), l .inv .1 ∙ any-later _ placeCount (l .k) taken (sym (c .before .is-final .ensures) ∙ c .if1 .left))
+    let tested = c .before .before in
+    let loop = tested .before .loop in
+    let later = any-later _ placeCount (loop .k) (tested .loop-test .taken) (sym (c .before .is-final .ensures) ∙ c .if1 .left) in
+    (omega (arith, tested .loop-test .taken), loop .inv .1 ∙ later)
 
 returns-2 : tie.Need-returns-2 Inv-loop μ-loop
 returns-2 c = sym (c .before .loop .inv .1 ∙ any-over _ placeCount (c .before .loop .k) (c .loop-test .left))
