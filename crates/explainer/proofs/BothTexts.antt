@@ -28,12 +28,14 @@ use Rattle.actl.specs.FormulaReading.{withTable, formulaReading, formulaReplied
 use Rattle.formula_text.specs.declared.FormulaReply.{FormulaReply}
 use Rattle.formula_text.specs.declared.FormulaReply.the-variants as formulas
 use Rattle.actl.proofs.Laws.Forms.{length-form}
-use Rattle.replies.specs.Interface.{numberIn, figureIn}
+use Rattle.replies.specs.Interface.{numberIn, Says}
+use Rattle.replies.specs.declared.Answer.{Answer}
 use Rattle.explanations.specs.Explanation.{andThen}
 use Rattle.explainer.specs.Readings.{ReadBoth}
 use Rattle.explanations.specs.BothTexts.{Read, readings}
 use Rattle.explainer.specs.declared.readings.BothRead.the-variants.{Ready, Refused}
 use Rattle.explanations.proofs.Readings.{reading-leaves-table, reading-leaves-formula}
+use Rattle.explainer.proofs.Answers.{refused-so}
 
 -- A reply with the number 0 accepted; any other is the refusal that number and figure say.
 pub table-zero : (r : TableReply) → numberIn (lts.tableReply r) ≡ 0 → lts.tableReply r ≡ accepted tt
@@ -54,10 +56,6 @@ formula-zero (formulas.NoClass n) e = absurd (omega arith)
 formula-zero formulas.TableForeign e = absurd (omega arith)
 formula-zero (formulas.BufferShort n) e = absurd (omega arith)
 
-refused-so : (r : Reply (Unit {0})) → (numberIn r ≡ 0 → ⊥) → r ≡ refusal (numberIn r) (figureIn (λ _. 0) r)
-refused-so (accepted u) h = absurd (h refl)
-refused-so (refusal n g) h = refl
-
 same-refusal : {A B : Type 0} (f : A → B) (r : Reply A) (n g : ℕ) → answers f r ≡ refusal n g → r ≡ refusal n g
 same-refusal f (accepted a) n g e = absurd (let z : _≡_ {A = ℕ} 0 1 = cc in omega arith)
 same-refusal f (refusal m h) n g e = let a : m ≡ n = cc in let b : h ≡ g = cc in λ i. refusal (a i) (b i)
@@ -75,9 +73,9 @@ module _ (text buffer : List ℕ) (long : length buffer ≡ tableLength) where
   unfolding tableReading
   table-reading = enough (leb tableLength (length buffer)) 14 tableLength (readTable text) (le-leb tableLength (length buffer) (omega arith))
 
-  pub table-refused : (r : TableReply) → lts.tableReply r ≡ tableReplied text buffer → (numberIn (lts.tableReply r) ≡ 0 → ⊥)
-      → readTable text ≡ refusal (numberIn (lts.tableReply r)) (figureIn (λ _. 0) (lts.tableReply r))
-  table-refused r e h = sym table-reading ∙ same-refusal (λ t. tt) (tableReading text buffer) _ _ (sym e ∙ refused-so (lts.tableReply r) h)
+  pub table-refused : (r : TableReply) → lts.tableReply r ≡ tableReplied text buffer → {a : Answer} → Says (λ _. 0) (lts.tableReply r) a → (a .number ≡ 0 → ⊥)
+      → readTable text ≡ refusal (a .number) (a .figure)
+  table-refused r e s h = sym table-reading ∙ same-refusal (λ t. tt) (tableReading text buffer) _ _ (sym e ∙ refused-so (lts.tableReply r) s h)
 
   pub table-written : (t : Table) → readTable text ≡ accepted t → tableLeft text buffer ≡ tableBytes t
   table-written t e =
@@ -92,9 +90,9 @@ module _ (table text buffer : List ℕ) (long : length buffer ≡ formulaLength)
       ∙ enough (leb formulaLength (length buffer)) 14 formulaLength _ (le-leb formulaLength (length buffer) (omega arith))
       ∙ ap (λ o. withTable o (λ u. readFormula (u .names) text)) held
 
-  pub formula-refused : (r : FormulaReply) → actl.formulaReply r ≡ formulaReplied table text buffer → (numberIn (actl.formulaReply r) ≡ 0 → ⊥)
-      → readFormula (t .names) text ≡ refusal (numberIn (actl.formulaReply r)) (figureIn (λ _. 0) (actl.formulaReply r))
-  formula-refused r e h = sym formula-reading ∙ same-refusal (λ F. tt) (formulaReading table text buffer) _ _ (sym e ∙ refused-so (actl.formulaReply r) h)
+  pub formula-refused : (r : FormulaReply) → actl.formulaReply r ≡ formulaReplied table text buffer
+      → {a : Answer} → Says (λ _. 0) (actl.formulaReply r) a → (a .number ≡ 0 → ⊥) → readFormula (t .names) text ≡ refusal (a .number) (a .figure)
+  formula-refused r e s h = sym formula-reading ∙ same-refusal (λ F. tt) (formulaReading table text buffer) _ _ (sym e ∙ refused-so (actl.formulaReply r) s h)
 
   pub formula-written : (F : Formula) → readFormula (t .names) text ≡ accepted F → size F ≤ 40 → formulaLeft table text buffer ≡ formulaBytes F
   formula-written F e few =
@@ -103,22 +101,26 @@ module _ (table text buffer : List ℕ) (long : length buffer ≡ formulaLength)
 
 -- What both readings come to.
 module _ (tableText formulaText : List ℕ) where
+  abbrev over-table : Reply Table → Reply Read
+  over-table r = andThen r (λ t. andThen (readFormula (t .names) formulaText) (λ F. accepted (record { table = t; formula = F })))
+
   pub both-table-refused : (n g : ℕ) → readTable tableText ≡ refusal n g → (table formula : List ℕ) → ReadBoth (readings tableText formulaText) (Refused n g) table formula
-  both-table-refused n g e table formula =
-      subst (λ (r : Reply Table). ReadBoth (andThen r (λ t. andThen (readFormula (t .names) formulaText) (λ F. accepted (record { table = t; formula = F })))) (Refused n g) table formula) (sym e) (refl, refl)
+  both-table-refused n g e table formula = subst (λ (r : Reply Table). ReadBoth (over-table r) (Refused n g) table formula) (sym e) (refl, refl)
 
   module _ (t : Table) (read : readTable tableText ≡ accepted t) where
-    over : readings tableText formulaText ≡ andThen (readFormula (t .names) formulaText) (λ F. accepted (record { table = t; formula = F }))
-    over = ap (λ r. andThen r (λ t. andThen (readFormula (t .names) formulaText) (λ F. accepted (record { table = t; formula = F })))) read
+    abbrev over-formula : Reply Formula → Reply Read
+    over-formula r = andThen r (λ F. accepted (record { table = t; formula = F }))
 
-    pub both-formula-refused : (n g : ℕ) → readFormula (t .names) formulaText ≡ refusal n g → (table formula : List ℕ) → ReadBoth (readings tableText formulaText) (Refused n g) table formula
-    both-formula-refused n g e table formula =
-        subst (λ (r : Reply Read). ReadBoth r (Refused n g) table formula) (sym (over ∙ ap (λ r. andThen r (λ F. accepted (record { table = t; formula = F }))) e)) (refl, refl)
+    over : {r : Reply Formula} → readFormula (t .names) formulaText ≡ r → readings tableText formulaText ≡ over-formula r
+    over e = ap over-table read ∙ ap over-formula e
+
+    pub both-formula-refused : (n g : ℕ) → readFormula (t .names) formulaText ≡ refusal n g → (table formula : List ℕ)
+        → ReadBoth (readings tableText formulaText) (Refused n g) table formula
+    both-formula-refused n g e table formula = subst (λ (r : Reply Read). ReadBoth r (Refused n g) table formula) (sym (over e)) (refl, refl)
 
     pub both-read : (F : Formula) → readFormula (t .names) formulaText ≡ accepted F → (table formula : List ℕ) → table ≡ tableBytes t → formula ≡ formulaBytes F
         → ReadBoth (readings tableText formulaText) Ready table formula
-    both-read F e table formula a b =
-        subst (λ (r : Reply Read). ReadBoth r Ready table formula) (sym (over ∙ ap (λ r. andThen r (λ F. accepted (record { table = t; formula = F }))) e)) (a, b)
+    both-read F e table formula a b = subst (λ (r : Reply Read). ReadBoth r Ready table formula) (sym (over e)) (a, b)
 
 -- What an accepted reading into a buffer of just the length gives.
 pub record TableRead (text left : List ℕ) : Type 0 where
@@ -129,9 +131,9 @@ pub record TableRead (text left : List ℕ) : Type 0 where
   pub whole : length left ≡ tableLength
 
 pub table-read : (text buffer : List ℕ) (r : TableReply) (left : List ℕ) → lts.tableReply r ≡ tableReplied text buffer → left ≡ tableLeft text buffer
-    → numberIn (lts.tableReply r) ≡ 0 → length buffer ≡ tableLength → TableRead text left
-table-read text buffer r left e d z long =
-    let (t, read, held) = reading-leaves-table text buffer (sym e ∙ table-zero r z) in
+    → {a : Answer} → Says (λ _. 0) (lts.tableReply r) a → a .number ≡ 0 → length buffer ≡ tableLength → TableRead text left
+table-read text buffer r left e d s z long =
+    let (t, read, held) = reading-leaves-table text buffer (sym e ∙ table-zero r (sym (s .number-said) ∙ z)) in
     let bytes = d ∙ table-written text buffer long t read in
     record {
       table = t;
@@ -148,7 +150,7 @@ pub record FormulaRead (t : Table) (text left : List ℕ) : Type 0 where
 
 pub formula-read : (table text buffer : List ℕ) → length buffer ≡ formulaLength → length table ≡ tableLength → (t : Table) → preparedTable table ≡ some t
     → (r : FormulaReply) (left : List ℕ) → actl.formulaReply r ≡ formulaReplied table text buffer → left ≡ formulaLeft table text buffer
-    → numberIn (actl.formulaReply r) ≡ 0 → FormulaRead t text left
-formula-read table text buffer long whole t held r left e d z =
-    let (F, read, form, again) = reading-leaves-formula table text buffer t held (sym e ∙ formula-zero r z) in
+    → {a : Answer} → Says (λ _. 0) (actl.formulaReply r) a → a .number ≡ 0 → FormulaRead t text left
+formula-read table text buffer long whole t held r left e d s z =
+    let (F, read, form, again) = reading-leaves-formula table text buffer t held (sym e ∙ formula-zero r (sym (s .number-said) ∙ z)) in
     record { formula = F; read = read; bytes = d ∙ formula-written table text buffer long whole t held F read (form .few) }

@@ -1,51 +1,39 @@
 // The C interface: what is returned and written of what `explain` answers.
-ghost use mathlib.Core.Path.{_≡_};
-ghost use Rattle.replies.specs.Interface.{numberIn, figureIn, keptIn};
+ghost use Rattle.replies.specs.Interface.{Says};
 ghost use Rattle.explainer.specs.Replies.{explainReply};
+ghost use Rattle.explainer.specs.Values.{ValuesLeft};
 use crate::ExplainReply;
+use replies::Answer;
 
-pub fn explain_number(reply: ExplainReply) -> u32
-    ensures { λ r. ⌜ r ≡ numberIn (explainReply reply) ⌝ }
+// What an accepted call writes beside the figure.
+pub struct Values {
+    pub verdict: u64,
+    pub class: u64,
+    pub edges: u64,
+}
+
+pub fn explain_answer(reply: ExplainReply) -> Answer
+    ensures { λ r. ⌜ Says (λ s. s .rows) (explainReply reply) r ⌝ }
 {
     match reply {
-        ExplainReply::Explained(_, _, _, _) => 0,
-        ExplainReply::Refused(number, _) => number,
+        ExplainReply::Explained(_, _, rows, _) => Answer {
+            number: 0,
+            figure: rows,
+        },
+        ExplainReply::Refused(number, figure) => Answer { number, figure },
     }
 }
 
-pub fn explain_figure(reply: ExplainReply) -> u64
-    ensures { λ r. ⌜ r ≡ figureIn (λ s. s .rows) (explainReply reply) ⌝ }
+// The values afterwards, by those before: a refusal leaves them.
+pub fn explain_values(reply: ExplainReply, before: Values) -> Values
+    ensures { λ r. ⌜ ValuesLeft (explainReply reply) before r ⌝ }
 {
     match reply {
-        ExplainReply::Explained(_, _, rows, _) => rows,
-        ExplainReply::Refused(_, figure) => figure,
-    }
-}
-
-// The verdict; what stood there if the call was refused. So the class and the count of edges.
-pub fn explain_verdict(reply: ExplainReply, before: u64) -> u64
-    ensures { λ r. ⌜ r ≡ keptIn (λ s. s .verdict) before (explainReply reply) ⌝ }
-{
-    match reply {
-        ExplainReply::Explained(verdict, _, _, _) => verdict,
-        ExplainReply::Refused(_, _) => before,
-    }
-}
-
-pub fn explain_class(reply: ExplainReply, before: u64) -> u64
-    ensures { λ r. ⌜ r ≡ keptIn (λ s. s .class) before (explainReply reply) ⌝ }
-{
-    match reply {
-        ExplainReply::Explained(_, class, _, _) => class,
-        ExplainReply::Refused(_, _) => before,
-    }
-}
-
-pub fn explain_edges(reply: ExplainReply, before: u64) -> u64
-    ensures { λ r. ⌜ r ≡ keptIn (λ s. s .edges) before (explainReply reply) ⌝ }
-{
-    match reply {
-        ExplainReply::Explained(_, _, _, edges) => edges,
+        ExplainReply::Explained(verdict, class, _, edges) => Values {
+            verdict,
+            class,
+            edges,
+        },
         ExplainReply::Refused(_, _) => before,
     }
 }

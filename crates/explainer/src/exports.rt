@@ -9,25 +9,18 @@ ghost use Rattle.replies.specs.Interface.{numberIn, figureIn, edgesIn};
 ghost use Rattle.explanations.specs.Explanation.{explaining};
 ghost use Rattle.explainer.specs.Interface.{Returned, Promised};
 use crate::explain;
-use crate::explained::explain_class;
-use crate::explained::explain_edges;
-use crate::explained::explain_figure;
-use crate::explained::explain_number;
-use crate::explained::explain_verdict;
+use crate::explained::Values;
+use crate::explained::explain_answer;
+use crate::explained::explain_values;
 use building::build;
 use formula_text::read_formula;
 use labelling::verdict;
+use replies::build_answer;
 use replies::build_edges;
-use replies::build_figure;
-use replies::build_number;
-use replies::formula_figure;
-use replies::formula_number;
-use replies::table_figure;
-use replies::table_number;
-use replies::verdict_figure;
-use replies::verdict_number;
-use replies::word_figure;
-use replies::word_number;
+use replies::formula_answer;
+use replies::table_answer;
+use replies::verdict_answer;
+use replies::word_answer;
 use table_text::read_table;
 use words::accepts;
 
@@ -37,9 +30,9 @@ pub extern "C" fn explainer_read_table(text: &[u8], table: &mut [u8], figure: &m
     ensures { λ _. ⌜ now (table .exit) ≡ tableLeft (now (text .entry)) (now (table .entry)) ⌝ }
     ensures { λ _. ⌜ now (figure .exit) ≡ figureIn (λ _. 0) (tableReplied (now (text .entry)) (now (table .entry))) ⌝ }
 {
-    let reply = read_table(text, table);
-    *figure = table_figure(reply);
-    table_number(reply)
+    let answer = table_answer(read_table(text, table));
+    *figure = answer.figure;
+    answer.number
 }
 
 #[no_mangle]
@@ -51,11 +44,12 @@ pub extern "C" fn explainer_read_formula(
 ) -> u32
     ensures { λ r. ⌜ r ≡ numberIn (formulaReplied (now (table .entry)) (now (text .entry)) (now (formula .entry))) ⌝ }
     ensures { λ _. ⌜ now (formula .exit) ≡ formulaLeft (now (table .entry)) (now (text .entry)) (now (formula .entry)) ⌝ }
-    ensures { λ _. ⌜ now (figure .exit) ≡ figureIn (λ _. 0) (formulaReplied (now (table .entry)) (now (text .entry)) (now (formula .entry))) ⌝ }
+    ensures { λ _. ⌜ now (figure .exit) ≡ figureIn (λ _. 0)
+        (formulaReplied (now (table .entry)) (now (text .entry)) (now (formula .entry))) ⌝ }
 {
-    let reply = read_formula(table, text, formula);
-    *figure = formula_figure(reply);
-    formula_number(reply)
+    let answer = formula_answer(read_formula(table, text, formula));
+    *figure = answer.figure;
+    answer.number
 }
 
 #[no_mangle]
@@ -63,9 +57,9 @@ pub extern "C" fn explainer_verdict(table: &[u8], formula: &[u8], figure: &mut u
     ensures { λ r. ⌜ r ≡ numberIn (verdictReplied (now (table .entry)) (now (formula .entry))) ⌝ }
     ensures { λ _. ⌜ now (figure .exit) ≡ figureIn (λ holds. holds) (verdictReplied (now (table .entry)) (now (formula .entry))) ⌝ }
 {
-    let reply = verdict(table, formula);
-    *figure = verdict_figure(reply);
-    verdict_number(reply)
+    let answer = verdict_answer(verdict(table, formula));
+    *figure = answer.figure;
+    answer.number
 }
 
 #[no_mangle]
@@ -76,11 +70,12 @@ pub extern "C" fn explainer_accepts(
     figure: &mut u64,
 ) -> u32
     ensures { λ r. ⌜ r ≡ numberIn (wordReplied (now (table .entry)) (now (formula .entry)) (now (word .entry))) ⌝ }
-    ensures { λ _. ⌜ now (figure .exit) ≡ figureIn (λ accepted. accepted) (wordReplied (now (table .entry)) (now (formula .entry)) (now (word .entry))) ⌝ }
+    ensures { λ _. ⌜ now (figure .exit) ≡ figureIn (λ accepted. accepted)
+        (wordReplied (now (table .entry)) (now (formula .entry)) (now (word .entry))) ⌝ }
 {
-    let reply = accepts(table, formula, word);
-    *figure = word_figure(reply);
-    word_number(reply)
+    let answer = word_answer(accepts(table, formula, word));
+    *figure = answer.figure;
+    answer.number
 }
 
 #[no_mangle]
@@ -95,14 +90,17 @@ pub extern "C" fn explainer_build(
     ensures { λ r. ⌜ r ≡ numberIn (buildReplied (now (table .entry)) (now (formula .entry)) (now (rows .entry)) (now (edges .entry))) ⌝ }
     ensures { λ _. ⌜ now (rows .exit) ≡ rowsLeft (now (table .entry)) (now (formula .entry)) (now (rows .entry)) (now (edges .entry)) ⌝ }
     ensures { λ _. ⌜ now (edges .exit) ≡ edgesLeft (now (table .entry)) (now (formula .entry)) (now (rows .entry)) (now (edges .entry)) ⌝ }
-    ensures { λ _. ⌜ now (figure .exit) ≡ figureIn (λ counts. counts .rows) (buildReplied (now (table .entry)) (now (formula .entry)) (now (rows .entry)) (now (edges .entry))) ⌝ }
-    ensures { λ _. ⌜ now (count .exit) ≡ edgesIn (now (count .entry)) (buildReplied (now (table .entry)) (now (formula .entry)) (now (rows .entry)) (now (edges .entry))) ⌝ }
+    ensures { λ _. ⌜ now (figure .exit) ≡ figureIn (λ counts. counts .rows)
+        (buildReplied (now (table .entry)) (now (formula .entry)) (now (rows .entry)) (now (edges .entry))) ⌝ }
+    ensures { λ _. ⌜ now (count .exit) ≡ edgesIn (now (count .entry))
+        (buildReplied (now (table .entry)) (now (formula .entry)) (now (rows .entry)) (now (edges .entry))) ⌝ }
 {
     let reply = build(table, formula, rows, edges);
     let before = *count;
-    *figure = build_figure(reply);
+    let answer = build_answer(reply);
+    *figure = answer.figure;
     *count = build_edges(reply, before);
-    build_number(reply)
+    answer.number
 }
 
 #[no_mangle]
@@ -118,16 +116,29 @@ pub extern "C" fn explainer_explain(
     class: &mut u64,
     count: &mut u64,
 ) -> u32
-    ensures { λ r. ⌜ Returned (explaining (now (tabletext .entry)) (now (formulatext .entry)) (now (table .entry)) (now (formula .entry)) (now (rows .entry)) (now (edges .entry))) r (now (figure .exit)) (now (holds .entry)) (now (holds .exit)) (now (class .entry)) (now (class .exit)) (now (count .entry)) (now (count .exit)) (now (table .entry)) (now (table .exit)) (now (formula .entry)) (now (formula .exit)) (now (rows .entry)) (now (rows .exit)) (now (edges .entry)) (now (edges .exit)) ⌝ }
-    ensures { λ _. ⌜ Promised (now (tabletext .entry)) (now (formulatext .entry)) (now (table .entry)) (now (table .exit)) (now (formula .entry)) (now (formula .exit)) (now (rows .entry)) (now (rows .exit)) (now (edges .entry)) (now (edges .exit)) ⌝ }
+    ensures { λ r. ⌜ Returned (explaining (now (tabletext .entry)) (now (formulatext .entry))
+        (now (table .entry)) (now (formula .entry)) (now (rows .entry)) (now (edges .entry))) r (now (figure .exit))
+        (now (holds .entry)) (now (holds .exit)) (now (class .entry)) (now (class .exit)) (now (count .entry)) (now (count .exit))
+        (now (table .entry)) (now (table .exit)) (now (formula .entry)) (now (formula .exit))
+        (now (rows .entry)) (now (rows .exit)) (now (edges .entry)) (now (edges .exit)) ⌝ }
+    ensures { λ _. ⌜ Promised (now (tabletext .entry)) (now (formulatext .entry))
+        (now (table .entry)) (now (table .exit)) (now (formula .entry)) (now (formula .exit))
+        (now (rows .entry)) (now (rows .exit)) (now (edges .entry)) (now (edges .exit)) ⌝ }
 {
     let reply = explain(tabletext, formulatext, table, formula, rows, edges);
     let verdict_before = *holds;
     let class_before = *class;
-    let count_before = *count;
-    *figure = explain_figure(reply);
-    *holds = explain_verdict(reply, verdict_before);
-    *class = explain_class(reply, class_before);
-    *count = explain_edges(reply, count_before);
-    explain_number(reply)
+    let edges_before = *count;
+    let before = Values {
+        verdict: verdict_before,
+        class: class_before,
+        edges: edges_before,
+    };
+    let answer = explain_answer(reply);
+    let values = explain_values(reply, before);
+    *figure = answer.figure;
+    *holds = values.verdict;
+    *class = values.class;
+    *count = values.edges;
+    answer.number
 }

@@ -11,10 +11,9 @@ use building::build;
 use bytes::copy;
 use formula_classes::shape_of;
 use labelling::verdict;
+use replies::build_answer;
 use replies::build_edges;
-use replies::build_figure;
-use replies::build_number;
-use replies::verdict_figure;
+use replies::verdict_answer;
 
 fn wide(class: u8) -> u64
     ensures { λ r. ⌜ r ≡ class ⌝ }
@@ -35,25 +34,26 @@ fn class_of(formula: &[u8]) -> u64
 // Builds, and hands the prepared bytes over if nothing was refused.
 pub fn finish(
     t: &[u8],
-    f: &[u8],
     table: &mut [u8],
+    f: &[u8],
     formula: &mut [u8],
     rows: &mut [u8],
     edges: &mut [u8],
 ) -> ExplainReply
     requires { ⌜ (length (now t) ≡ tableLength) × (length (now f) ≡ formulaLength) ⌝ }
     requires { ⌜ (tableLength ≤ length (now table)) × (formulaLength ≤ length (now formula)) ⌝ }
-    ensures { λ r. ⌜ ((x : Read) → HoldsBoth (now (t .entry)) (now (f .entry)) x → Outcome (listingOf x (now (rows .entry)) (now (edges .entry))) r (now (table .entry)) (now (table .exit)) (now (formula .entry)) (now (formula .exit)) (now (rows .entry)) (now (rows .exit)) (now (edges .entry)) (now (edges .exit))) ⌝ }
+    ensures { λ r. ⌜ ((x : Read) → HoldsBoth (now (t .entry)) (now (f .entry)) x → Outcome (listingOf x (now (rows .entry)) (now (edges .entry))) r
+        (now (table .entry)) (now (table .exit)) (now (formula .entry)) (now (formula .exit))
+        (now (rows .entry)) (now (rows .exit)) (now (edges .entry)) (now (edges .exit))) ⌝ }
 {
     let built = build(t, f, rows, edges);
-    let number = build_number(built);
-    let count = build_figure(built);
-    if number != 0 {
-        return ExplainReply::Refused(number, count);
+    let counted = build_answer(built);
+    if counted.number != 0 {
+        return ExplainReply::Refused(counted.number, counted.figure);
     }
-    let holds = verdict_figure(verdict(t, f));
+    let held = verdict_answer(verdict(t, f));
     let class = class_of(f);
     copy(t, table);
     copy(f, formula);
-    ExplainReply::Explained(holds, class, count, build_edges(built, 0))
+    ExplainReply::Explained(held.figure, class, counted.figure, build_edges(built, 0))
 }

@@ -6,10 +6,8 @@ ghost use Rattle.lts.specs.Sizes.{tableLength};
 ghost use Rattle.explainer.specs.Readings.{ReadBoth};
 ghost use Rattle.explanations.specs.BothTexts.{readings};
 use formula_text::read_formula;
-use replies::formula_figure;
-use replies::formula_number;
-use replies::table_figure;
-use replies::table_number;
+use replies::formula_answer;
+use replies::table_answer;
 use table_text::read_table;
 
 pub enum BothRead {
@@ -26,15 +24,13 @@ pub fn read_both(
     requires { ⌜ (length (now table) ≡ tableLength) × (length (now formula) ≡ formulaLength) ⌝ }
     ensures { λ r. ⌜ ReadBoth (readings (now (tabletext .entry)) (now (formulatext .entry))) r (now (table .exit)) (now (formula .exit)) ⌝ }
 {
-    let first = read_table(tabletext, table);
-    let number = table_number(first);
-    if number != 0 {
-        return BothRead::Refused(number, table_figure(first));
+    let first = table_answer(read_table(tabletext, table));
+    if first.number != 0 {
+        return BothRead::Refused(first.number, first.figure);
     }
-    let second = read_formula(table, formulatext, formula);
-    let number = formula_number(second);
-    if number != 0 {
-        return BothRead::Refused(number, formula_figure(second));
+    let second = formula_answer(read_formula(table, formulatext, formula));
+    if second.number != 0 {
+        return BothRead::Refused(second.number, second.figure);
     }
     BothRead::Ready
 }

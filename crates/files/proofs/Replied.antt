@@ -17,23 +17,30 @@ use Rattle.automaton.proofs.Bytes.{SmallEdges}
 use Rattle.automaton.proofs.WordsAccepted.{small-edges}
 use Rattle.explanations.specs.Explanation.{Explanation, explaining, explanation, explainReplied, rowsExplained, edgesExplained}
 use Rattle.explainer.specs.Replies.{explainReply}
+use Rattle.files.specs.Replied.{Replied}
 use Rattle.files.specs.Writing.{replyText, Few, PrefixLength}
 use Rattle.explanations.specs.Printed.{printed, withLength, TextWritten}
 use Rattle.explainer.specs.declared.ExplainReply.{ExplainReply}
 use Rattle.explanations.proofs.Demands.{Accepted, explanation-accepted}
-use Rattle.explainer.proofs.Explaining.{explanation-of-readings}
+use Rattle.explainer.specs.Readings.{Outcome}
+use Rattle.explainer.proofs.Into.{same-outcome}
 use Rattle.explainer.proofs.Promised.{long-enough}
 use Rattle.explanations.proofs.Lines.{listing-printed}
 
-module _ (tableText text table formula rows edges : List ℕ) (long : tableLength ≤ length table) (wide : formulaLength ≤ length formula) where
+module _ (tableText text rows edges : List ℕ) where
   abbrev E : Reply Explanation
-  E = explaining tableText text table formula rows edges
+  E = explanation tableText text rows edges
 
-  is-explanation : E ≡ explanation tableText text rows edges
-  is-explanation = long-enough tableText text table formula rows edges long wide ∙ sym (explanation-of-readings tableText text rows edges)
+  pub replied : {table formula : List ℕ} → tableLength ≤ length table → formulaLength ≤ length formula
+      → {r : ExplainReply} {table′ formula′ rows′ edges′ : List ℕ}
+      → Outcome (explaining tableText text table formula rows edges) r table table′ formula formula′ rows rows′ edges edges′
+      → Replied tableText text r rows rows′ edges edges′
+  replied {table} {formula} long wide s =
+      let outcome = same-outcome (sym (long-enough tableText text table formula rows edges long wide)) s in
+      record { reply = outcome .reply; rows-left = outcome .rows-left; edges-left = outcome .edges-left }
 
   stands : (e : Explanation) → E ≡ accepted e → Accepted tableText text rows edges e
-  stands e d = explanation-accepted tableText text rows edges e (sym is-explanation ∙ d)
+  stands e d = explanation-accepted tableText text rows edges e d
 
   small : (e : Explanation) → E ≡ accepted e → SmallEdges (e .list)
   small e d =
@@ -42,22 +49,21 @@ module _ (tableText text table formula rows edges : List ℕ) (long : tableLengt
       subst (λ (L : Listing). SmallEdges L) (sym (a .is-listing))
       (small-edges (e .table) (e .formula) (text-of-read tableText (e .table) (a .read-table) .1) (formed-has-class form) (form .few))
 
-  pub few-counts : length rows ≡ rowsLength → length edges ≡ edgesLength → (r : ExplainReply) → explainReply r ≡ explainReplied E → Few (explainReply r)
-  few-counts i j r e = subst Few (sym e) (by E refl)
-    where
-      by : (x : Reply Explanation) → E ≡ x → Few (explainReplied x)
-      by (refusal n g) d = tt
-      by (accepted x) d = (omega (arith, stands x d .rows-fit), omega (arith, stands x d .edges-fit))
+  module _ {r : ExplainReply} {rows′ edges′ : List ℕ} (told : Replied tableText text r rows rows′ edges edges′) where
+    pub few-counts : length rows ≡ rowsLength → length edges ≡ edgesLength → Few (explainReply r)
+    few-counts i j = subst Few (sym (told .reply)) (by E refl)
+      where
+        by : (x : Reply Explanation) → E ≡ x → Few (explainReplied x)
+        by (refusal n g) d = tt
+        by (accepted x) d = (omega (arith, stands x d .rows-fit), omega (arith, stands x d .edges-fit))
 
-  pub reply-text : (n : ℕ) (r : ExplainReply) (rows′ edges′ : List ℕ) → explainReply r ≡ explainReplied E → rows′ ≡ rowsExplained E rows → edges′ ≡ edgesExplained E edges
-      → replyText (explainReply r) n rows′ edges′ ≡ printed (withLength n (explanation tableText text rows edges))
-  unfolding printed
-  reply-text n r rows′ edges′ e p q =
-      (λ i. replyText (e i) n (p i) (q i)) ∙ by E refl ∙ ap (λ x. printed (withLength n x)) is-explanation
-    where
-      by : (x : Reply Explanation) → E ≡ x → replyText (explainReplied x) n (rowsExplained x rows) (edgesExplained x edges) ≡ printed (withLength n x)
-      by (refusal k g) d = refl
-      by (accepted x) d = listing-printed x rows edges (small x d)
+    pub reply-text : (n : ℕ) → replyText (explainReply r) n rows′ edges′ ≡ printed (withLength n E)
+    unfolding printed
+    reply-text n = (λ i. replyText (told .reply i) n (told .rows-left i) (told .edges-left i)) ∙ by E refl
+      where
+        by : (x : Reply Explanation) → E ≡ x → replyText (explainReplied x) n (rowsExplained x rows) (edgesExplained x edges) ≡ printed (withLength n x)
+        by (refusal k g) d = refl
+        by (accepted x) d = listing-printed x rows edges (small x d)
 
 -- A text that was written into a buffer has no more bytes than the buffer.
 pub written-counts : {text before out : List ℕ} {end : ℕ} → TextWritten text before out end → length out ≡ length before → PrefixLength end out

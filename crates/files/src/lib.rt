@@ -7,13 +7,14 @@ use explanations::sizes::ROWS_LENGTH;
 use explanations::sizes::TEXT_LENGTH;
 use lts::sizes::TABLE_LENGTH;
 ghost use mathlib.Core.Path.{_≡_};
-ghost use Prim.Native.Nat.{_+_, min};
-ghost use lib.ListN.{length};
+ghost use Prim.Native.Nat.{_+_, _≤_, min};
+ghost use lib.ListN.{length, take};
 ghost use Rattle.explanations.specs.Sizes.{keptLength};
 ghost use Rattle.explanations.specs.Printed.{TextWritten};
 ghost use Rattle.explainer.specs.Replies.{explainReply};
 ghost use Rattle.files.specs.Scan.{scanStart, largestCount, scannedAfter, keptAfter};
 ghost use Rattle.files.specs.Files.{lengthWithoutEnd, filesText};
+ghost use Rattle.files.specs.Replied.{Replied};
 ghost use Rattle.files.specs.Writing.{replyText, Few, PrefixLength};
 use bytes::copy;
 use explainer::ExplainReply;
@@ -100,7 +101,8 @@ fn write_reply(
     out: &mut [u8; TEXT_LENGTH],
 ) -> usize
     requires { ⌜ Few (explainReply reply) ⌝ }
-    ensures { λ r. ⌜ TextWritten (replyText (explainReply reply) length (now (rows .entry)) (now (edges .entry))) (now (out .entry)) (now (out .exit)) r ⌝ }
+    ensures { λ r. ⌜ TextWritten (replyText (explainReply reply) length (now (rows .entry)) (now (edges .entry)))
+        (now (out .entry)) (now (out .exit)) r ⌝ }
     ensures { λ r. ⌜ PrefixLength r (now (out .exit)) ⌝ }
 {
     match reply {
@@ -123,6 +125,31 @@ fn write_reply(
     }
 }
 
+// Explains the table and the first `n` bytes of the formula's text into places of the program's lengths.
+fn explain_head(
+    tablefile: &[u8],
+    head: &[u8; KEPT],
+    n: usize,
+    rows: &mut [u8],
+    edges: &mut [u8],
+) -> ExplainReply
+    requires { ⌜ n ≤ keptLength ⌝ }
+    ensures { λ r. ⌜ Replied (now (tablefile .entry)) (take n (now (head .entry))) r
+        (now (rows .entry)) (now (rows .exit)) (now (edges .entry)) (now (edges .exit)) ⌝ }
+{
+    let mut table = [0u8; TABLE_LENGTH];
+    let mut formula = [0u8; FORMULA_LENGTH];
+    let whole = &head[..];
+    explain(
+        tablefile,
+        &whole[..n],
+        &mut table,
+        &mut formula,
+        rows,
+        edges,
+    )
+}
+
 // Writes what the program writes at the start of `out`, and answers its length.
 pub fn explain_files(
     tablefile: &[u8],
@@ -133,20 +160,10 @@ pub fn explain_files(
     ensures { λ r. ⌜ TextWritten (filesText (now (tablefile .entry)) (now (head .entry)) scanned) (now (out .entry)) (now (out .exit)) r ⌝ }
     ensures { λ r. ⌜ PrefixLength r (now (out .exit)) ⌝ }
 {
-    let mut table = [0u8; TABLE_LENGTH];
-    let mut formula = [0u8; FORMULA_LENGTH];
     let mut rows = [0u8; ROWS_LENGTH];
     let mut edges = [0u8; EDGES_LENGTH];
     let length = text_length(scanned);
     let n = least(length, KEPT);
-    let whole = &head[..];
-    let reply = explain(
-        tablefile,
-        &whole[..n],
-        &mut table,
-        &mut formula,
-        &mut rows,
-        &mut edges,
-    );
+    let reply = explain_head(tablefile, head, n, &mut rows, &mut edges);
     write_reply(reply, length, &rows, &edges, out)
 }

@@ -1,4 +1,4 @@
-// The C interface: the number and the figure of each reply. explainer.h declares the functions.
+// The number and the figure of each reply, which the C interface hands out.
 ghost use mathlib.Core.Path.{_≡_};
 ghost use Rattle.table_text.specs.Replies.{tableReply};
 ghost use Rattle.formula_text.specs.Replies.{formulaReply};
@@ -6,7 +6,7 @@ ghost use Rattle.formula_check.specs.Inputs.{unpreparedNumber, unpreparedFigure
 ghost use Rattle.labelling.specs.Replies.{verdictReply};
 ghost use Rattle.building.specs.Replies.{buildReply};
 ghost use Rattle.words.specs.Replies.{wordReply};
-ghost use Rattle.replies.specs.Interface.{numberIn, figureIn, edgesIn};
+ghost use Rattle.replies.specs.Interface.{Says, edgesIn};
 use building::BuildReply;
 use formula_check::inputs::Unprepared;
 use formula_text::FormulaReply;
@@ -14,121 +14,77 @@ use labelling::VerdictReply;
 use table_text::TableReply;
 use words::WordReply;
 
-fn unprepared_number(why: Unprepared) -> u32
-    ensures { λ r. ⌜ r ≡ unpreparedNumber why ⌝ }
+// What is said of a reply: the number of a refusal, or 0; and the figure.
+pub struct Answer {
+    pub number: u32,
+    pub figure: u64,
+}
+
+fn numbered(number: u32, figure: usize) -> Answer
+    ensures { λ r. ⌜ (r .number ≡ number) × (r .figure ≡ figure) ⌝ }
+{
+    Answer {
+        number,
+        figure: figure as u64,
+    }
+}
+
+fn unprepared_answer(why: Unprepared) -> Answer
+    ensures { λ r. ⌜ (r .number ≡ unpreparedNumber why) × (r .figure ≡ unpreparedFigure why) ⌝ }
 {
     match why {
-        Unprepared::TableForeign => 10,
-        Unprepared::FormulaForeign => 10,
-        Unprepared::BufferShort(_) => 14,
+        Unprepared::TableForeign => numbered(10, 0),
+        Unprepared::FormulaForeign => numbered(10, 1),
+        Unprepared::BufferShort(needed) => numbered(14, needed),
     }
 }
 
-fn unprepared_figure(why: Unprepared) -> u64
-    ensures { λ r. ⌜ r ≡ unpreparedFigure why ⌝ }
-{
-    match why {
-        Unprepared::TableForeign => 0,
-        Unprepared::FormulaForeign => 1,
-        Unprepared::BufferShort(needed) => needed as u64,
-    }
-}
-
-pub fn table_number(reply: TableReply) -> u32
-    ensures { λ r. ⌜ r ≡ numberIn (tableReply reply) ⌝ }
+pub fn table_answer(reply: TableReply) -> Answer
+    ensures { λ r. ⌜ Says (λ _. 0) (tableReply reply) r ⌝ }
 {
     match reply {
-        TableReply::Accepted => 0,
-        TableReply::NotLaidOut(_) => 1,
-        TableReply::OutOfRange(_) => 2,
-        TableReply::NameRepeated(_) => 3,
-        TableReply::NotRising(_) => 4,
-        TableReply::BufferShort(_) => 14,
+        TableReply::Accepted => numbered(0, 0),
+        TableReply::NotLaidOut(line) => numbered(1, line),
+        TableReply::OutOfRange(line) => numbered(2, line),
+        TableReply::NameRepeated(line) => numbered(3, line),
+        TableReply::NotRising(line) => numbered(4, line),
+        TableReply::BufferShort(needed) => numbered(14, needed),
     }
 }
 
-pub fn table_figure(reply: TableReply) -> u64
-    ensures { λ r. ⌜ r ≡ figureIn (λ _. 0) (tableReply reply) ⌝ }
+pub fn formula_answer(reply: FormulaReply) -> Answer
+    ensures { λ r. ⌜ Says (λ _. 0) (formulaReply reply) r ⌝ }
 {
     match reply {
-        TableReply::Accepted => 0,
-        TableReply::NotLaidOut(line) => line as u64,
-        TableReply::OutOfRange(line) => line as u64,
-        TableReply::NameRepeated(line) => line as u64,
-        TableReply::NotRising(line) => line as u64,
-        TableReply::BufferShort(needed) => needed as u64,
+        FormulaReply::Accepted => numbered(0, 0),
+        FormulaReply::TableForeign => numbered(10, 0),
+        FormulaReply::TooLong(length) => numbered(5, length),
+        FormulaReply::NotGrammatical(longest) => numbered(6, longest),
+        FormulaReply::NameUnknown(offset) => numbered(7, offset),
+        FormulaReply::TooManyNodes(nodes) => numbered(8, nodes),
+        FormulaReply::NoClass(node) => numbered(9, node),
+        FormulaReply::BufferShort(needed) => numbered(14, needed),
     }
 }
 
-pub fn formula_number(reply: FormulaReply) -> u32
-    ensures { λ r. ⌜ r ≡ numberIn (formulaReply reply) ⌝ }
+pub fn verdict_answer(reply: VerdictReply) -> Answer
+    ensures { λ r. ⌜ Says (λ holds. holds) (verdictReply reply) r ⌝ }
 {
     match reply {
-        FormulaReply::Accepted => 0,
-        FormulaReply::TooLong(_) => 5,
-        FormulaReply::NotGrammatical(_) => 6,
-        FormulaReply::NameUnknown(_) => 7,
-        FormulaReply::TooManyNodes(_) => 8,
-        FormulaReply::NoClass(_) => 9,
-        FormulaReply::TableForeign => 10,
-        FormulaReply::BufferShort(_) => 14,
+        VerdictReply::Holds => numbered(0, 1),
+        VerdictReply::Fails => numbered(0, 0),
+        VerdictReply::Refused(why) => unprepared_answer(why),
     }
 }
 
-pub fn formula_figure(reply: FormulaReply) -> u64
-    ensures { λ r. ⌜ r ≡ figureIn (λ _. 0) (formulaReply reply) ⌝ }
+pub fn build_answer(reply: BuildReply) -> Answer
+    ensures { λ r. ⌜ Says (λ counts. counts .rows) (buildReply reply) r ⌝ }
 {
     match reply {
-        FormulaReply::Accepted => 0,
-        FormulaReply::TooLong(length) => length as u64,
-        FormulaReply::NotGrammatical(longest) => longest as u64,
-        FormulaReply::NameUnknown(offset) => offset as u64,
-        FormulaReply::TooManyNodes(nodes) => nodes as u64,
-        FormulaReply::NoClass(node) => node as u64,
-        FormulaReply::TableForeign => 0,
-        FormulaReply::BufferShort(needed) => needed as u64,
-    }
-}
-
-pub fn verdict_number(reply: VerdictReply) -> u32
-    ensures { λ r. ⌜ r ≡ numberIn (verdictReply reply) ⌝ }
-{
-    match reply {
-        VerdictReply::Holds => 0,
-        VerdictReply::Fails => 0,
-        VerdictReply::Refused(why) => unprepared_number(why),
-    }
-}
-
-pub fn verdict_figure(reply: VerdictReply) -> u64
-    ensures { λ r. ⌜ r ≡ figureIn (λ holds. holds) (verdictReply reply) ⌝ }
-{
-    match reply {
-        VerdictReply::Holds => 1,
-        VerdictReply::Fails => 0,
-        VerdictReply::Refused(why) => unprepared_figure(why),
-    }
-}
-
-pub fn build_number(reply: BuildReply) -> u32
-    ensures { λ r. ⌜ r ≡ numberIn (buildReply reply) ⌝ }
-{
-    match reply {
-        BuildReply::Built(_, _) => 0,
-        BuildReply::RowsShort(_) => 11,
-        BuildReply::EdgesShort(_) => 12,
-        BuildReply::Refused(why) => unprepared_number(why),
-    }
-}
-
-pub fn build_figure(reply: BuildReply) -> u64
-    ensures { λ r. ⌜ r ≡ figureIn (λ counts. counts .rows) (buildReply reply) ⌝ }
-{
-    match reply {
-        BuildReply::Built(rows, _) => rows as u64,
-        BuildReply::RowsShort(needed) => needed as u64,
-        BuildReply::EdgesShort(needed) => needed as u64,
-        BuildReply::Refused(why) => unprepared_figure(why),
+        BuildReply::Built(rows, _) => numbered(0, rows),
+        BuildReply::RowsShort(needed) => numbered(11, needed),
+        BuildReply::EdgesShort(needed) => numbered(12, needed),
+        BuildReply::Refused(why) => unprepared_answer(why),
     }
 }
 
@@ -144,24 +100,13 @@ pub fn build_edges(reply: BuildReply, before: u64) -> u64
     }
 }
 
-pub fn word_number(reply: WordReply) -> u32
-    ensures { λ r. ⌜ r ≡ numberIn (wordReply reply) ⌝ }
+pub fn word_answer(reply: WordReply) -> Answer
+    ensures { λ r. ⌜ Says (λ accepted. accepted) (wordReply reply) r ⌝ }
 {
     match reply {
-        WordReply::Accepted => 0,
-        WordReply::NotAccepted => 0,
-        WordReply::WordBad(_) => 13,
-        WordReply::Refused(why) => unprepared_number(why),
-    }
-}
-
-pub fn word_figure(reply: WordReply) -> u64
-    ensures { λ r. ⌜ r ≡ figureIn (λ accepted. accepted) (wordReply reply) ⌝ }
-{
-    match reply {
-        WordReply::Accepted => 1,
-        WordReply::NotAccepted => 0,
-        WordReply::WordBad(index) => index as u64,
-        WordReply::Refused(why) => unprepared_figure(why),
+        WordReply::Accepted => numbered(0, 1),
+        WordReply::NotAccepted => numbered(0, 0),
+        WordReply::WordBad(index) => numbered(13, index),
+        WordReply::Refused(why) => unprepared_answer(why),
     }
 }

@@ -20,8 +20,9 @@ use Rattle.explainer.specs.declared.ExplainReply.the-variants.{Refused}
 use Rattle.files.proofs.Replied.{written-counts}
 
 -- A refusal's line, by the test of its number.
-refusal-written : {reply : ExplainReply} {k g : ℕ} {b : Bool} {before out : List ℕ} {end : ℕ} (n : ℕ) (rows edges : List ℕ) → reply ≡ Refused k g → eqb k 5 ≡ b
-    → TextWritten (refusalLine k (cond b n g)) before out end → TextWritten (replyText (explainReply reply) n rows edges) before out end
+refusal-written : {reply : ExplainReply} {k g : ℕ} {b : Bool} {before out : List ℕ} {end : ℕ} (n : ℕ) (rows edges : List ℕ)
+    → reply ≡ Refused k g → eqb k 5 ≡ b → TextWritten (refusalLine k (cond b n g)) before out end
+    → TextWritten (replyText (explainReply reply) n rows edges) before out end
 refusal-written {k} {g} {before} {out} {end} n rows edges e d w =
     subst (λ (r : ExplainReply). TextWritten (replyText (explainReply r) n rows edges) before out end) (sym e)
     (subst (λ (b : Bool). TextWritten (refusalLine k (cond b n g)) before out end) (sym d) w)
@@ -49,7 +50,9 @@ returns c =
     let a = c .before .before .before .before .before .before .before .args in
     let call = c .write-listing in
     let known = c .before .before .before .before .before .reply .given in (
-      subst (λ (r : ExplainReply). TextWritten (replyText (explainReply r) (a .length) (a .rows .now) (a .edges .now)) (a .out .now) (call .last .1 .1 .1 .1 .1 .1 .0) (call .result)) (sym (known .1)) (call .ensures),
+      subst (λ (r : ExplainReply).
+          TextWritten (replyText (explainReply r) (a .length) (a .rows .now) (a .edges .now)) (a .out .now) (call .last .1 .1 .1 .1 .1 .1 .0) (call .result))
+          (sym (known .1)) (call .ensures),
       written-counts (call .ensures) (call .kept .1 .1 .1 .1 .1 .1 .0),
     )
 
