@@ -1,7 +1,7 @@
 // The scope's bench sheet and the lines of later requests, run: for each line the table's name and the formula, the listing or the refusal, and the answers for some words.
-pub mod asking;
-pub mod sheet;
-pub mod writing;
+mod asking;
+mod sheet;
+mod writing;
 
 fn main() {
     sheet::explained_on_m();
