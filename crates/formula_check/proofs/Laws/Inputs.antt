@@ -15,7 +15,7 @@ use Rattle.lts.specs.Steps.{Table, labels}
 use Rattle.lts.specs.Prepared.{tableIn, preparedTable}
 use Rattle.lts.specs.HoldsTable.{HoldsTable}
 use Rattle.lts.specs.Answers.{isSome}
-use Rattle.lts.proofs.Laws.Prepared.{prepared-in, prepared-of, prepared-holds}
+use Rattle.lts.proofs.Laws.Prepared.{is-some-of, prepared-in, prepared-of, prepared-holds}
 use Rattle.actl.specs.Formulas.{Formula}
 use Rattle.actl.specs.Prepared.{preparedFormula}
 use Rattle.actl.specs.HoldsFormula.{HoldsFormula}
@@ -87,14 +87,8 @@ module _ (table formula : List ℕ) where
       unless-again (leb tableLength (length table)) 14 tableLength _ _
       (unless-again (leb formulaLength (length formula)) 14 formulaLength _ _ (table-again next formula (preparedTable table))) e
 
-  pub unprepared-again : {A : Type 0} (next : Table → Formula → Reply A) (why : Unprepared) → unprepared why ≡ checked table formula
-      → unprepared why ≡ onPrepared table formula next
+  pub unprepared-again : {A : Type 0} (next : Table → Formula → Reply A) (why : Unprepared) → unprepared why ≡ checked table formula → unprepared why ≡ onPrepared table formula next
   unprepared-again next why e = sym (refused-again next (sym e))
-
-  -- By the answer that the check gave.
-  pub refused-by : {A : Type 0} (next : Table → Formula → Reply A) {r : Inputs} (why : Unprepared) → r ≡ Refused why
-      → inputsReply r ≡ checked table formula → unprepared why ≡ onPrepared table formula next
-  refused-by next why d e = unprepared-again next why (subst (λ r. inputsReply r ≡ checked table formula) d e)
 
   -- Where the check refuses nothing, the entry goes on with the table and the formula in the bytes.
   pub record Both : Type 0 where
@@ -119,9 +113,6 @@ module _ (table formula : List ℕ) where
         table-long = l .0;
         formula-long = l .1;
       }
-
-  pub both-by : {r : Inputs} → r ≡ Prepared → inputsReply r ≡ checked table formula → Both
-  both-by d e = both (subst (λ r. inputsReply r ≡ checked table formula) d e)
 
   pub goes-on : {A : Type 0} (next : Table → Formula → Reply A) (b : Both) (F : Formula) → preparedFormula (labels (tableIn table)) formula ≡ some F
       → onPrepared table formula next ≡ next (tableIn table) F
