@@ -11,8 +11,9 @@ use Rattle.lts.specs.Names.{findFrom}
 use Rattle.lts.specs.Reply.{Reply, accepted, refusal}
 use Rattle.actl.specs.Actions.{maskOf, labels}
 use Rattle.actl.specs.Formulas.{Formula, tru, not, or, ax, euThen, classOf, highestWithoutClass}
-use Rattle.actl.specs.Reading.{readFormula}
-use Rattle.actl.specs.Prepared.{formulaBytes, push, preparedFormula}
+use Rattle.actl.specs.inner.Reading.{readFormula}
+use Rattle.actl.specs.Prepared.{formulaBytes}
+use Rattle.actl.specs.inner.Prepared.{push, preparedFormula}
 
 abbrev overM : String → Reply Formula
 overM s = readFormula (ascii "req" ∷ ascii "ack" ∷ []) (ascii s)

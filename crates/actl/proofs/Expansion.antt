@@ -5,8 +5,11 @@ use mathlib.Core.Bool.{true, _&&_}
 use mathlib.Core.List.{List, [], _∷_, _++_, map, map-append, append-nil, nil≢cons, cons≢nil, head-eq-of-cons-eq, tail-eq-of-cons-eq, List·Memᴰ·head, List·Memᴰ·tail, List·Memᴰ·not-nil, List·Memᴰ·cases-cons}
 use mathlib.Core.Option.{Option, none, some}
 use Prim.Native.Nat.{ℕ, suc}
-use Rattle.lts.specs.Names.{Marks, lookup}
-use Rattle.actl.specs.Grammar.{Name, Set, operand, union, Operand, name, any, received, sent, except, group, Condition, dot, set, existential, universal, next, until, untilThen, reach, labelled, Disjunction, conjunction, or, Conjunction, term, and, Term, tru, not, modal, paren, gap, showH, showT, showF, fitsS, fitsH, fitsF, fitsA, fitsT, Text}
+use Rattle.lts.specs.Marks.{Marks}
+use Rattle.lts.specs.Names.{lookup}
+use Rattle.actl.specs.Grammar.{Name, Set, operand, union, Operand, name, any, received, sent, except, group, Condition, dot, set, existential, universal, next, until, untilThen, reach, labelled, Disjunction, conjunction, or, Conjunction, term, and, Term, tru, not, modal, paren, gap, showH, showT, showF}
+use Rattle.actl.specs.Marks.{fitsS, fitsH, fitsF, fitsA, fitsT}
+use Rattle.actl.specs.Grammatical.{Text}
 use Rattle.actl.specs.Base.{BaseHead, Base, BaseTerm, typedHead, typed, typedTerm, showB, showBT, fitsB, fitsBT, BaseText}
 use Rattle.actl.specs.WrittenOut.{writtenOut, writtenOutConjunction, writtenOutTerm}
 use Rattle.actl.specs.Mentions.{Mention, namesS, namesO, namesC, namesF, namesA, namesT, offset}

@@ -8,9 +8,10 @@ use native.Mathlib.Decide.{decLe}
 use native.Mathlib.Omega.{arith}
 use lib.ListN.{length, take, drop, length-append, take-append-drop}
 use lib.Seq.{take-append-seam, take-append-add, take-append-le}
-use Rattle.lts.specs.Names.{Marks, marked}
-use Rattle.actl.specs.Grammar.{Disjunction, showF, gap, Text, Viable, Longest}
-use Rattle.actl.specs.Reader.{InDisjunction, fTop, fParen, State, termAt, afterE, afterA, afterFirst, afterSecond, afterLabelled, afterNext, afterUntil, bracketAt, operandAt, afterDot, naming, afterSet, afterDisjunction, ReaderStep, go, stop, readByte, finish, finishDisjunction, proceed, run, start, read, Result, whole, refused}
+use Rattle.lts.specs.Marks.{Marks, marked}
+use Rattle.actl.specs.Grammar.{Disjunction, showF, gap}
+use Rattle.actl.specs.Grammatical.{Text, Viable, Longest}
+use Rattle.actl.specs.inner.Reader.{InDisjunction, fTop, fParen, State, termAt, afterE, afterA, afterFirst, afterSecond, afterLabelled, afterNext, afterUntil, bracketAt, operandAt, afterDot, naming, afterSet, afterDisjunction, ReaderStep, go, stop, readByte, finish, finishDisjunction, proceed, run, start, read, Result, whole, refused}
 use Rattle.actl.proofs.Sound.{shown, Reads, goes, stops, step-reads, completes}
 use Rattle.actl.proofs.Complete.{formula-read}
 use Rattle.actl.proofs.Marks.{formula-fits}

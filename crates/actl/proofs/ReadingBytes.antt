@@ -6,7 +6,7 @@ use native.Mathlib.Nat.{add-zero}
 use native.Mathlib.Omega.{arith}
 use lib.ListN.{length, take, drop, set, length-append, take-append-drop}
 use lib.Seq.{length-take-le, take-at, drop-append-add, drop-drop}
-use Rattle.columns.specs.Write.{pasted}
+use Rattle.columns.specs.inner.Write.{pasted}
 use Rattle.columns.proofs.Laws.Pasting.{pasted-length, set-pasted}
 use Rattle.columns.specs.Bytes.{lowFirst}
 use Rattle.actl.specs.Prepared.{slot, slotBytes}

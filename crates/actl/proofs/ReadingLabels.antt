@@ -18,8 +18,8 @@ use Rattle.actl.specs.Grammar.{Disjunction, name, showF}
 use Rattle.actl.specs.Meaning.{labelNumber, labelsOf}
 use Rattle.actl.specs.Mentions.{Mention}
 use Rattle.actl.specs.Reading.{unknownAt, firstUnknown}
-use Rattle.actl.specs.Cursor.{Named}
-use Rattle.actl.specs.Readers.{unknownIn, earlier, OperandRead}
+use Rattle.actl.specs.inner.Cursor.{Named}
+use Rattle.actl.specs.inner.Readers.{unknownIn, earlier, OperandRead}
 use Rattle.actl.proofs.ReadingMasks.{mask-any, mask-none, mask-label}
 
 -- The first name that the table lacks.

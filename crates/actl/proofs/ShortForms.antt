@@ -8,7 +8,7 @@ use Rattle.lts.specs.Names.{findFrom}
 use Rattle.lts.specs.Reply.{Reply, accepted, refusal}
 use Rattle.actl.specs.Actions.{maskOf, silent, labels}
 use Rattle.actl.specs.Formulas.{Formula, tru, not, or, ex, ax, eu, classOf, highestWithoutClass}
-use Rattle.actl.specs.Reading.{readFormula}
+use Rattle.actl.specs.inner.Reading.{readFormula}
 
 abbrev overM : String → Reply Formula
 overM s = readFormula (ascii "req" ∷ ascii "ack" ∷ []) (ascii s)

@@ -5,9 +5,10 @@ use mathlib.Core.List.{List, [], _∷_, _++_, append-assoc}
 use Prim.Native.Nat.{ℕ, zero, suc}
 use lib.Dec.{eqb}
 use borrow.Author.Tests.{eqb-true}
-use Rattle.lts.specs.Names.{isName, Plain}
+use Rattle.lts.specs.Names.{isName}
+use Rattle.lts.specs.Directions.{Plain}
 use Rattle.actl.specs.Grammar.{Name, Set, operand, union, Operand, name, any, received, sent, except, group, Condition, dot, set, Quantifier, existential, universal, Head, next, until, untilThen, reach, labelled, Disjunction, conjunction, or, Conjunction, term, and, Term, tru, not, modal, paren, gap, showS, showO, showC, showQ, showR, showL, showH, showF, showA, showT}
-use Rattle.actl.specs.Reader.{InDisjunction, fTop, fParen, InTerm, tFirst, tOr, tAnd, tNot, tModal, InSet, sParen, sNext, sUntil, sThen, sLabelled, InOperand, oFirst, oOr, oNot, State, termAt, afterE, afterA, afterFirst, afterSecond, afterLabelled, afterNext, afterUntil, bracketAt, operandAt, afterDot, naming, afterSet, afterDisjunction, ReaderStep, go, stop, on, andLast, plugT, plugO, blankF, blankT, blankS, blankO, termStep, named, operandStep, closeStep, setStep, leaveO, parenStep, second, third, readByte, finish, finishDisjunction, proceed, run, start, read, Result, whole, refused}
+use Rattle.actl.specs.inner.Reader.{InDisjunction, fTop, fParen, InTerm, tFirst, tOr, tAnd, tNot, tModal, InSet, sParen, sNext, sUntil, sThen, sLabelled, InOperand, oFirst, oOr, oNot, State, termAt, afterE, afterA, afterFirst, afterSecond, afterLabelled, afterNext, afterUntil, bracketAt, operandAt, afterDot, naming, afterSet, afterDisjunction, ReaderStep, go, stop, on, andLast, plugT, plugO, blankF, blankT, blankS, blankO, termStep, named, operandStep, closeStep, setStep, leaveO, parenStep, second, third, readByte, finish, finishDisjunction, proceed, run, start, read, Result, whole, refused}
 
 abbrev mutual
   pub preF : InDisjunction → List ℕ → List ℕ

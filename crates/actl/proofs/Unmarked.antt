@@ -6,12 +6,15 @@ use mathlib.Core.List.{List, [], _∷_, _++_}
 use Prim.Native.Nat.{ℕ, zero, suc}
 use lib.ListN.{length, take}
 use Rattle.lts.specs.Reply.{Reply}
-use Rattle.lts.specs.Names.{Marks, unmarked, marked, Plain}
+use Rattle.lts.specs.Marks.{Marks, unmarked, marked}
+use Rattle.lts.specs.Directions.{Plain}
 use Rattle.lts.proofs.Lists.{and-true-to}
 use Rattle.lts.proofs.Laws.Unmarked.{plain-behind, plain-append, plain-take, plain-stem}
 use Rattle.actl.specs.Formulas.{Formula}
-use Rattle.actl.specs.Grammar.{Name, Set, operand, union, Operand, name, any, received, sent, except, group, Condition, dot, set, Quantifier, existential, universal, Head, next, until, untilThen, reach, labelled, Disjunction, conjunction, or, Conjunction, term, and, Term, tru, not, modal, paren, gap, showS, showO, showC, showQ, showR, showL, showH, showF, showA, showT, fitsS, fitsO, fitsC, fitsH, fitsF, fitsA, fitsT, Text, Grammatical, Viable, Longest}
-use Rattle.actl.specs.Reader.{State, ReaderStep, go, stop, readByte, proceed, run, start, whole, refused}
+use Rattle.actl.specs.Grammar.{Name, Set, operand, union, Operand, name, any, received, sent, except, group, Condition, dot, set, Quantifier, existential, universal, Head, next, until, untilThen, reach, labelled, Disjunction, conjunction, or, Conjunction, term, and, Term, tru, not, modal, paren, gap, showS, showO, showC, showQ, showR, showL, showH, showF, showA, showT}
+use Rattle.actl.specs.Marks.{fitsS, fitsO, fitsC, fitsH, fitsF, fitsA, fitsT}
+use Rattle.actl.specs.Grammatical.{Text, Grammatical, Viable, Longest}
+use Rattle.actl.specs.inner.Reader.{State, ReaderStep, go, stop, readByte, proceed, run, start, whole, refused}
 use Rattle.actl.specs.ByGrammar.{ReadBy, long, ungrammatical, grammatical}
 use Rattle.actl.proofs.Sound.{shown, Reads, goes, stops, step-reads, completes}
 use Rattle.actl.proofs.Marks.{formula-fits}

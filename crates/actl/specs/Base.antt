@@ -4,8 +4,9 @@ use mathlib.Core.Path.{_≡_}
 use mathlib.Core.Bool.{Bool, true, _&&_}
 use mathlib.Core.List.{List, [], _∷_}
 use Prim.Native.Nat.{ℕ}
-use Rattle.lts.specs.Names.{Marks}
-use Rattle.actl.specs.Grammar.{Set, Condition, Quantifier, Head, Disjunction, Conjunction, Term, gap, showH, fitsH}
+use Rattle.lts.specs.Marks.{Marks}
+use Rattle.actl.specs.Grammar.{Set, Condition, Quantifier, Head, Disjunction, Conjunction, Term, gap, showH}
+use Rattle.actl.specs.Marks.{fitsH}
 
 -- 01: "a keyword with its square bracket"
 pub data BaseHead : Type 0 where

@@ -7,9 +7,10 @@ use lib.ListN.{length}
 use Rattle.actl.specs.Sizes.{longestText}
 use Rattle.lts.specs.Reply.{Reply, refusal, leftIn, answers}
 use Rattle.lts.specs.Steps.{Table}
-use Rattle.lts.specs.Names.{Marks, marked}
+use Rattle.lts.specs.Marks.{Marks, marked}
 use Rattle.actl.specs.Formulas.{Formula}
-use Rattle.actl.specs.Grammar.{Disjunction, Text, Grammatical, Longest}
+use Rattle.actl.specs.Grammar.{Disjunction}
+use Rattle.actl.specs.Grammatical.{Text, Grammatical, Longest}
 use Rattle.actl.specs.Reading.{onTree}
 use Rattle.actl.specs.Prepared.{formulaBytes}
 use Rattle.actl.specs.FormulaReading.{onTable}

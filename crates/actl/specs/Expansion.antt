@@ -4,9 +4,11 @@ use mathlib.Core.List.{List, [], _∷_, _++_, List·Memᴰ}
 use mathlib.Core.Option.{none, some}
 use Prim.Native.Nat.{ℕ}
 use lib.ListN.{length}
-use Rattle.lts.specs.Names.{Marks, lookup}
+use Rattle.lts.specs.Marks.{Marks}
+use Rattle.lts.specs.Names.{lookup}
 use Rattle.lts.specs.Reply.{refusal}
-use Rattle.actl.specs.Grammar.{Disjunction, Text}
+use Rattle.actl.specs.Grammar.{Disjunction}
+use Rattle.actl.specs.Grammatical.{Text}
 use Rattle.actl.specs.Base.{typed, showB, BaseText}
 use Rattle.actl.specs.WrittenOut.{writtenOut}
 use Rattle.actl.specs.Mentions.{Mention, namesF, offset}

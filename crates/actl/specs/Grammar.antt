@@ -1,11 +1,10 @@
 -- 01, "The formula as text", with 02's marks and short forms: trees that keep their blanks and brackets, and the text of each. `showX x s` is
 -- x's text with s behind it. WrittenOut.antt says what the short forms stand for.
 use mathlib.Core.Path.{_≡_}
-use mathlib.Core.Bool.{Bool, true, false, _&&_}
-use mathlib.Core.List.{List, [], _∷_, _++_}
-use Prim.Native.Nat.{ℕ, zero, suc, _≤_}
-use lib.ListN.{length, take}
-use Rattle.lts.specs.Names.{Marks, unmarked, marked, isNameWith, isName}
+use mathlib.Core.Bool.{true}
+use mathlib.Core.List.{List, _∷_, _++_}
+use Prim.Native.Nat.{ℕ, zero, suc}
+use Rattle.lts.specs.Names.{isName}
 
 pub record Name : Type 0 where
   pub bytes : List ℕ
@@ -115,65 +114,3 @@ abbrev mutual
   showT (not a t) s = 126 ∷ gap a (showT t s)
   showT (modal h a t) s = showH h (gap a (showT t s))
   showT (paren a f b) s = 40 ∷ gap a (showF f (gap b (41 ∷ s)))
-
--- Whether a tree is one of the grammar with marks (02), which every tree is, or of the one without (01).
-abbrev pub allows : Marks → Bool
-allows unmarked = false
-allows marked = true
-
-abbrev mutual
-  pub fitsS : Marks → Set → Bool
-  fitsS m (operand o) = fitsO m o
-  fitsS m (union x a b o) = fitsS m x && fitsO m o
-
-  pub fitsO : Marks → Operand → Bool
-  fitsO m (name n) = isNameWith m (n .bytes)
-  fitsO m any = true
-  fitsO m received = allows m
-  fitsO m sent = allows m
-  fitsO m (except a o) = fitsO m o
-  fitsO m (group a x b) = fitsS m x
-
-abbrev pub fitsC : Marks → Condition → Bool
-fitsC m dot = true
-fitsC m (set x) = fitsS m x
-
-abbrev pub fitsH : Marks → Head → Bool
-fitsH m (next q a b c d) = fitsC m c
-fitsH m (until a b x d) = fitsS m x
-fitsH m (untilThen a b x c d y e) = fitsS m x && fitsS m y
-fitsH m (reach q) = true
-fitsH m (labelled q a b x d) = fitsS m x
-
-abbrev mutual
-  pub fitsF : Marks → Disjunction → Bool
-  fitsF m (conjunction c) = fitsA m c
-  fitsF m (or f a b c) = fitsF m f && fitsA m c
-
-  pub fitsA : Marks → Conjunction → Bool
-  fitsA m (term t) = fitsT m t
-  fitsA m (and c a b t) = fitsA m c && fitsT m t
-
-  pub fitsT : Marks → Term → Bool
-  fitsT m tru = true
-  fitsT m (not a t) = fitsT m t
-  fitsT m (modal h a t) = fitsH m h && fitsT m t
-  fitsT m (paren a f b) = fitsF m f
-
--- f is the tree of the text s.
-pub record Text (m : Marks) (s : List ℕ) (f : Disjunction) : Type 0 where
-  pub fits : fitsF m f ≡ true
-  pub shows : showF f [] ≡ s
-
-abbrev pub Grammatical : Marks → List ℕ → Type 0
-Grammatical m s = (f : Disjunction) × Text m s f
-
--- A beginning that some grammatical text, of any length, has.
-abbrev pub Viable : Marks → List ℕ → Type 0
-Viable m p = (rest : List ℕ) × Grammatical m (p ++ rest)
-
--- 01: "length of the longest beginning that some grammatical text, of any length, has"
-pub record Longest (m : Marks) (s : List ℕ) (n : ℕ) : Type 0 where
-  pub within : n ≤ length s
-  pub begins : Viable m (take n s)
-  pub most : (k : ℕ) → k ≤ length s → Viable m (take k s) → k ≤ n

@@ -7,8 +7,7 @@ use Rattle.lts.specs.Names.{lookup}
 use Rattle.lts.specs.Directions.{Direction, labelDirection}
 use Rattle.actl.specs.Actions.{Action, Mask, maskOf, Cond, silent, labels}
 use Rattle.actl.specs.Formulas.{Formula}
-use Rattle.actl.specs.Grammar.{Name, Set, operand, union, Operand, name, any, received, sent, except, group, Condition, dot, set, Quantifier, existential, universal, Disjunction, Conjunction, Term}
-use Rattle.actl.specs.WrittenOut.{writtenOut, writtenOutConjunction, writtenOutTerm}
+use Rattle.actl.specs.Grammar.{Set, operand, union, Operand, name, any, received, sent, except, group, Condition, dot, set, Quantifier, existential, universal}
 use Rattle.actl.specs.Base.{BaseHead, next, until, untilThen, Base, term, or, BaseTerm, tru, not, modal, paren}
 
 -- A label's number; 0, which satisfies no set, stands for a name that the table lacks.
@@ -59,13 +58,3 @@ abbrev mutual
   formulaOfTerm names (not a t) = Formula.not (formulaOfTerm names t)
   formulaOfTerm names (modal h a t) = modalOf names h (formulaOfTerm names t)
   formulaOfTerm names (paren a f b) = formulaOf names f
-
--- Of a line, and of its parts.
-abbrev pub formulaF : List (List ℕ) → Disjunction → Formula
-formulaF N f = formulaOf N (writtenOut f)
-
-abbrev pub formulaA : List (List ℕ) → Conjunction → Formula
-formulaA N c = formulaOfTerm N (writtenOutConjunction c)
-
-abbrev pub formulaT : List (List ℕ) → Term → Formula
-formulaT N t = formulaOfTerm N (writtenOutTerm t)

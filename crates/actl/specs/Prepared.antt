@@ -1,14 +1,13 @@
 -- The prepared bytes of a formula (docs/FORMATS.md), and which bytes are "the one form".
 use mathlib.Core.Path.{_≡_}
-use mathlib.Core.Bool.{Bool, true, false, cond, not as negate, _&&_}
-use mathlib.Core.List.{List, [], _∷_, _++_, map, List·Memᴰ}
-use mathlib.Core.Option.{Option, none, some}
-use Prim.Native.Nat.{ℕ, zero, suc, _+_, _*_, _^_, _%_, _≤_, _<_}
-use lib.Dec.{leb, ltb, eqb}
-use lib.ListN.{length, getD, take, drop}
+use mathlib.Core.Bool.{Bool, true, _&&_}
+use mathlib.Core.List.{List, _∷_, _++_, List·Memᴰ}
+use Prim.Native.Nat.{ℕ, suc, _*_, _^_, _%_, _≤_}
+use lib.Dec.{ltb, eqb}
+use lib.ListN.{take}
 use Rattle.actl.specs.Sizes.{mostNodes, nodeSlotLength, formulaLength}
-use Rattle.columns.specs.Bytes.{sameBytes, padded, lowFirst}
-use Rattle.lts.specs.Lists.{upFrom, bind, every}
+use Rattle.columns.specs.Bytes.{padded, lowFirst}
+use Rattle.lts.specs.Lists.{bind}
 use Rattle.actl.specs.Actions.{Mask, Cond, silent, labels}
 use Rattle.actl.specs.Formulas.{Formula, tru, not, or, ex, ax, eu, euThen, size, nodes, classOf}
 
@@ -57,58 +56,3 @@ pub record IsForm (n : ℕ) (b : List ℕ) (F : Formula) : Type 0 where
 -- Over a table of n labels, the bytes are the form of some formula.
 abbrev pub FormOfSome : ℕ → List ℕ → Type 0
 FormOfSome n b = (F : Formula) × IsForm n b F
-
--- The formula in bytes. Preorder is Polish notation: the slots from the last to the first, over a stack of trees.
-abbrev pub number : ℕ → List ℕ → ℕ
-number zero b = 0
-number (suc n) b = getD b 0 0 + number n (drop 1 b) * 256
-
-abbrev pub slotAt : List ℕ → ℕ → Slot
-slotAt b k = slot (getD b (1 + k * nodeSlotLength) 0) (number 8 (drop (2 + k * nodeSlotLength) b)) (number 8 (drop (10 + k * nodeSlotLength) b))
-
-abbrev pub one : (Formula → Formula) → List Formula → Option (List Formula)
-one node [] = none
-one node (f ∷ l) = some (node f ∷ l)
-
-abbrev pub two : (Formula → Formula → Formula) → List Formula → Option (List Formula)
-two node [] = none
-two node (f ∷ []) = none
-two node (f ∷ g ∷ l) = some (node f g ∷ l)
-
-abbrev pub chosen : ℕ → ℕ → Option (List Formula) → Option (List Formula) → Option (List Formula)
-chosen kind k this other = cond (eqb kind k) this other
-
-unfoldable pub push : Slot → List Formula → Option (List Formula)
-push s l =
-    let k = s .kind in
-    chosen k 1 (some (tru ∷ l)) (
-    chosen k 2 (one not l) (
-    chosen k 3 (two or l) (
-    chosen k 4 (one (ex silent) l) (
-    chosen k 5 (one (ex (labels (s .first))) l) (
-    chosen k 6 (one (ax silent) l) (
-    chosen k 7 (one (ax (labels (s .first))) l) (
-    chosen k 8 (one (eu (s .first)) l) (
-    chosen k 9 (one (euThen (s .first) (s .second)) l) none))))))))
-
-abbrev pub pushOn : Slot → Option (List Formula) → Option (List Formula)
-pushOn s none = none
-pushOn s (some l) = push s l
-
-abbrev pub treesIn : List Slot → Option (List Formula)
-treesIn [] = some []
-treesIn (s ∷ l) = pushOn s (treesIn l)
-
--- The same as `IsForm`, as a test.
-abbrev pub isForm : ℕ → List ℕ → Formula → Bool
-isForm n b F = sameBytes (take formulaLength b) (formulaBytes F) && leb (size F) mostNodes && every (λ f. negate (eqb (classOf f) 0)) (nodes F) && every (λ f. slotWithin n (slotOf f)) (nodes F)
-
-abbrev pub formed : ℕ → List ℕ → Option (List Formula) → Option Formula
-formed n b none = none
-formed n b (some []) = none
-formed n b (some (F ∷ [])) = cond (isForm n b F) (some F) none
-formed n b (some (F ∷ G ∷ l)) = none
-
--- The prepared formula in bytes, over a table of n labels.
-unfoldable pub preparedFormula : ℕ → List ℕ → Option Formula
-preparedFormula n b = formed n b (treesIn (map (slotAt b) (upFrom 0 (getD b 0 0))))

@@ -1,6 +1,5 @@
 -- 01's limits of a formula, and the lengths of docs/FORMATS.md that follow from them. src/sizes.rt has the same numbers for code.
-use Prim.Native.Nat.{ℕ, suc, _+_, _*_}
-use Rattle.lts.specs.Sizes.{mostStates}
+use Prim.Native.Nat.{ℕ, suc, _*_}
 
 -- 01: "At most 512 bytes"; "there are at most 40" nodes
 abbrev pub longestText : ℕ
@@ -15,7 +14,3 @@ nodeSlotLength = 17
 
 abbrev pub formulaLength : ℕ
 formulaLength = suc (mostNodes * nodeSlotLength)
-
--- Every node at every state.
-abbrev pub nodePositions : ℕ
-nodePositions = mostNodes * mostStates

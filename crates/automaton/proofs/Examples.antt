@@ -5,14 +5,16 @@ use mathlib.Core.List.{List, [], _∷_}
 use Prim.Native.Nat.{ℕ}
 use native.Mathlib.Omega.{arith}
 use Rattle.columns.specs.Ascii.{ascii}
-use Rattle.lts.specs.Steps.{Step, Table, silent, stepsFrom}
+use Rattle.lts.specs.Steps.{Step, Table, silent}
+use Rattle.lts.specs.inner.Steps.{stepsFrom}
 use Rattle.lts.proofs.Examples.{M, step}
 use Rattle.actl.specs.Actions.{silent as silentStep, labels, inSet, meets, passes}
 use Rattle.actl.specs.Formulas.{Formula, tru, or, ex, eu, euThen, classOf}
-use Rattle.satisfaction.specs.Holds.{holds, within}
-use Rattle.automaton.specs.Listing.{finalOf, final, leadsOf, leads, targets, canFinish, numberOf, movesToAmong, movesOnAmong, movesFromAmong, visit, visits, expandAmong, searchAmong, positionsAmong, movesUptoAmong, Row, Edge, Listing, listing}
-use Rattle.automaton.specs.DeadEnds.{wholeListing, dropDeadEnds, rowFinishes}
-use Rattle.automaton.specs.Words.{acceptsFrom, accepts}
+use Rattle.satisfaction.specs.inner.Holds.{holds, within}
+use Rattle.automaton.specs.inner.Search.{finalOf, final, leadsOf, leads, targets, canFinish, numberOf, movesToAmong, movesOnAmong, movesFromAmong, visit, visits, expandAmong, searchAmong, positionsAmong, movesUptoAmong, listing}
+use Rattle.automaton.specs.Listing.{Row, Edge, Listing}
+use Rattle.automaton.specs.inner.DeadEnds.{wholeListing, dropDeadEnds, rowFinishes}
+use Rattle.automaton.specs.inner.Words.{acceptsFrom, accepts}
 use Rattle.automaton.specs.AcceptsBytes.{AcceptsBytes}
 
 -- One state with loops a, b, c (labels 1, 2, 3).

@@ -14,13 +14,13 @@ use Rattle.actl.specs.Formulas.{Formula, tru, size, classOf, At, root}
 use Rattle.actl.proofs.Subformulas.{at-node, node-at, node-past}
 use Rattle.actl.proofs.Classes.{class-types, HasClass, class-of-node}
 use Rattle.satisfaction.specs.Satisfaction.{Sat}
-use Rattle.satisfaction.specs.Holds.{holds}
+use Rattle.satisfaction.specs.inner.Holds.{holds}
 use Rattle.satisfaction.proofs.Satisfaction.{holds-is-satisfaction}
 use Rattle.automaton.specs.Paths.{IsPath, wordOf}
 use Rattle.automaton.specs.Witnesses.{Witness, Counterexample}
 use Rattle.automaton.specs.Places.{FreeMoves, stay, Final, Leads}
 use Rattle.automaton.specs.Positions.{Position, at, rootAt, Joins, Walk, stop, go, CanFinish}
-use Rattle.automaton.specs.Listing.{nodeAt, explains, canFinish}
+use Rattle.automaton.specs.inner.Search.{nodeAt, explains, canFinish}
 use Rattle.automaton.proofs.Acceptance.{Accepting, halt, move, shown-is-accepting, broken-is-accepting}
 use Rattle.automaton.proofs.PathWords.{words-of-witnesses, words-of-counterexamples}
 use Rattle.automaton.proofs.States.{States, states-agree, is-false}

@@ -8,12 +8,13 @@ use native.Mathlib.Decide.{decLt}
 use native.Mathlib.Omega.{arith}
 use lib.ListN.{length, length-append}
 use Rattle.lts.specs.Steps.{Table}
-use Rattle.lts.specs.Range.{InRange}
+use Rattle.lts.specs.inner.Range.{InRange}
 use Rattle.lts.proofs.Lists.{map-append}
 use Rattle.actl.specs.Formulas.{Formula, size}
 use Rattle.automaton.specs.Positions.{Position, rootAt}
-use Rattle.automaton.specs.Listing.{numberOf, Move, positionAt, movesFromAmong, movesUptoAmong, expandAmong, searchAmong, positionsAmong, Row, Edge, Listing, rowOf, edgeOf}
-use Rattle.automaton.specs.DeadEnds.{anyPosition, allPositions, listed, wholeListing, foundAfter, listedAfter}
+use Rattle.automaton.specs.inner.Search.{numberOf, Move, positionAt, movesFromAmong, movesUptoAmong, expandAmong, searchAmong, positionsAmong, rowOf, edgeOf}
+use Rattle.automaton.specs.Listing.{Row, Edge, Listing}
+use Rattle.automaton.specs.inner.DeadEnds.{anyPosition, allPositions, listed, wholeListing, foundAfter, listedAfter}
 use Rattle.automaton.proofs.Kept.{map-same}
 use Rattle.automaton.proofs.Numbers.{number-append, number-mem}
 use Rattle.automaton.proofs.Inside.{room}

@@ -8,15 +8,15 @@ use native.Mathlib.Decide.{decLt}
 use native.Mathlib.Omega.{arith}
 use lib.ListN.{length, take}
 use lib.Seq.{take-append-le}
-use Rattle.lts.specs.Lists.{consIf, keep}
+use Rattle.lts.specs.inner.Lists.{consIf, keep}
 use Rattle.lts.specs.Steps.{Table}
-use Rattle.lts.specs.Range.{InRange}
+use Rattle.lts.specs.inner.Range.{InRange}
 use Rattle.lts.proofs.Lists.{getD-mem}
 use Rattle.actl.specs.Formulas.{Formula, size}
 use Rattle.actl.proofs.Classes.{HasClass}
 use Rattle.automaton.specs.Positions.{Position, at, rootAt, Joins}
-use Rattle.automaton.specs.Listing.{canFinish, positionAt, visits, movesFromAmong, expandAmong, searchAmong, positionsAmong, positions}
-use Rattle.automaton.specs.DeadEnds.{anyPosition, allPositions}
+use Rattle.automaton.specs.inner.Search.{canFinish, positionAt, visits, movesFromAmong, expandAmong, searchAmong, positionsAmong, positions}
+use Rattle.automaton.specs.inner.DeadEnds.{anyPosition, allPositions}
 use Rattle.automaton.proofs.Tests.{leads-inside}
 use Rattle.automaton.proofs.Kept.{keep-none, keep-few, before, before-all, before-passed, before-failed, before-at, before-inside}
 use Rattle.automaton.proofs.Finishing.{step-finishes, canFinish-is}

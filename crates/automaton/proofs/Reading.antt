@@ -7,8 +7,9 @@ use Prim.Native.Nat.{ℕ, _<_, _≤_}
 use native.Mathlib.Omega.{arith}
 use borrow.Author.Tests.{eqb-true, eq-eqb}
 use Rattle.lts.specs.Lists.{anyOf}
-use Rattle.lts.specs.Steps.{Step, Table, IsStep, stepsFrom}
-use Rattle.lts.specs.Range.{InRange}
+use Rattle.lts.specs.Steps.{Step, Table, IsStep}
+use Rattle.lts.specs.inner.Steps.{stepsFrom}
+use Rattle.lts.specs.inner.Range.{InRange}
 use Rattle.lts.proofs.Lists.{and-true-of, and-true-to, some-of, some-to}
 use Rattle.lts.proofs.StepsFrom.{steps-are}
 use Rattle.actl.specs.Formulas.{Formula, size, classOf}
@@ -16,9 +17,10 @@ use Rattle.actl.proofs.Classes.{HasClass}
 use Rattle.automaton.specs.Witnesses.{Witness, Counterexample}
 use Rattle.automaton.specs.Places.{Final}
 use Rattle.automaton.specs.Positions.{Position, at, rootAt, Joins, Reached, begin, onward, Walk, stop, go, CanFinish}
-use Rattle.automaton.specs.Listing.{Edge, Listing, listing, final, targets, onLabel}
+use Rattle.automaton.specs.Listing.{Edge, Listing}
+use Rattle.automaton.specs.inner.Search.{listing, final, targets, onLabel}
 use Rattle.automaton.specs.Listed.{rowAt, placed, IsRow, Listed}
-use Rattle.automaton.specs.Words.{Reads, ends, reads, Accepts, acceptsFrom, accepts}
+use Rattle.automaton.specs.inner.Words.{Reads, ends, reads, Accepts, acceptsFrom, accepts}
 use Rattle.automaton.proofs.PathWords.{WordOf, words-of-witnesses, words-of-counterexamples}
 use Rattle.automaton.proofs.Tests.{final-is, targets-of, targets-to, leads-inside}
 use Rattle.automaton.proofs.Finishing.{step-finishes}

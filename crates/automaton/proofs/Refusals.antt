@@ -11,10 +11,11 @@ use Rattle.actl.specs.Foreign.{RefusesForeign}
 use Rattle.actl.specs.Reading.{unlessFound}
 use Rattle.actl.proofs.Laws.Refusals.{numbered-found}
 use Rattle.actl.proofs.Laws.Foreign.{NotTen, refuses-foreign, answers-refuse-foreign}
-use Rattle.automaton.specs.Listing.{Listing, listing}
+use Rattle.automaton.specs.Listing.{Listing}
+use Rattle.automaton.specs.inner.Search.{listing}
 use Rattle.automaton.specs.Bytes.{rowLength, edgeLength, bitOf}
 use Rattle.automaton.specs.Build.{fitted, built, counts, buildReplied}
-use Rattle.automaton.specs.Words.{accepts}
+use Rattle.automaton.specs.inner.Words.{accepts}
 use Rattle.automaton.specs.WordAsked.{badLetter, wordReplied}
 
 pub fitted-numbers : (L : Listing) (rows edges : List ℕ) → Numbered (Between 11 12) (fitted L rows edges)

@@ -6,12 +6,13 @@ use Prim.Native.Nat.{ℕ, _<_}
 use lib.ListN.{length}
 use Rattle.lts.specs.Lists.{Rising}
 use Rattle.lts.specs.Steps.{Table}
-use Rattle.lts.specs.Range.{InRange}
+use Rattle.lts.specs.inner.Range.{InRange}
 use Rattle.lts.proofs.Lists.{map-of, map-to, map-rising, getD-mem}
 use Rattle.actl.specs.Formulas.{Formula}
 use Rattle.actl.proofs.Classes.{HasClass}
 use Rattle.automaton.specs.Positions.{Position, at, rootAt, Joins, Reached, begin, onward, CanFinish}
-use Rattle.automaton.specs.Listing.{canFinish, numberOf, Move, positionAt, movesUpto, Edge, edgeOf}
+use Rattle.automaton.specs.inner.Search.{canFinish, numberOf, Move, positionAt, movesUpto, edgeOf}
+use Rattle.automaton.specs.Listing.{Edge}
 use Rattle.automaton.specs.Listed.{PositionBelow}
 use Rattle.automaton.proofs.Tests.{leads-inside}
 use Rattle.automaton.proofs.Finishing.{step-finishes, canFinish-is}

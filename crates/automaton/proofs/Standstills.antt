@@ -6,18 +6,20 @@ use mathlib.Core.List.{List, [], _∷_, List·Memᴰ, List·Memᴰ·not-nil, Lis
 use mathlib.Core.Option.{none, some}
 use Prim.Native.Nat.{ℕ, _<_}
 use native.Mathlib.Omega.{arith}
-use Rattle.lts.specs.Steps.{Step, Table, idleLabel, silent, Exitless, stepsFrom}
-use Rattle.lts.specs.Range.{InRange}
+use Rattle.lts.specs.Steps.{Step, Table, silent, Exitless}
+use Rattle.lts.specs.Idle.{idleLabel}
+use Rattle.lts.specs.inner.Steps.{stepsFrom}
+use Rattle.lts.specs.inner.Range.{InRange}
 use Rattle.lts.proofs.StepsFrom.{idle-exactly}
 use Rattle.lts.proofs.Examples.{M, resting}
 use Rattle.actl.specs.Actions.{Cond, silent as silentStep, labels, inSet, meets, passes}
 use Rattle.actl.specs.Formulas.{Formula, tru, ex, eu, classOf}
-use Rattle.satisfaction.specs.Holds.{holds, within}
+use Rattle.satisfaction.specs.inner.Holds.{holds, within}
 use Rattle.automaton.specs.Paths.{IsPath, wordOf}
 use Rattle.automaton.specs.Explains.{Explains}
-use Rattle.automaton.specs.Listing.{finalOf, final, leadsOf, leads, targets, canFinish, numberOf, movesToAmong, movesOnAmong, movesFromAmong, visit, visits, expandAmong, searchAmong, positionsAmong, movesUptoAmong, listing}
+use Rattle.automaton.specs.inner.Search.{finalOf, final, leadsOf, leads, targets, canFinish, numberOf, movesToAmong, movesOnAmong, movesFromAmong, visit, visits, expandAmong, searchAmong, positionsAmong, movesUptoAmong, listing}
 use Rattle.automaton.specs.WordAsked.{badLetter}
-use Rattle.automaton.specs.Words.{acceptsFrom, accepts}
+use Rattle.automaton.specs.inner.Words.{acceptsFrom, accepts}
 use Rattle.automaton.proofs.Inside.{step-stays}
 use Rattle.automaton.proofs.Examples.{loops, either, row, edge}
 

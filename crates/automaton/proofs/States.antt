@@ -5,14 +5,15 @@ use mathlib.Core.Bool.{Bool, true, false, true≢false, false≢true, not as neg
 use mathlib.Core.List.{List, [], _∷_, List·Memᴰ, List·Memᴰ·head, List·Memᴰ·tail}
 use Prim.Native.Nat.{ℕ}
 use lib.ListN.{length}
-use Rattle.lts.specs.Lists.{every}
-use Rattle.lts.specs.Steps.{Step, Table, stepsFrom}
+use Rattle.lts.specs.inner.Lists.{every}
+use Rattle.lts.specs.Steps.{Step, Table}
+use Rattle.lts.specs.inner.Steps.{stepsFrom}
 use Rattle.lts.proofs.Lists.{or-true-of, or-true-left, or-true-right, not-true, not-false}
 use Rattle.lts.proofs.StepsFrom.{From, steps-are}
 use Rattle.actl.specs.Actions.{Mask, inSet, Cond, meets, passes}
 use Rattle.actl.specs.Formulas.{Formula, tru, not, or, ex, ax, eu, euThen, isT}
 use Rattle.actl.proofs.Classes.{Witnessable, Refutable, arm-refutable}
-use Rattle.satisfaction.specs.Holds.{within, enters, holds}
+use Rattle.satisfaction.specs.inner.Holds.{within, enters, holds}
 use Rattle.satisfaction.proofs.Leads.{within-is-leads}
 use Rattle.satisfaction.proofs.Leads as by
 use Rattle.satisfaction.proofs.Satisfaction.{some-step, every-step}

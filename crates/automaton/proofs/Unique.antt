@@ -11,13 +11,14 @@ use lib.ListN.{length, getD, length-append, length-map, List·getD-append}
 use lib.Seq.{getD-append-seam}
 use borrow.Author.Tests.{ltb-true}
 use Rattle.lts.specs.Steps.{Table}
-use Rattle.lts.specs.Range.{InRange}
+use Rattle.lts.specs.inner.Range.{InRange}
 use Rattle.lts.proofs.Lists.{getD-mem, mem-index, map-of, map-append, rising-unique}
 use Rattle.actl.specs.Formulas.{Formula, size}
 use Rattle.actl.proofs.Classes.{HasClass}
 use Rattle.automaton.specs.Places.{Final}
 use Rattle.automaton.specs.Positions.{Position, at, rootAt, Reached, begin, onward, Entered, stop, CanFinish}
-use Rattle.automaton.specs.Listing.{canFinish, numberOf, seen, final, Move, movesFrom, positionAt, visit, visits, expandAmong, searchAmong, positionsAmong, expand, search, positions, movesUpto, Row, Edge, Listing, rowOf, edgeOf, listing}
+use Rattle.automaton.specs.inner.Search.{canFinish, numberOf, seen, final, Move, movesFrom, positionAt, visit, visits, expandAmong, searchAmong, positionsAmong, expand, search, positions, movesUpto, rowOf, edgeOf, listing}
+use Rattle.automaton.specs.Listing.{Row, Edge, Listing}
 use Rattle.automaton.specs.Listed.{rowAt, placed, IsRow, Listed}
 use Rattle.automaton.proofs.Tests.{final-is}
 use Rattle.automaton.proofs.Kept.{same-flag}

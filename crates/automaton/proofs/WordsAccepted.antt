@@ -7,7 +7,7 @@ use Prim.Native.Nat.{ℕ, _≤_}
 use native.Mathlib.Omega.{arith}
 use Rattle.lts.specs.Reply.{Reply, accepted, refusal}
 use Rattle.lts.specs.Steps.{Table, labels}
-use Rattle.lts.specs.Range.{InRange}
+use Rattle.lts.specs.inner.Range.{InRange}
 use Rattle.lts.proofs.Lists.{getD-mem, mem-index}
 use Rattle.actl.specs.Formulas.{Formula, size}
 use Rattle.actl.specs.Reading.{unlessFound}
@@ -16,9 +16,10 @@ use Rattle.actl.proofs.Laws.Prepared as prepared-formula
 use Rattle.actl.proofs.Laws.Replies.{refusal-is-not-accepted, on-prepared-accepted}
 use Rattle.satisfaction.specs.VerdictAsked.{TellsWhether}
 use Rattle.satisfaction.proofs.Verdicts.{flag-tells}
-use Rattle.automaton.specs.Listing.{Edge, Listing, listing}
+use Rattle.automaton.specs.Listing.{Edge, Listing}
+use Rattle.automaton.specs.inner.Search.{listing}
 use Rattle.automaton.specs.Listed.{rowAt, IsRow}
-use Rattle.automaton.specs.Words.{Reads, ends, reads, Accepts, accepts}
+use Rattle.automaton.specs.inner.Words.{Reads, ends, reads, Accepts, accepts}
 use Rattle.automaton.specs.Bytes.{bitOf, rowsBytes, edgesBytes}
 use Rattle.automaton.specs.Build.{counts}
 use Rattle.automaton.specs.Explains.{Explains}

@@ -1,7 +1,6 @@
 pub mod AcceptsBytes
 pub mod Build
 pub mod Bytes
-pub mod DeadEnds
 pub mod Explains
 pub mod Listed
 pub mod Listing
@@ -11,4 +10,4 @@ pub mod Positions
 pub mod Sizes
 pub mod Witnesses
 pub mod WordAsked
-pub mod Words
+pub mod inner

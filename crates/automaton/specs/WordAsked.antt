@@ -6,13 +6,14 @@ use Prim.Native.Nat.{ℕ, zero, suc}
 use lib.Dec.{eqb, ltb}
 use Rattle.automaton.specs.Sizes.{longestWord}
 use Rattle.lts.specs.Reply.{Reply, accepted, refusal}
-use Rattle.lts.specs.Steps.{labels, idleLabel}
+use Rattle.lts.specs.Steps.{labels}
+use Rattle.lts.specs.Idle.{idleLabel}
 use Rattle.actl.specs.Reading.{unlessFound}
 use Rattle.actl.specs.FormulaReading.{onPrepared}
 use Rattle.actl.specs.InPrepared.{InPrepared}
 use Rattle.satisfaction.specs.VerdictAsked.{TellsWhether}
 use Rattle.automaton.specs.Explains.{Explains}
-use Rattle.automaton.specs.Words.{accepts}
+use Rattle.automaton.specs.inner.Words.{accepts}
 use Rattle.automaton.specs.Bytes.{bitOf}
 
 -- 01: "a word's label above the label count". 02: "A word may hold 99, which 13 no longer refuses."

@@ -1,2 +1,2 @@
-pub mod LaidOut
 pub mod Replies
+pub mod inner

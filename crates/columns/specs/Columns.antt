@@ -1,6 +1,5 @@
 -- 01: "Every number is decimal, right-justified with blanks in 6 columns, without leading zeros."
--- 01, of listings: "All in 6 columns; a number of more digits takes as many columns as it has."
-use mathlib.Core.Bool.{Bool, cond}
+use mathlib.Core.Bool.{cond}
 use mathlib.Core.List.{List, [], _∷_, _++_}
 use Prim.Native.Nat.{ℕ, zero, suc, _+_, _-_, _*_, _/_, _%_}
 use lib.Dec.{ltb}
@@ -29,8 +28,3 @@ valueFrom n (b ∷ l) = valueFrom (n * 10 + (b - 48)) l
 -- The number that the six columns from place i of a line would hold.
 abbrev pub valueAt : ℕ → List ℕ → ℕ
 valueAt i l = valueFrom 0 (take 6 (drop i l))
-
--- A line of numbers, with its LF.
-abbrev pub numbersLine : List ℕ → List ℕ
-numbersLine [] = 10 ∷ []
-numbersLine (n ∷ l) = column n ++ numbersLine l

@@ -1,5 +1,5 @@
 pub mod Ascii
 pub mod Bytes
 pub mod Columns
-pub mod Read
-pub mod Write
+pub mod Lines
+pub mod inner

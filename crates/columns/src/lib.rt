@@ -6,7 +6,7 @@ ghost use Prim.Native.Nat.{_+_, _-_, _<_, _≤_};
 ghost use lib.ListN.{length, take, drop};
 ghost use Rattle.columns.specs.Bytes.{sameBytes};
 ghost use Rattle.columns.specs.Columns.{column, valueAt};
-ghost use Rattle.columns.specs.Read.{columnAt, lead};
+ghost use Rattle.columns.specs.inner.Read.{columnAt, lead};
 
 // What six columns hold: a number, if they are its column.
 pub enum Column {

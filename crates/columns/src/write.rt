@@ -2,8 +2,9 @@
 ghost use mathlib.Core.Path.{_≡_};
 ghost use Prim.Native.Nat.{_+_, _≤_};
 ghost use lib.ListN.{length, take};
-ghost use Rattle.columns.specs.Columns.{column, numbersLine};
-ghost use Rattle.columns.specs.Write.{Spread, pasted};
+ghost use Rattle.columns.specs.Columns.{column};
+ghost use Rattle.columns.specs.Lines.{numbersLine};
+ghost use Rattle.columns.specs.inner.Write.{Spread, pasted};
 
 // A number's column: the bytes from `from` on.
 struct Figures {

@@ -13,7 +13,8 @@ use Rattle.lts.specs.Sizes.{tableLength}
 use Rattle.lts.specs.Reply.{Reply, accepted, refusal, unless, overwritten, leftIn, answers}
 use Rattle.lts.specs.Steps.{Table, labels}
 use Rattle.lts.specs.Reading.{readTable}
-use Rattle.lts.specs.Prepared.{tableBytes, preparedTable}
+use Rattle.lts.specs.Prepared.{tableBytes}
+use Rattle.lts.specs.inner.Prepared.{preparedTable}
 use Rattle.table_text.specs.Replies as lts
 use Rattle.lts.specs.TableReading.{tableReading, tableReplied, tableLeft}
 use Rattle.table_text.specs.declared.TableReply.{TableReply}
@@ -21,7 +22,7 @@ use Rattle.table_text.specs.declared.TableReply.the-variants as tables
 use Rattle.lts.proofs.Laws.TableBytes.{table-bytes-length}
 use Rattle.lts.proofs.Laws.Texts.{text-of-read}
 use Rattle.actl.specs.Formulas.{Formula, size}
-use Rattle.actl.specs.Reading.{readFormula}
+use Rattle.actl.specs.inner.Reading.{readFormula}
 use Rattle.actl.specs.Prepared.{formulaBytes}
 use Rattle.formula_text.specs.Replies as actl
 use Rattle.actl.specs.FormulaReading.{withTable, formulaReading, formulaReplied, formulaLeft}
@@ -31,8 +32,8 @@ use Rattle.actl.proofs.Laws.Forms.{length-form}
 use Rattle.replies.specs.Interface.{numberIn, Says}
 use Rattle.replies.specs.declared.Answer.{Answer}
 use Rattle.explanations.specs.Explanation.{andThen}
-use Rattle.explainer.specs.Readings.{ReadBoth}
-use Rattle.explanations.specs.BothTexts.{Read, readings}
+use Rattle.explainer.specs.inner.Readings.{ReadBoth}
+use Rattle.explanations.specs.inner.BothTexts.{Read, readings}
 use Rattle.explainer.specs.declared.readings.BothRead.the-variants.{Ready, Refused}
 use Rattle.explanations.proofs.Readings.{reading-leaves-table, reading-leaves-formula}
 use Rattle.explainer.proofs.Answers.{refused-so}

@@ -15,11 +15,12 @@ use Rattle.actl.specs.Prepared.{formulaBytes}
 use Rattle.formula_check.specs.Inputs.{unpreparedNumber}
 use Rattle.formula_check.specs.declared.inputs.Unprepared.{Unprepared}
 use Rattle.formula_check.specs.declared.inputs.Unprepared.the-variants.{TableForeign, FormulaForeign, BufferShort}
-use Rattle.satisfaction.specs.Holds as holds
+use Rattle.satisfaction.specs.inner.Holds as holds
 use Rattle.satisfaction.specs.VerdictAsked.{verdictReplied}
 use Rattle.labelling.specs.Replies.{verdictReply}
 use Rattle.labelling.specs.declared.VerdictReply.{VerdictReply}
-use Rattle.automaton.specs.Listing.{Listing, listing}
+use Rattle.automaton.specs.Listing.{Listing}
+use Rattle.automaton.specs.inner.Search.{listing}
 use Rattle.automaton.specs.Bytes.{rowsBytes, edgesBytes}
 use Rattle.building.specs.Replies.{buildReply}
 use Rattle.automaton.specs.Build.{fitted, built, counts, buildReplied, rowsLeft, edgesLeft}
@@ -28,8 +29,8 @@ use Rattle.building.specs.declared.BuildReply.the-variants as replies
 use Rattle.replies.specs.Interface.{edgesIn, Says}
 use Rattle.replies.specs.declared.Answer.{Answer}
 use Rattle.explanations.specs.Explanation.{Explanation}
-use Rattle.explainer.specs.Readings.{Outcome}
-use Rattle.explanations.specs.BothTexts.{Read, HoldsBoth, listingOf, ClassIn}
+use Rattle.explainer.specs.Outcome.{Outcome}
+use Rattle.explanations.specs.inner.BothTexts.{Read, HoldsBoth, listingOf, ClassIn}
 use Rattle.explainer.specs.declared.ExplainReply.the-variants.{Explained, Refused}
 use Rattle.explainer.proofs.Answers.{said-of, kept-of}
 use Rattle.explainer.proofs.Explaining.{Prepared, on-prepared}

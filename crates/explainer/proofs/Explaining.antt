@@ -11,20 +11,22 @@ use Rattle.lts.specs.Sizes.{tableLength}
 use Rattle.lts.specs.Reply.{Reply, accepted, refusal}
 use Rattle.lts.specs.Steps.{Table, labels}
 use Rattle.lts.specs.Reading.{readTable}
-use Rattle.lts.specs.Prepared.{tableBytes, preparedTable}
+use Rattle.lts.specs.Prepared.{tableBytes}
+use Rattle.lts.specs.inner.Prepared.{preparedTable}
 use Rattle.lts.proofs.Laws.TableBytes.{table-bytes-length}
 use Rattle.lts.proofs.Laws.Texts.{text-of-read}
 use Rattle.lts.proofs.Laws.Prepared as tables
 use Rattle.actl.specs.Formulas.{Formula}
-use Rattle.actl.specs.Reading.{readFormula}
-use Rattle.actl.specs.Prepared.{formulaBytes, IsForm, preparedFormula}
+use Rattle.actl.specs.inner.Reading.{readFormula}
+use Rattle.actl.specs.Prepared.{formulaBytes, IsForm}
+use Rattle.actl.specs.inner.Prepared.{preparedFormula}
 use Rattle.actl.specs.FormulaReading.{onPrepared}
 use Rattle.actl.proofs.Laws.Forms.{length-form}
 use Rattle.actl.proofs.Laws.Replies.{on-prepared-goes}
 use Rattle.actl.proofs.Laws.Prepared as formulas
 use Rattle.actl.proofs.Laws.Accepted.{reading-leaves-form}
 use Rattle.explanations.specs.Explanation.{Explanation, andThen, explanation}
-use Rattle.explanations.specs.BothTexts.{Read, readings, listingOf}
+use Rattle.explanations.specs.inner.BothTexts.{Read, readings, listingOf}
 
 abbrev both : Table → Formula → Read
 both t F = record { table = t; formula = F }

@@ -4,11 +4,12 @@ use mathlib.Core.List.{List}
 use Prim.Native.Nat.{ℕ}
 use Rattle.lts.specs.Reply.{Reply, accepted, refusal}
 use Rattle.lts.specs.Steps.{labels}
-use Rattle.lts.specs.Prepared.{preparedTable}
-use Rattle.actl.specs.Prepared.{preparedFormula}
+use Rattle.lts.specs.inner.Prepared.{preparedTable}
+use Rattle.actl.specs.inner.Prepared.{preparedFormula}
 use Rattle.explanations.specs.Explanation.{Explanation, andThen, explanation}
-use Rattle.explanations.specs.BothTexts.{Read, readings, HoldsBoth, listingOf}
-use Rattle.explainer.specs.Readings.{ReadBoth, Outcome}
+use Rattle.explanations.specs.inner.BothTexts.{Read, readings, HoldsBoth, listingOf}
+use Rattle.explainer.specs.inner.Readings.{ReadBoth}
+use Rattle.explainer.specs.Outcome.{Outcome}
 use Rattle.explainer.specs.declared.ExplainReply.{ExplainReply}
 use Rattle.explainer.specs.declared.ExplainReply.the-variants as replies
 use Rattle.explainer.specs.declared.readings.BothRead.{BothRead}

@@ -10,9 +10,9 @@ use borrow.Author.Tests.{le-leb, lt-leb}
 use Rattle.actl.specs.Sizes.{formulaLength}
 use Rattle.lts.specs.Sizes.{tableLength}
 use Rattle.lts.specs.Reply.{Reply, refusal, unless}
-use Rattle.explanations.specs.Demands.{FromTexts}
+use Rattle.explanations.specs.InOneCall.{FromTexts}
 use Rattle.explanations.specs.Explanation.{Explanation, summary, explainReplied, tableExplained, formulaExplained, explanation, explaining}
-use Rattle.explainer.specs.Readings.{Outcome}
+use Rattle.explainer.specs.Outcome.{Outcome}
 use Rattle.explainer.specs.Promise.{Promise}
 use Rattle.explainer.specs.declared.ExplainReply.{ExplainReply}
 use Rattle.explainer.specs.declared.ExplainReply.the-variants as replies

@@ -8,7 +8,7 @@ use Rattle.replies.specs.declared.Answer.{Answer}
 use Rattle.explainer.specs.Interface.{Returned}
 use Rattle.explainer.specs.Promise.{Promise}
 use Rattle.explainer.specs.Replies.{explainReply}
-use Rattle.explainer.specs.Values.{ValuesLeft}
+use Rattle.explainer.specs.inner.Values.{ValuesLeft}
 use Rattle.explainer.specs.declared.ExplainReply.{ExplainReply}
 use Rattle.explainer.specs.declared.explained.Values.{Values}
 use Rattle.explainer.proofs.Answers.{said-of, kept-of}

@@ -1,5 +1,5 @@
 pub mod Interface
+pub mod Outcome
 pub mod Promise
-pub mod Readings
 pub mod Replies
-pub mod Values
+pub mod inner

@@ -4,12 +4,12 @@ use mathlib.Core.Path.{_≡_}
 use mathlib.Core.List.{List}
 use Prim.Native.Nat.{ℕ}
 use Rattle.lts.specs.Reply.{refusal}
-use Rattle.lts.specs.Names.{marked}
-use Rattle.actl.specs.Grammar.{Grammatical, Longest}
-use Rattle.explanations.specs.Demands.{FromTexts}
+use Rattle.lts.specs.Marks.{marked}
+use Rattle.actl.specs.Grammatical.{Grammatical, Longest}
+use Rattle.explanations.specs.InOneCall.{FromTexts}
 use Rattle.explanations.specs.Explanation.{explaining}
 use Rattle.explainer.specs.Replies.{explainReply}
-use Rattle.explainer.specs.Readings.{Outcome}
+use Rattle.explainer.specs.Outcome.{Outcome}
 use Rattle.explainer.specs.declared.ExplainReply.{ExplainReply}
 
 -- The texts; what is lent, before and after; the reply.

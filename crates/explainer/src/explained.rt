@@ -1,7 +1,7 @@
 // The C interface: what is returned and written of what `explain` answers.
 ghost use Rattle.replies.specs.Interface.{Says};
 ghost use Rattle.explainer.specs.Replies.{explainReply};
-ghost use Rattle.explainer.specs.Values.{ValuesLeft};
+ghost use Rattle.explainer.specs.inner.Values.{ValuesLeft};
 use crate::ExplainReply;
 use replies::Answer;
 

@@ -7,7 +7,7 @@ ghost use Rattle.actl.specs.Sizes.{formulaLength};
 ghost use Rattle.lts.specs.Sizes.{tableLength};
 ghost use Rattle.explanations.specs.Explanation.{explanation};
 ghost use Rattle.explainer.specs.Promise.{Promise};
-ghost use Rattle.explainer.specs.Readings.{Outcome};
+ghost use Rattle.explainer.specs.Outcome.{Outcome};
 pub use crate::exports::explainer_accepts;
 pub use crate::exports::explainer_build;
 pub use crate::exports::explainer_explain;

@@ -8,22 +8,23 @@ use lib.Dec.{eqb, leb}
 use lib.ListN.{length, take, length-take}
 use lib.Seq.{take-all}
 use borrow.Author.Tests.{leb-true, leb-false, lt-leb, ne-eqb}
-use Rattle.explanations.specs.Sizes.{keptLength}
-use Rattle.lts.specs.Sizes.{enoughTableText}
+use Rattle.explanations.specs.inner.Sizes.{keptLength}
+use Rattle.lts.specs.inner.Sizes.{enoughTableText}
 use Rattle.lts.specs.Reply.{Reply, accepted, refusal, unless, answers}
 use Rattle.lts.specs.Steps.{Table}
 use Rattle.lts.specs.Reading.{readTable}
 use Rattle.lts.proofs.Laws.Bounded.{reading-bounded}
 use Rattle.lts.proofs.Laws.Refusals.{Numbered, Between, numbered-answers, numbered-so, table-numbers}
 use Rattle.actl.specs.Formulas.{Formula}
-use Rattle.actl.specs.Reader.{Result, read}
-use Rattle.actl.specs.Reading.{onResult, readFormula}
+use Rattle.actl.specs.inner.Reader.{Result, read}
+use Rattle.actl.specs.inner.Reading.{onResult, readFormula}
 use Rattle.actl.proofs.Laws.Refusals.{result-numbers}
-use Rattle.automaton.specs.Listing.{Listing, listing}
+use Rattle.automaton.specs.Listing.{Listing}
+use Rattle.automaton.specs.inner.Search.{listing}
 use Rattle.automaton.specs.Build.{fitted}
 use Rattle.automaton.proofs.Refusals.{fitted-numbers}
 use Rattle.explanations.specs.Explanation.{Explanation, andThen, explanation}
-use Rattle.explanations.specs.Printed.{withLength}
+use Rattle.explanations.specs.inner.Printed.{withLength}
 
 -- Replies that are no refusal 5.
 abbrev NotLength : ℕ → Type 0

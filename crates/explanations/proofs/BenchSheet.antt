@@ -10,25 +10,28 @@ use lib.Dec.{eqb}
 use lib.ListN.{length}
 use borrow.Author.Tests.{eqb-true}
 use Rattle.columns.specs.Columns.{column, digitsWithin}
-use Rattle.lts.specs.Lists.{every}
+use Rattle.lts.specs.inner.Lists.{every}
 use Rattle.lts.specs.Names.{findFrom}
 use Rattle.lts.specs.Reply.{Reply, accepted, refusal}
-use Rattle.lts.specs.Range.{InRange}
-use Rattle.lts.specs.Steps.{Table, silent, stepsFrom}
-use Rattle.lts.specs.Reading.{readTable, readTableWith, readLabels, readLabelsWith, readTransitions}
+use Rattle.lts.specs.inner.Range.{InRange}
+use Rattle.lts.specs.Steps.{Table, silent}
+use Rattle.lts.specs.inner.Steps.{stepsFrom}
+use Rattle.lts.specs.Reading.{readTable, readTableWith, readLabelsWith, readTransitions}
+use Rattle.lts.specs.inner.Reading.{readLabels}
 use Rattle.lts.proofs.Lists.{and-true-of, or-true-of, every-of}
 use Rattle.lts.proofs.Laws.Texts.{text-of-read}
 use Rattle.actl.specs.Actions.{inSet, maskOf, meets, passes}
 use Rattle.actl.specs.Formulas.{Formula, classOf, highestWithoutClass}
-use Rattle.actl.specs.Reading.{readFormula}
-use Rattle.satisfaction.specs.Holds.{holds, within}
+use Rattle.actl.specs.inner.Reading.{readFormula}
+use Rattle.satisfaction.specs.inner.Holds.{holds, within}
 use Rattle.satisfaction.specs.Satisfaction.{Sat}
 use Rattle.satisfaction.proofs.Satisfaction.{holds-is-satisfaction}
 use Rattle.automaton.specs.Positions.{Position, rootAt, Walk}
 use Rattle.automaton.specs.Explains.{Explains}
-use Rattle.automaton.specs.Listing.{finalOf, final, leadsOf, leads, targets, canFinish, numberOf, samePosition, movesToAmong, movesOnAmong, movesFromAmong, visit, visits, expandAmong, searchAmong, positionsAmong, movesUptoAmong, Listing, listing}
+use Rattle.automaton.specs.inner.Search.{finalOf, final, leadsOf, leads, targets, canFinish, numberOf, samePosition, movesToAmong, movesOnAmong, movesFromAmong, visit, visits, expandAmong, searchAmong, positionsAmong, movesUptoAmong, listing}
+use Rattle.automaton.specs.Listing.{Listing}
 use Rattle.automaton.specs.Listed.{placed}
-use Rattle.automaton.specs.Words.{Accepts}
+use Rattle.automaton.specs.inner.Words.{Accepts}
 use Rattle.automaton.proofs.Explains.{explains-is-walk}
 use Rattle.automaton.proofs.Reading.{listing-words}
 use Rattle.explanations.specs.BenchSheet.{Language, Member, Answer, Expected, refused, explained, SheetLine, LastRow, IsAnswer, Meets, IsRight, starred}

@@ -9,28 +9,33 @@ use Rattle.lts.specs.Sizes.{tableLength}
 use Rattle.actl.specs.Sizes.{formulaLength}
 use Rattle.lts.specs.Reply.{Reply, accepted, refusal, overwritten, leftIn, answers}
 use Rattle.lts.specs.Steps.{Table, labels}
-use Rattle.lts.specs.Range.{InRange}
+use Rattle.lts.specs.inner.Range.{InRange}
 use Rattle.lts.specs.Reading.{readTable}
-use Rattle.lts.specs.Prepared.{tableBytes, preparedTable}
+use Rattle.lts.specs.Prepared.{tableBytes}
+use Rattle.lts.specs.inner.Prepared.{preparedTable}
 use Rattle.lts.specs.TableReading.{tableReplied, tableLeft}
 use Rattle.lts.proofs.Laws.Texts.{text-of-read}
 use Rattle.actl.specs.Formulas.{Formula}
-use Rattle.actl.specs.Reading.{readFormula}
-use Rattle.actl.specs.Prepared.{formulaBytes, preparedFormula, IsForm}
+use Rattle.actl.specs.inner.Reading.{readFormula}
+use Rattle.actl.specs.Prepared.{formulaBytes, IsForm}
+use Rattle.actl.specs.inner.Prepared.{preparedFormula}
 use Rattle.actl.specs.FormulaReading.{formulaReplied, formulaLeft}
 use Rattle.actl.proofs.Laws.Prepared as prepared-formula
-use Rattle.automaton.specs.Listing.{Listing, listing}
+use Rattle.automaton.specs.Listing.{Listing}
+use Rattle.automaton.specs.inner.Search.{listing}
 use Rattle.automaton.specs.Bytes.{rowLength, edgeLength, rowsBytes, edgesBytes}
 use Rattle.automaton.specs.Build.{Counts, counts, fitted, built, buildReplied, rowsLeft, edgesLeft}
 use Rattle.automaton.specs.Explains.{Explains}
 use Rattle.automaton.specs.WordAsked.{wordReplied, WordAnswered}
 use Rattle.actl.proofs.Laws.Replies.{refusal-is-not-accepted, accepted-lengths, long-enough-accepted, on-prepared-accepted, on-prepared-goes, in-prepared}
-use Rattle.satisfaction.specs.Holds.{verdict}
+use Rattle.satisfaction.specs.inner.Holds.{verdict}
 use Rattle.satisfaction.specs.VerdictAsked.{verdictReplied, TellsWhether}
 use Rattle.satisfaction.proofs.Verdicts.{verdict-is}
 use Rattle.automaton.proofs.Accepted.{prepared-in-range, formed-has-class, fitted-accepted}
 use Rattle.automaton.proofs.WordsAccepted.{listing-accepts, word-answered}
-use Rattle.explanations.specs.Demands.{WordsAccepted, RunsTraced, StandstillsSeen, WordRead, Explained, FromTexts, FromCalls, FromPrepared}
+use Rattle.explanations.specs.Demands.{WordsAccepted, RunsTraced, WordRead, Explained, FromCalls, FromPrepared}
+use Rattle.explanations.specs.Standstills.{StandstillsSeen}
+use Rattle.explanations.specs.InOneCall.{FromTexts}
 use Rattle.explanations.specs.Explanation as explain
 use Rattle.explanations.proofs.Readings.{table-prepared, table-long, formula-form, formula-prepared, formula-long, reading-leaves-table, reading-leaves-formula}
 use Rattle.explanations.proofs.Traced.{listing-traces, listing-stands-still}

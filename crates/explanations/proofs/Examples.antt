@@ -7,17 +7,19 @@ use Rattle.columns.specs.Ascii.{ascii}
 use Rattle.columns.specs.Columns.{column, digitsWithin}
 use Rattle.lts.specs.Sizes.{tableLength}
 use Rattle.lts.specs.Names.{findFrom}
-use Rattle.lts.specs.Steps.{silent, stepsFrom}
+use Rattle.lts.specs.Steps.{silent}
+use Rattle.lts.specs.inner.Steps.{stepsFrom}
 use Rattle.lts.specs.Text.{ended}
-use Rattle.lts.specs.Reading.{readTable, readTableWith, readLabels, readLabelsWith, readTransitions}
+use Rattle.lts.specs.Reading.{readTable, readTableWith, readLabelsWith, readTransitions}
+use Rattle.lts.specs.inner.Reading.{readLabels}
 use Rattle.lts.proofs.Examples.{lines, M-lines}
 use Rattle.actl.specs.Sizes.{formulaLength}
 use Rattle.actl.specs.Actions.{inSet, maskOf, meets, passes}
 use Rattle.actl.specs.Formulas.{classOf, highestWithoutClass}
-use Rattle.actl.specs.Reading.{readFormula}
-use Rattle.satisfaction.specs.Holds.{holds, within}
+use Rattle.actl.specs.inner.Reading.{readFormula}
+use Rattle.satisfaction.specs.inner.Holds.{holds, within}
 use Rattle.automaton.specs.Bytes.{rowLength, edgeLength}
-use Rattle.automaton.specs.Listing.{finalOf, final, leadsOf, leads, targets, canFinish, numberOf, movesToAmong, movesOnAmong, movesFromAmong, visit, visits, expandAmong, searchAmong, positionsAmong, movesUptoAmong, listing}
+use Rattle.automaton.specs.inner.Search.{finalOf, final, leadsOf, leads, targets, canFinish, numberOf, movesToAmong, movesOnAmong, movesFromAmong, visit, visits, expandAmong, searchAmong, positionsAmong, movesUptoAmong, listing}
 use Rattle.explanations.specs.Printed.{printed, explainText}
 
 -- 01's listing for `EU[*;ack] T` over table M, number for number.

@@ -8,17 +8,18 @@ use lib.Dec.{leb}
 use lib.ListN.{length}
 use Rattle.lts.specs.Sizes.{tableLength}
 use Rattle.lts.specs.Reply.{Reply, accepted, refusal, unless, answers}
-use Rattle.lts.specs.Names.{marked}
+use Rattle.lts.specs.Marks.{marked}
 use Rattle.lts.specs.Steps.{Table}
 use Rattle.lts.specs.Reading.{readTable}
 use Rattle.actl.specs.Sizes.{longestText, formulaLength}
 use Rattle.actl.specs.Formulas.{Formula}
-use Rattle.actl.specs.Grammar.{Disjunction, Text}
-use Rattle.actl.specs.Reading.{readUnlimited, readFormula}
+use Rattle.actl.specs.Grammar.{Disjunction}
+use Rattle.actl.specs.Grammatical.{Text}
+use Rattle.actl.specs.inner.Reading.{readUnlimited, readFormula}
 use Rattle.actl.specs.Expansion.{expansion}
 use Rattle.actl.specs.FormulaReading.{longEnough}
 use Rattle.actl.proofs.Laws.Expanded.{read-as-expanded}
-use Rattle.automaton.specs.Listing.{listing}
+use Rattle.automaton.specs.inner.Search.{listing}
 use Rattle.automaton.specs.Build.{fitted}
 use Rattle.explanations.specs.Explanation.{Explanation, andThen, explanation, explaining}
 use Rattle.explanations.specs.Expanded.{explainingUnlimited}

@@ -12,11 +12,12 @@ use Rattle.lts.specs.Reading.{readTable}
 use Rattle.lts.proofs.Laws.Refusals.{Between, numbered-of, numbered-answers, same-refusal, unless-refused, table-numbers}
 use Rattle.actl.specs.Sizes.{formulaLength}
 use Rattle.actl.specs.Formulas.{Formula}
-use Rattle.lts.specs.Names.{marked}
-use Rattle.actl.specs.Grammar.{Grammatical, Longest}
-use Rattle.actl.specs.Reading.{readFormula}
+use Rattle.lts.specs.Marks.{marked}
+use Rattle.actl.specs.Grammatical.{Grammatical, Longest}
+use Rattle.actl.specs.inner.Reading.{readFormula}
 use Rattle.actl.proofs.Laws.ByGrammar.{reading-longest}
-use Rattle.automaton.specs.Listing.{Listing, listing}
+use Rattle.automaton.specs.Listing.{Listing}
+use Rattle.automaton.specs.inner.Search.{listing}
 use Rattle.automaton.specs.Build.{fitted}
 use Rattle.automaton.proofs.Refusals.{fitted-numbers}
 use Rattle.explanations.specs.Explanation.{Explanation, andThen, explanation, explaining}

@@ -9,11 +9,12 @@ use lib.Dec.{eqb, ltb}
 use lib.ListN.{length, replicate}
 use borrow.Author.Tests.{eqb-true, ltb-true, eq-eqb, lt-ltb}
 use Rattle.columns.specs.Bytes.{sameBytes}
-use Rattle.lts.specs.Lists.{consIf, keep, anyOf, every, bind}
+use Rattle.lts.specs.inner.Lists.{consIf, keep, every}
+use Rattle.lts.specs.Lists.{anyOf, bind}
 use Rattle.lts.proofs.Lists.{and-true-of, and-true-to, or-true-of, or-true-left, or-true-right, keep-of, keep-to, some-of, some-to, every-of, map-of, map-to}
 use Rattle.automaton.specs.Listing.{Listing, Edge}
 use Rattle.automaton.specs.Listed.{IsRow, rowAt}
-use Rattle.automaton.specs.Words.{Reads, ends, reads, Accepts}
+use Rattle.automaton.specs.inner.Words.{Reads, ends, reads, Accepts}
 use Rattle.explanations.specs.BenchSheet.{Language, Member}
 
 -- Equal tests are equal lists.

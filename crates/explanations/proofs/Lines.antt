@@ -7,14 +7,16 @@ use native.Mathlib.Nat.{zero-add, add-zero}
 use native.Mathlib.Omega.{arith}
 use lib.ListN.{length, getD, drop}
 use Rattle.automaton.specs.Bytes.{rowLength, bitOf, rowsBytes, edgesBytes}
-use Rattle.columns.specs.Columns.{numbersLine}
-use Rattle.lts.specs.Lists.{upFrom, bind}
+use Rattle.columns.specs.Lines.{numbersLine}
+use Rattle.lts.specs.inner.Lists.{upFrom}
+use Rattle.lts.specs.Lists.{bind}
 use Rattle.lts.specs.Reply.{accepted, overwritten}
 use Rattle.automaton.specs.Listing.{Row, Listing}
 use Rattle.automaton.specs.Listed.{rowAt}
 use Rattle.automaton.proofs.Bytes.{SmallEdges, noEdge, row-byte, edge-in}
 use Rattle.explanations.specs.Explanation.{Explanation, summary}
-use Rattle.explanations.specs.Printed.{rowLines, edgeLine, summaryLine, printed, rowText, edgeText, rowsText, edgesText, listingText}
+use Rattle.explanations.specs.Printed.{rowLines, edgeLine, summaryLine, printed}
+use Rattle.explanations.specs.inner.Printed.{rowText, edgeText, rowsText, edgesText, listingText}
 
 -- Lines by number are lines by member, for any text `out` that has a line for each member.
 module _ {A : Type 0} (d : A) (out : ℕ → List A → List ℕ) (f : ℕ → List ℕ) (line : ℕ → A → List ℕ)

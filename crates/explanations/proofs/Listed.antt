@@ -14,7 +14,7 @@ use Rattle.automaton.specs.Listing.{Edge, Listing}
 use Rattle.automaton.specs.Listed.{rowAt, placed, IsRow, Listed}
 use Rattle.automaton.proofs.Finishing.{step-finishes}
 use Rattle.automaton.proofs.Reading.{RowFor, row-for, edge-listed}
-use Rattle.explanations.specs.Positions.{PositionsTrace}
+use Rattle.explanations.specs.inner.Positions.{PositionsTrace}
 
 -- 01's tracing, by the rows and edges of a listing instead of their bytes.
 pub record RowsTrace (L : Listing) (r : ℕ → Step) (n : ℕ) : Type 0 where

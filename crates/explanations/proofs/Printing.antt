@@ -6,14 +6,16 @@ use native.Mathlib.Numerals.{add-one}
 use native.Mathlib.Omega.{arith}
 use native.Mathlib.Nat.{zero-add}
 use lib.ListN.{length, getD, drop, length-append}
-use Rattle.columns.specs.Columns.{column, numbersLine}
-use Rattle.columns.specs.Write.{pasted}
+use Rattle.columns.specs.Columns.{column}
+use Rattle.columns.specs.Lines.{numbersLine}
+use Rattle.columns.specs.inner.Write.{pasted}
 use Rattle.columns.proofs.Laws.Columns.{column-length}
 use Rattle.columns.proofs.Laws.Pasting.{Pasting, pasting-none, pasting-more}
-use Rattle.lts.specs.Lists.{upFrom, bind}
+use Rattle.lts.specs.inner.Lists.{upFrom}
+use Rattle.lts.specs.Lists.{bind}
 use Rattle.lts.specs.Reply.{overwritten}
 use Rattle.lts.proofs.Lists.{upFrom-snoc, bind-append}
-use Rattle.explanations.specs.Printed.{rowText, edgeText}
+use Rattle.explanations.specs.inner.Printed.{rowText, edgeText}
 
 pub three-wide : (a b c : ℕ) → a < 1000000 → b < 1000000 → c < 1000000 → length (numbersLine (a ∷ b ∷ c ∷ [])) ≡ 19
 three-wide a b c h i j =

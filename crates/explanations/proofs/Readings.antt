@@ -10,17 +10,19 @@ use lib.Seq.{take-at}
 use Rattle.lts.specs.Sizes.{tableLength}
 use Rattle.lts.specs.Reply.{Reply, accepted, refusal, overwritten, leftIn, answers}
 use Rattle.lts.specs.Steps.{Table, labels}
-use Rattle.lts.specs.Range.{InRange}
+use Rattle.lts.specs.inner.Range.{InRange}
 use Rattle.lts.specs.Reading.{readTable}
-use Rattle.lts.specs.Prepared.{tableBytes, preparedTable}
+use Rattle.lts.specs.Prepared.{tableBytes}
+use Rattle.lts.specs.inner.Prepared.{preparedTable}
 use Rattle.lts.specs.TableReading.{tableReading, tableReplied, tableLeft}
 use Rattle.lts.proofs.Laws.Texts.{text-of-read}
 use Rattle.lts.proofs.Laws.TableBytes.{table-bytes-length}
 use Rattle.lts.proofs.Laws.Prepared as prepared-table
 use Rattle.actl.specs.Sizes.{formulaLength}
 use Rattle.actl.specs.Formulas.{Formula}
-use Rattle.actl.specs.Reading.{readFormula}
-use Rattle.actl.specs.Prepared.{formulaBytes, preparedFormula, IsForm}
+use Rattle.actl.specs.inner.Reading.{readFormula}
+use Rattle.actl.specs.Prepared.{formulaBytes, IsForm}
+use Rattle.actl.specs.inner.Prepared.{preparedFormula}
 use Rattle.actl.specs.FormulaReading.{withTable, formulaReading, formulaReplied, formulaLeft}
 use Rattle.actl.proofs.Laws.Accepted.{reading-leaves-form}
 use Rattle.actl.proofs.Laws.Forms.{length-form}

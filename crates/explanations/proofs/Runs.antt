@@ -16,7 +16,7 @@ use Rattle.automaton.specs.Positions.{Position, at, rootAt, Joins}
 use Rattle.automaton.proofs.Frames.{Frame, Until, now, later, Shows, Breaks}
 use Rattle.automaton.proofs.Acceptance.{Accepting, halt, move, shown-is-accepting, broken-is-accepting}
 use Rattle.explanations.specs.Shown.{PassesFrom, Shown, Broken, ShowsOrBreaks}
-use Rattle.explanations.specs.Positions.{PositionsTrace}
+use Rattle.explanations.specs.inner.Positions.{PositionsTrace}
 
 -- A run as a frame: the number of the next step.
 abbrev along : (ℕ → Step) → Frame

@@ -9,15 +9,17 @@ use Prim.Native.String.{String}
 use lib.ListN.{length, replicate}
 use Rattle.columns.specs.Ascii.{ascii}
 use Rattle.lts.specs.Reply.{accepted, refusal}
-use Rattle.lts.specs.Steps.{Table, idleLabel}
+use Rattle.lts.specs.Steps.{Table}
+use Rattle.lts.specs.Idle.{idleLabel}
 use Rattle.lts.specs.Text.{ended}
 use Rattle.lts.specs.Reading.{readTable}
 use Rattle.actl.specs.Formulas.{Formula, classOf}
-use Rattle.actl.specs.Reading.{readFormula}
+use Rattle.actl.specs.inner.Reading.{readFormula}
 use Rattle.satisfaction.specs.Satisfaction.{Sat}
 use Rattle.automaton.specs.Positions.{Position, at}
 use Rattle.automaton.specs.Explains.{Explains}
-use Rattle.automaton.specs.Listing.{Listing, listing}
+use Rattle.automaton.specs.Listing.{Listing}
+use Rattle.automaton.specs.inner.Search.{listing}
 use Rattle.automaton.specs.Listed.{placed}
 
 -- A set of words: those listed, and the words of one or more of each letter in `repeated`.

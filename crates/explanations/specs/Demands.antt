@@ -9,24 +9,23 @@ use mathlib.Core.Path.{_≡_}
 use mathlib.Core.Logic.{_↔_}
 use mathlib.Core.List.{List}
 use mathlib.Core.Option.{some}
-use Prim.Native.Nat.{ℕ, _<_}
+use Prim.Native.Nat.{ℕ}
 use Rattle.lts.specs.Reply.{Reply, accepted, refusal}
-use Rattle.lts.specs.Steps.{Table, labels, idleLabel, Exitless}
+use Rattle.lts.specs.Steps.{Table, labels}
 use Rattle.lts.specs.Reading.{readTable}
-use Rattle.lts.specs.Prepared.{preparedTable}
-use Rattle.actl.specs.Formulas.{Formula, classOf}
-use Rattle.actl.specs.Reading.{readFormula}
-use Rattle.actl.specs.Prepared.{preparedFormula}
+use Rattle.lts.specs.inner.Prepared.{preparedTable}
+use Rattle.actl.specs.Formulas.{Formula}
+use Rattle.actl.specs.inner.Reading.{readFormula}
+use Rattle.actl.specs.inner.Prepared.{preparedFormula}
 use Rattle.satisfaction.specs.Runs.{Run}
 use Rattle.satisfaction.specs.VerdictAsked.{verdictReplied, TellsWhether, VerdictIs}
-use Rattle.automaton.specs.Bytes.{rowState, edgeAt}
 use Rattle.automaton.specs.Build.{Counts}
 use Rattle.automaton.specs.Explains.{Explains}
 use Rattle.automaton.specs.AcceptsBytes.{AcceptsBytes}
 use Rattle.automaton.specs.WordAsked.{wordReplied}
 use Rattle.explanations.specs.Shown.{ShowsOrBreaks}
 use Rattle.explanations.specs.Traces.{Traces}
-use Rattle.explanations.specs.Explanation.{Summary, countsOf}
+use Rattle.explanations.specs.Standstills.{StandstillsSeen}
 
 -- Demand 2, the verdict: that of the branching-time definition over unending paths. `VerdictIs t F v` (satisfaction/specs/VerdictAsked.antt): v is 1
 -- exactly if `Sat t F (t .start)`, and 0 exactly if not.
@@ -39,10 +38,6 @@ WordsAccepted t F c rows edges = (w : List ℕ) → AcceptsBytes c rows edges w 
 -- Demand 3: "For every unending run: it shows (breaks) the formula exactly when the rows and edges that building wrote trace some beginning of it."
 abbrev pub RunsTraced : Table → Formula → Counts → List ℕ → List ℕ → Type 0
 RunsTraced t F c rows edges = (r : Run t (t .start)) → ShowsOrBreaks F (r .step) ↔ ((n : ℕ) × Traces c rows edges (r .step) n)
-
--- 02: "A standstill must be seen." An edge's label is 99 exactly if the state of its row has no exit.
-abbrev pub StandstillsSeen : Table → Counts → List ℕ → List ℕ → Type 0
-StandstillsSeen t c rows edges = (j : ℕ) → j < c .edges → (edgeAt edges j .label ≡ idleLabel) ↔ Exitless t (rowState rows (edgeAt edges j .row))
 
 -- Demand 2, what a word is answered: 1 exactly if the rows and edges in the lent places accept it, which is exactly if it explains the verdict; else 0.
 abbrev pub WordRead : Table → Formula → Counts → List ℕ → List ℕ → List ℕ → Reply ℕ → Type 0
@@ -66,12 +61,6 @@ pub record Explained (table formula : List ℕ) (t : Table) (F : Formula) (v : �
 -- What is said of the table and the formula in two texts.
 abbrev pub InTexts : List ℕ → List ℕ → (Table → Formula → Type 0) → Type 0
 InTexts tableText formulaText Said = (t : Table) × (F : Formula) × (readTable tableText ≡ accepted t) × (readFormula (t .names) formulaText ≡ accepted F) × Said t F
-
--- `explain`, which accepted both texts: its answer, the prepared bytes, rows and edges that it left. 01: "The root's class is the formula's"
-abbrev pub FromTexts : List ℕ → List ℕ → Reply Summary → List ℕ → List ℕ → List ℕ → List ℕ → Type 0
-FromTexts tableText formulaText (accepted s) table formula rows edges =
-    InTexts tableText formulaText (λ t F. (s .class ≡ classOf F) × Explained table formula t F (s .verdict) (countsOf s) rows edges)
-FromTexts tableText formulaText (refusal number figure) table formula rows edges = Unit {0}
 
 -- "It goes from the two texts through both readings to what building wrote": the prepared bytes that the readings left, what building answered on
 -- them, and the rows and edges that it left.

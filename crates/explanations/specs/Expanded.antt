@@ -4,9 +4,9 @@ use mathlib.Core.List.{List}
 use Prim.Native.Nat.{ℕ}
 use Rattle.lts.specs.Reply.{Reply, answers}
 use Rattle.lts.specs.Reading.{readTable}
-use Rattle.actl.specs.Reading.{readUnlimited}
+use Rattle.actl.specs.inner.Reading.{readUnlimited}
 use Rattle.actl.specs.FormulaReading.{longEnough}
-use Rattle.automaton.specs.Listing.{listing}
+use Rattle.automaton.specs.inner.Search.{listing}
 use Rattle.automaton.specs.Build.{fitted}
 use Rattle.explanations.specs.Explanation.{Explanation, andThen}
 

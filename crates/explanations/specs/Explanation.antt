@@ -7,11 +7,12 @@ use Rattle.lts.specs.Steps.{Table}
 use Rattle.lts.specs.Reading.{readTable}
 use Rattle.lts.specs.Prepared.{tableBytes}
 use Rattle.actl.specs.Formulas.{Formula, classOf}
-use Rattle.actl.specs.Reading.{readFormula}
+use Rattle.actl.specs.inner.Reading.{readFormula}
 use Rattle.actl.specs.Prepared.{formulaBytes}
 use Rattle.actl.specs.FormulaReading.{longEnough}
-use Rattle.satisfaction.specs.Holds.{verdict}
-use Rattle.automaton.specs.Listing.{Listing, listing}
+use Rattle.satisfaction.specs.inner.Holds.{verdict}
+use Rattle.automaton.specs.Listing.{Listing}
+use Rattle.automaton.specs.inner.Search.{listing}
 use Rattle.automaton.specs.Bytes.{rowsBytes, edgesBytes}
 use Rattle.automaton.specs.Build.{Counts, fitted}
 

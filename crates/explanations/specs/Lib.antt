@@ -1,10 +1,11 @@
 pub mod BenchSheet
-pub mod BothTexts
 pub mod Demands
 pub mod Expanded
 pub mod Explanation
-pub mod Positions
+pub mod InOneCall
 pub mod Printed
 pub mod Shown
 pub mod Sizes
+pub mod Standstills
 pub mod Traces
+pub mod inner

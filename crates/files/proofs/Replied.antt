@@ -17,12 +17,13 @@ use Rattle.automaton.proofs.Bytes.{SmallEdges}
 use Rattle.automaton.proofs.WordsAccepted.{small-edges}
 use Rattle.explanations.specs.Explanation.{Explanation, explaining, explanation, explainReplied, rowsExplained, edgesExplained}
 use Rattle.explainer.specs.Replies.{explainReply}
-use Rattle.files.specs.Replied.{Replied}
-use Rattle.files.specs.Writing.{replyText, Few, PrefixLength}
-use Rattle.explanations.specs.Printed.{printed, withLength, TextWritten}
+use Rattle.files.specs.inner.Replied.{Replied}
+use Rattle.files.specs.inner.Writing.{replyText, Few, PrefixLength}
+use Rattle.explanations.specs.Printed.{printed}
+use Rattle.explanations.specs.inner.Printed.{withLength, TextWritten}
 use Rattle.explainer.specs.declared.ExplainReply.{ExplainReply}
 use Rattle.explanations.proofs.Demands.{Accepted, explanation-accepted}
-use Rattle.explainer.specs.Readings.{Outcome}
+use Rattle.explainer.specs.Outcome.{Outcome}
 use Rattle.explainer.proofs.Into.{same-outcome}
 use Rattle.explainer.proofs.Promised.{long-enough}
 use Rattle.explanations.proofs.Lines.{listing-printed}

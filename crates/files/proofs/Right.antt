@@ -4,12 +4,14 @@ use mathlib.Core.List.{List, [], flatten}
 use Prim.Native.Nat.{ℕ, _^_, _<_}
 use native.Mathlib.Omega.{arith}
 use lib.ListN.{length, replicate}
-use Rattle.explanations.specs.Sizes.{rowsLength, edgesLength, keptLength}
-use Rattle.explanations.specs.Printed.{withoutEnd, printed, lentExplanation, withLength, explainText}
+use Rattle.explanations.specs.Sizes.{rowsLength, edgesLength}
+use Rattle.explanations.specs.inner.Sizes.{keptLength}
+use Rattle.explanations.specs.Printed.{withoutEnd, printed, lentExplanation, explainText}
+use Rattle.explanations.specs.inner.Printed.{withLength}
 use Rattle.explanations.proofs.Beginnings.{explanation-begun}
 use Rattle.files.specs.declared.Scanned.{Scanned}
-use Rattle.files.specs.Scan.{scanStart, Scan, scanChunks, ScanOf}
-use Rattle.files.specs.Files.{Begins, filesText}
+use Rattle.files.specs.inner.Scan.{scanStart, Scan, scanChunks, ScanOf}
+use Rattle.files.specs.inner.Files.{Begins, filesText}
 use Rattle.files.proofs.Scanning.{start-scanned, chunks-scanned, scanned-length, scanned-text}
 
 pub files-right : (tableFile table head formula : List ℕ) (scanned : Scanned) → Begins tableFile table → ScanOf formula head scanned

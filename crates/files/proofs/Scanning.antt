@@ -10,9 +10,9 @@ use borrow.Author.Tests.{eq-eqb, ne-eqb}
 use lib.ListN.{length, getD, take, drop, length-append, length-take, length-drop, drop-of-length-le}
 use lib.Seq.{take-all, take-length, take-take, take-at, take-append-add, drop-drop, length-take-le, getD-append-add}
 use Rattle.lts.proofs.Laws.Compare.{getD-any}
-use Rattle.explanations.specs.Sizes.{keptLength}
-use Rattle.files.specs.Scan.{lastByte, scanStart, largestCount, scannedAfter, keptAfter, Scan, scanChunks, ScanOf}
-use Rattle.files.specs.Files.{lengthWithoutEnd, keptText}
+use Rattle.explanations.specs.inner.Sizes.{keptLength}
+use Rattle.files.specs.inner.Scan.{lastByte, scanStart, largestCount, scannedAfter, keptAfter, Scan, scanChunks, ScanOf}
+use Rattle.files.specs.inner.Files.{lengthWithoutEnd, keptText}
 use Rattle.explanations.specs.Printed.{withoutEnd}
 use Rattle.files.specs.declared.Scanned.{Scanned}
 

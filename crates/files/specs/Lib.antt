@@ -1,4 +1,1 @@
-pub mod Files
-pub mod Replied
-pub mod Scan
-pub mod Writing
+pub mod inner

@@ -14,10 +14,11 @@ ghost use lib.Dec.{eqb, leb};
 ghost use lib.ListN.{length};
 ghost use Rattle.actl.specs.Sizes.{mostNodes, formulaLength};
 ghost use Rattle.lts.specs.Sizes.{mostLabels};
-ghost use Rattle.lts.specs.Answers.{Decides};
-ghost use Rattle.actl.specs.Prepared.{maskWithin, slotAt, FormOfSome};
-ghost use Rattle.actl.specs.Shaped.{firstUsed, secondUsed};
-ghost use Rattle.actl.specs.Check.{isPrepared, slotFits, slotsFit, zerosFrom};
+ghost use Rattle.lts.specs.inner.Answers.{Decides};
+ghost use Rattle.actl.specs.Prepared.{maskWithin, FormOfSome};
+ghost use Rattle.actl.specs.inner.Prepared.{slotAt};
+ghost use Rattle.actl.specs.inner.Shaped.{firstUsed, secondUsed};
+ghost use Rattle.actl.specs.inner.Check.{isPrepared, slotFits, slotsFit, zerosFrom};
 
 // 01: "sets within this table's labels": no bit 0, and none above the labels.
 fn within(labels: usize, set: u64) -> bool

@@ -1,2 +1,1 @@
-pub mod WalkReplies
-pub mod Phases
+pub mod inner

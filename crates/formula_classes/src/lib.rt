@@ -8,11 +8,11 @@ ghost use Prim.Native.Nat.{_+_, _*_, _<_, _≤_};
 ghost use lib.ListN.{length, getD, set, take};
 ghost use Rattle.actl.specs.Sizes.{mostNodes, formulaLength};
 ghost use Rattle.actl.specs.Formulas.{classOfOr};
-ghost use Rattle.actl.specs.Walk.{classFrom, classOfArm, kindAt, kindsIn, lastNone};
-ghost use Rattle.formula_classes.specs.WalkReplies.{Walks, classlessNode, IsHighest, IsShape};
-ghost use Rattle.formula_classes.specs.Phases.{Room, NodeNoted, HasArm, RightWalks};
-ghost use Rattle.lts.specs.Answers.{Decides};
-ghost use Rattle.actl.specs.Check.{SpelledClassed};
+ghost use Rattle.actl.specs.inner.Walk.{classFrom, classOfArm, kindAt, kindsIn, lastNone};
+ghost use Rattle.formula_classes.specs.inner.WalkReplies.{Walks, classlessNode, IsHighest, IsShape};
+ghost use Rattle.formula_classes.specs.inner.Phases.{Room, NodeNoted, HasArm, RightWalks};
+ghost use Rattle.lts.specs.inner.Answers.{Decides};
+ghost use Rattle.actl.specs.inner.Check.{SpelledClassed};
 
 // 01: "The class of a node follows from this table": four for each kind, by the arm's class, the last for the node T. Zero is no class.
 const CLASSES: [[u8; 4]; 10] = [

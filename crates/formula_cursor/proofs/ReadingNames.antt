@@ -10,15 +10,16 @@ use borrow.Author.Tests.{leb-true, ltb-true, ltb-false}
 use lib.Dec.{leb, ltb}
 use lib.ListN.{length, getD, drop, length-append, drop-of-length-le}
 use lib.Seq.{drop-cons}
-use Rattle.lts.specs.Names.{isLower, isNameByte, isMark, isName}
-use Rattle.lts.specs.NameEnds.{stemRun, stemLength, stemEnd, markLength, nameLength, nameEnd}
+use Rattle.lts.specs.Names.{isLower, isNameByte, isName}
+use Rattle.lts.specs.Marks.{isMark}
+use Rattle.lts.specs.inner.NameEnds.{stemRun, stemLength, stemEnd, markLength, nameLength, nameEnd}
 use Rattle.lts.proofs.Lists.{and-true-of, and-true-to}
 use Rattle.lts.proofs.Laws.Stems.{isStem}
 use Rattle.lts.proofs.Laws.NameBytes.{stem-grows, name-ends, name-full, mark-ends}
 use Rattle.lts.proofs.Laws.NameRuns.{IsStem, stem-marked, stem-named, stem-below, nothing-read, bare-read, mark-read, no-mark-at-end}
 use Rattle.actl.specs.Grammar.{Name, name}
-use Rattle.actl.specs.Reader.{InOperand, operandAt, naming, leaveO, plugO, proceed, run, refused}
-use Rattle.actl.specs.Cursor.{peek, Named}
+use Rattle.actl.specs.inner.Reader.{InOperand, operandAt, naming, leaveO, plugO, proceed, run, refused}
+use Rattle.actl.specs.inner.Cursor.{peek, Named}
 use Rattle.actl.proofs.Complete.{named-yes, name-start, leave-end, leave-at}
 use Rattle.formula_cursor.proofs.ReadingPlaces.{byte-at, inside, getD-any, peek-end}
 

@@ -8,9 +8,9 @@ use native.Mathlib.Omega.{arith}
 use lib.ListN.{length, getD, drop, List·getD-eq-default, drop-of-length-le}
 use lib.Seq.{drop-cons}
 use Rattle.actl.specs.Grammar.{gap}
-use Rattle.actl.specs.Reader.{State, stop, readByte, finish, proceed, run, refused}
-use Rattle.actl.specs.Cursor.{peek, Skipped, Marked, Tokened}
-use Rattle.formula_cursor.specs.CursorReplies.{MarkAnswer, KeywordAnswer}
+use Rattle.actl.specs.inner.Reader.{State, stop, readByte, finish, proceed, run, refused}
+use Rattle.actl.specs.inner.Cursor.{peek, Skipped, Marked, Tokened}
+use Rattle.formula_cursor.specs.inner.CursorReplies.{MarkAnswer, KeywordAnswer}
 use Rattle.formula_cursor.specs.declared.Match.{Match}
 use Rattle.formula_cursor.specs.declared.Match.the-variants.{Past, Missing}
 

@@ -1,1 +1,1 @@
-pub mod CursorReplies
+pub mod inner

@@ -1,8 +1,8 @@
 // A place in a formula's text, by value. Its methods skip blanks, take a token and hand the cursor back.
 ghost use Prim.Native.Nat.{_≤_};
 ghost use lib.ListN.{length};
-ghost use Rattle.actl.specs.Cursor.{Skipped};
-ghost use Rattle.formula_cursor.specs.CursorReplies.{MarkAnswer, TokenAnswer, KeywordAnswer, NameAnswer};
+ghost use Rattle.actl.specs.inner.Cursor.{Skipped};
+ghost use Rattle.formula_cursor.specs.inner.CursorReplies.{MarkAnswer, TokenAnswer, KeywordAnswer, NameAnswer};
 
 pub struct Cursor {
     pub at: usize,

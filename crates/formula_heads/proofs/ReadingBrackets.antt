@@ -7,20 +7,20 @@ use native.Mathlib.Omega.{arith}
 use lib.ListN.{length, drop}
 use Rattle.actl.specs.Actions.{labels}
 use Rattle.actl.specs.Grammar.{gap, dot, set, Set, Head, next, until, untilThen, labelled, showS}
-use Rattle.actl.specs.Reader.{InSet, sNext, sUntil, sThen, sLabelled, InTerm, tModal, oFirst, State, termAt, afterDot, operandAt, afterSet}
-use Rattle.actl.specs.Reader.{go, stop, closeStep}
+use Rattle.actl.specs.inner.Reader.{InSet, sNext, sUntil, sThen, sLabelled, InTerm, tModal, oFirst, State, termAt, afterDot, operandAt, afterSet}
+use Rattle.actl.specs.inner.Reader.{go, stop, closeStep}
 use Rattle.actl.specs.Mentions.{namesS}
 use Rattle.actl.specs.Prepared.{slot, nextSlot}
-use Rattle.actl.specs.Cursor.{peek, Token, Moves, Fails, Marked, Tokened}
-use Rattle.actl.specs.Readers.{unknownIn, earlier, dualSlots, nextKind, SetRead, EnclosedRead, Unclosed}
-use Rattle.formulas.specs.Access.{condIn, slotOfNode}
+use Rattle.actl.specs.inner.Cursor.{peek, Token, Moves, Fails, Marked, Tokened}
+use Rattle.actl.specs.inner.Readers.{unknownIn, earlier, dualSlots, nextKind, SetRead, EnclosedRead, Unclosed}
+use Rattle.formulas.specs.inner.Access.{condIn, slotOfNode}
 use Rattle.formulas.specs.declared.node.Condition.{Condition}
 use Rattle.formulas.specs.declared.node.Condition.the-variants.{Silent, Labels}
 use Rattle.formulas.specs.declared.node.Node.{Node}
 use Rattle.formula_cursor.proofs.ReadingPlaces.{byte-at}
 use Rattle.formula_cursor.proofs.ReadingMoves.{on-other, then, fail, at-only, fail-only, stops, alike, marked, tokened}
 use Rattle.formula_sets.proofs.ReadingSets.{set-stops}
-use Rattle.formula_heads.specs.Brackets.{quantifierIn, nodeOver, RestRead, inBracket, shownBracket}
+use Rattle.formula_heads.specs.inner.Brackets.{quantifierIn, nodeOver, RestRead, inBracket, shownBracket}
 use Rattle.formula_heads.specs.declared.Quantifier.{Quantifier}
 use Rattle.formula_heads.specs.declared.Quantifier.the-variants.{Existential, Universal}
 use Rattle.formula_heads.specs.declared.Keyword.the-variants.{Next, Until, Labelled}

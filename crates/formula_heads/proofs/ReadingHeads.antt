@@ -8,20 +8,20 @@ use lib.ListN.{length}
 use Rattle.actl.specs.Actions.{Action, Mask}
 use Rattle.actl.specs.Grammar as grammar
 use Rattle.actl.specs.Grammar.{gap, existential, universal, reach, showR}
-use Rattle.actl.specs.Reader.{InTerm, tModal, State, termAt, afterE, afterA, afterFirst, afterSecond, go, stop, readByte, finish, refused}
-use Rattle.actl.specs.Reader.{second, third}
+use Rattle.actl.specs.inner.Reader.{InTerm, tModal, State, termAt, afterE, afterA, afterFirst, afterSecond, go, stop, readByte, finish, refused}
+use Rattle.actl.specs.inner.Reader.{second, third}
 use Rattle.actl.specs.Meaning.{labelsOf}
 use Rattle.actl.specs.Prepared.{Slot, slot}
-use Rattle.actl.specs.Cursor.{peek, Token, Skipped, Moves, Fails, Marked, Tokened, Keyword}
-use Rattle.actl.specs.Readers.{dualSlots, HeadRead, NoMark, NoLong, NoKeyword}
-use Rattle.formulas.specs.Access.{slotOfNode}
+use Rattle.actl.specs.inner.Cursor.{peek, Token, Skipped, Moves, Fails, Marked, Tokened, Keyword}
+use Rattle.actl.specs.inner.Readers.{dualSlots, HeadRead, NoMark, NoLong, NoKeyword}
+use Rattle.formulas.specs.inner.Access.{slotOfNode}
 use Rattle.formulas.specs.declared.node.Node.{Node}
 use Rattle.formulas.specs.declared.node.Node.the-variants as node
 use Rattle.formula_cursor.specs.declared.Cursor.{Cursor}
 use Rattle.formula_cursor.proofs.ReadingMoves.{on-other, then, fail, written-as, skip, stops, equal, marked, tokened}
-use Rattle.formula_heads.specs.HeadReplies.{HeadAnswer}
-use Rattle.formula_heads.specs.Brackets.{quantifierIn, dualOf, wordOf, Word, NoShort, RestRead, RestAnswer, behindWord, shownWord}
-use Rattle.formula_heads.specs.Brackets.{inBracket, ContentsAnswer, first, LettersAnswer}
+use Rattle.formula_heads.specs.inner.HeadReplies.{HeadAnswer}
+use Rattle.formula_heads.specs.inner.Brackets.{quantifierIn, dualOf, wordOf, Word, NoShort, RestRead, RestAnswer, behindWord, shownWord}
+use Rattle.formula_heads.specs.inner.Brackets.{inBracket, ContentsAnswer, first, LettersAnswer}
 use Rattle.formula_heads.specs.declared.Quantifier.{Quantifier}
 use Rattle.formula_heads.specs.declared.Quantifier.the-variants.{Existential, Universal}
 use Rattle.formula_heads.specs.declared.Keyword as word

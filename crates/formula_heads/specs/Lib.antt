@@ -1,2 +1,1 @@
-pub mod Brackets
-pub mod HeadReplies
+pub mod inner

@@ -5,9 +5,9 @@ use Prim.Native.Nat.{ℕ, _+_, _*_, _-_, _≤_}
 use native.Mathlib.Omega.{arith}
 use lib.ListN.{length, take, drop, length-append, length-drop}
 use lib.Seq.{length-take-le}
-use Rattle.columns.specs.Write.{pasted}
+use Rattle.columns.specs.inner.Write.{pasted}
 use Rattle.actl.specs.Sizes.{mostNodes, nodeSlotLength, formulaLength}
-use Rattle.actl.specs.NodeBytes.{NodesWritten, NodesMoved, NodesEnclosed}
+use Rattle.actl.specs.inner.NodeBytes.{NodesWritten, NodesMoved, NodesEnclosed}
 use Rattle.actl.proofs.ReadingBytes.{pasted-then}
 
 -- The same place, counted in another way.

@@ -8,8 +8,8 @@ ghost use Prim.Native.Nat.{_+_, _≤_};
 ghost use lib.ListN.{length};
 ghost use Rattle.actl.specs.Sizes.{formulaLength};
 ghost use Rattle.actl.specs.Prepared.{slotBytes};
-ghost use Rattle.actl.specs.NodeBytes.{NodesWritten, NodesMoved, NodesEnclosed, mostCounted, orBytes, notBytes, andBytes};
-ghost use Rattle.formulas.specs.Access.{slotOfNode};
+ghost use Rattle.actl.specs.inner.NodeBytes.{NodesWritten, NodesMoved, NodesEnclosed, mostCounted, orBytes, notBytes, andBytes};
+ghost use Rattle.formulas.specs.inner.Access.{slotOfNode};
 use formulas::node::Node;
 use formulas::node::put_node;
 

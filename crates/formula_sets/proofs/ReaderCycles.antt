@@ -7,8 +7,8 @@ use native.Mathlib.Omega.{arith}
 use borrow.Fn.Kinds.{PK, In}
 use borrow.Fn.PlainCycle.{Measures, is, falls, and}
 use lib.ListN.{length}
-use Rattle.actl.specs.Cursor.{Tokened}
-use Rattle.actl.specs.Readers.{ReaderStart}
+use Rattle.actl.specs.inner.Cursor.{Tokened}
+use Rattle.actl.specs.inner.Readers.{ReaderStart}
 use Rattle.formula_cursor.proofs.ReadingMoves.{skipped-token}
 
 -- A member with the precondition P is entered where its measure is t, and called from there where its own is lower.

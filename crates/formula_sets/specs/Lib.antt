@@ -1,2 +1,1 @@
-pub mod OperandPhases
-pub mod SetReplies
+pub mod inner

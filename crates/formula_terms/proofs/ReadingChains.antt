@@ -6,12 +6,12 @@ use native.Mathlib.Omega.{arith}
 use lib.ListN.{length, drop, length-append}
 use Rattle.actl.specs.Sizes.{longestText, nodeSlotLength}
 use Rattle.actl.specs.Grammar.{gap, Disjunction, conjunction, or, term, and, Term, showF, showA, showT}
-use Rattle.actl.specs.Reader.{InDisjunction, InTerm, tFirst, tOr, tAnd, termAt, andLast, afterDisjunction, plugT}
+use Rattle.actl.specs.inner.Reader.{InDisjunction, InTerm, tFirst, tOr, tAnd, termAt, andLast, afterDisjunction, plugT}
 use Rattle.actl.specs.Mentions.{namesF, namesA, namesT}
-use Rattle.actl.specs.Cursor.{peek, Token, Skipped, Moves, Fails, Tokened}
-use Rattle.actl.specs.Readers.{unknownIn, earlier, TermRead, FormulaRead}
-use Rattle.actl.specs.NodeBytes.{bytesOfNodes, orBytes, notBytes, andBytes, NodesWritten, NodesEnclosed, NodeRoom, mostCounted}
-use Rattle.actl.specs.Meaning.{formulaF, formulaA, formulaT}
+use Rattle.actl.specs.inner.Cursor.{peek, Token, Skipped, Moves, Fails, Tokened}
+use Rattle.actl.specs.inner.Readers.{unknownIn, earlier, TermRead, FormulaRead}
+use Rattle.actl.specs.inner.NodeBytes.{bytesOfNodes, orBytes, notBytes, andBytes, NodesWritten, NodesEnclosed, NodeRoom, mostCounted}
+use Rattle.actl.specs.inner.Meaning.{formulaF, formulaA, formulaT}
 use Rattle.formula_cursor.proofs.ReadingMoves.{skipped-token, then, fail, at-only, fail-only, written-as, skip, equal, tokened}
 use Rattle.formula_sets.proofs.ReadingSets.{token-behind}
 use Rattle.actl.proofs.Sound.{and-shown}

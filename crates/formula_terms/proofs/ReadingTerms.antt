@@ -7,15 +7,15 @@ use native.Mathlib.Omega.{arith}
 use lib.ListN.{length, drop}
 use Rattle.lts.specs.Lists.{bind}
 use Rattle.actl.specs.Grammar.{gap, existential, universal, Head, next, until, untilThen, reach, labelled, Term, tru, not, modal, paren, showT, showH}
-use Rattle.actl.specs.Reader.{fParen, tFirst, tNot, tModal, termAt, afterDisjunction, plugT}
+use Rattle.actl.specs.inner.Reader.{fParen, tFirst, tNot, tModal, termAt, afterDisjunction, plugT}
 use Rattle.actl.specs.Mentions.{namesF, namesT, namesH}
 use Rattle.actl.specs.Prepared.{Slot, slot, slotBytes}
-use Rattle.actl.specs.Cursor.{peek, Skipped, Moves, Fails, Marked, Tokened}
-use Rattle.actl.specs.Readers.{ReaderStart, unknownIn, earlier, headSlots, HeadRead, TermRead, BracketRead, Unbracketed}
-use Rattle.actl.specs.NodeBytes.{bytesOfNodes, mostCounted, NodesWritten, NodeRoom}
-use Rattle.actl.specs.Meaning.{formulaT}
-use Rattle.formula_terms.specs.Prefixes.{PrefixRead}
-use Rattle.formula_terms.specs.TermReplies.{TermAnswer, BracketAnswer}
+use Rattle.actl.specs.inner.Cursor.{peek, Skipped, Moves, Fails, Marked, Tokened}
+use Rattle.actl.specs.inner.Readers.{ReaderStart, unknownIn, earlier, headSlots, HeadRead, TermRead, BracketRead, Unbracketed}
+use Rattle.actl.specs.inner.NodeBytes.{bytesOfNodes, mostCounted, NodesWritten, NodeRoom}
+use Rattle.actl.specs.inner.Meaning.{formulaT}
+use Rattle.formula_terms.specs.inner.Prefixes.{PrefixRead}
+use Rattle.formula_terms.specs.inner.TermReplies.{TermAnswer, BracketAnswer}
 use Rattle.formula_terms.specs.declared.Nodes.{Nodes}
 use Rattle.formula_terms.specs.declared.Nodes.the-variants.{Read, Refused}
 use Rattle.formula_cursor.proofs.ReadingMoves.{on-other, skipped-token, then, fail, at-only, fail-only, written-as, skip, stops, equal, marked, tokened}

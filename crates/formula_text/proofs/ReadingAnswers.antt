@@ -11,16 +11,16 @@ use lib.Dec.{leb}
 use lib.ListN.{length, getD, take, drop, set, replicate, length-drop, length-replicate, getD-replicate}
 use lib.Seq.{getD-take, getD-drop, length-take-le, take-all, drop-cons, take-append-add, ext-getD}
 use Rattle.actl.specs.Sizes.{mostNodes, nodeSlotLength, formulaLength}
-use Rattle.columns.specs.Write.{pasted}
-use Rattle.lts.specs.Lists.{upFrom}
+use Rattle.columns.specs.inner.Write.{pasted}
+use Rattle.lts.specs.inner.Lists.{upFrom}
 use Rattle.lts.specs.Reply.{accepted, refusal, unless, leftIn, answers}
 use Rattle.actl.specs.Formulas.{Formula, tru, size, nodes, highestWithoutClass}
 use Rattle.actl.specs.Prepared.{formulaBytes}
 use Rattle.actl.specs.Reading.{unlessFound, withClasses}
-use Rattle.actl.specs.NodeBytes.{bytesOfNodes}
-use Rattle.actl.specs.Walk.{kindOf, kindsOf, kindsIn}
-use Rattle.actl.specs.Writing.{preparedBytes, NodesHeld}
-use Rattle.formula_text.specs.FormulaAnswers.{FormulaAnswered}
+use Rattle.actl.specs.inner.NodeBytes.{bytesOfNodes}
+use Rattle.actl.specs.inner.Walk.{kindOf, kindsOf, kindsIn}
+use Rattle.actl.specs.inner.Writing.{preparedBytes, NodesHeld}
+use Rattle.formula_text.specs.inner.FormulaAnswers.{FormulaAnswered}
 use Rattle.formula_text.specs.declared.FormulaReply.the-variants.{Accepted, NameUnknown, TooManyNodes, NoClass}
 use Rattle.actl.proofs.Nodes.{length-nodes}
 use Rattle.actl.proofs.ReadingNodes.{bytes-length}

@@ -12,20 +12,21 @@ use Rattle.actl.specs.Sizes.{formulaLength, longestText}
 use Rattle.lts.specs.Sizes.{tableLength}
 use Rattle.lts.specs.Reply.{Reply, refusal, unless, leftIn, answers}
 use Rattle.lts.specs.Steps.{Table}
-use Rattle.lts.specs.Prepared.{tableIn, preparedTable}
-use Rattle.lts.specs.HoldsTable.{HoldsTable}
-use Rattle.lts.specs.Answers.{isSome}
+use Rattle.lts.specs.inner.Prepared.{tableIn, preparedTable}
+use Rattle.lts.specs.inner.HoldsTable.{HoldsTable}
+use Rattle.lts.specs.inner.Answers.{isSome}
 use Rattle.lts.proofs.Laws.Prepared.{prepared-in, prepared-holds}
 use Rattle.actl.specs.Formulas.{Formula}
-use Rattle.actl.specs.Reader.{read}
+use Rattle.actl.specs.inner.Reader.{read}
 use Rattle.actl.specs.Mentions.{namesF}
-use Rattle.actl.specs.Reading.{firstUnknown, onResult, readFormula}
+use Rattle.actl.specs.Reading.{firstUnknown}
+use Rattle.actl.specs.inner.Reading.{onResult, readFormula}
 use Rattle.actl.specs.Prepared.{formulaBytes}
 use Rattle.formula_text.specs.Replies.{formulaReply}
 use Rattle.actl.specs.FormulaReading.{formulaReading, withTable}
-use Rattle.actl.specs.Readers.{namesIn, WholeRead, RefusedAt}
-use Rattle.actl.specs.Meaning.{formulaF}
-use Rattle.formula_text.specs.FormulaAnswers.{FormulaAnswered, FormulaAnsweredWith}
+use Rattle.actl.specs.inner.Readers.{namesIn, WholeRead, RefusedAt}
+use Rattle.actl.specs.inner.Meaning.{formulaF}
+use Rattle.formula_text.specs.inner.FormulaAnswers.{FormulaAnswered, FormulaAnsweredWith}
 use Rattle.formula_text.specs.declared.FormulaReply.{FormulaReply}
 use Rattle.formula_text.specs.declared.FormulaReply.the-variants.{TooLong, NotGrammatical, TableForeign, BufferShort}
 

@@ -1,2 +1,2 @@
-pub mod FormulaAnswers
 pub mod Replies
+pub mod inner

@@ -10,12 +10,13 @@ use lib.Seq.{length-take-le, drop-at}
 use Rattle.actl.specs.Sizes.{nodeSlotLength}
 use Rattle.actl.specs.Actions.{Cond, silent, labels}
 use Rattle.actl.specs.Formulas.{Formula, tru, not, or, ex, ax, eu, euThen, isT}
-use Rattle.actl.specs.Prepared.{Slot, slotOf, slotBytes, slotAt}
-use Rattle.actl.specs.Shaped.{shaped}
-use Rattle.actl.specs.NodeBytes.{putAt}
+use Rattle.actl.specs.Prepared.{Slot, slotOf, slotBytes}
+use Rattle.actl.specs.inner.Prepared.{slotAt}
+use Rattle.actl.specs.inner.Shaped.{shaped}
+use Rattle.actl.specs.inner.NodeBytes.{putAt}
 use Rattle.actl.proofs.Laws.Slots.{slot-by-parts}
 use Rattle.actl.proofs.Laws.Forms.{slotFrom, slot-from, StandsFor, slot-front}
-use Rattle.formulas.specs.Access.{condIn, slotOfNode}
+use Rattle.formulas.specs.inner.Access.{condIn, slotOfNode}
 use Rattle.formulas.specs.declared.node.Condition.{Condition}
 use Rattle.formulas.specs.declared.node.Condition.the-variants.{Silent, Labels}
 use Rattle.formulas.specs.declared.node.Node.{Node}

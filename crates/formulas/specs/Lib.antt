@@ -1,1 +1,1 @@
-pub mod Access
+pub mod inner

@@ -2,9 +2,9 @@
 use crate::node::Condition;
 use tables::steps::is_silent;
 ghost use mathlib.Core.Path.{_≡_};
-ghost use Rattle.lts.specs.Steps.{Carried};
+ghost use Rattle.lts.specs.inner.Steps.{Carried};
 ghost use Rattle.actl.specs.Actions as actions;
-ghost use Rattle.formulas.specs.Access.{condIn};
+ghost use Rattle.formulas.specs.inner.Access.{condIn};
 
 pub fn in_set(set: u64, label: usize) -> bool
     requires { ⌜ Carried label ⌝ }

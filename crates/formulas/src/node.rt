@@ -5,12 +5,13 @@ ghost use mathlib.Core.Bool.{true};
 ghost use Prim.Native.Nat.{_+_, _*_, _<_, _≤_};
 ghost use lib.ListN.{length, getD, drop};
 ghost use Rattle.columns.specs.Bytes.{lowFirst};
-ghost use Rattle.columns.specs.Write.{pasted};
+ghost use Rattle.columns.specs.inner.Write.{pasted};
 ghost use Rattle.actl.specs.Sizes.{mostNodes, nodeSlotLength, formulaLength};
-ghost use Rattle.actl.specs.Prepared.{number, slot, nextSlot, slotAt};
-ghost use Rattle.actl.specs.NodeBytes.{putAt};
-ghost use Rattle.formulas.specs.Access.{fourBytes, condIn, slotOfNode};
-ghost use Rattle.actl.specs.Shaped.{shaped};
+ghost use Rattle.actl.specs.inner.Prepared.{number, slotAt};
+ghost use Rattle.actl.specs.Prepared.{slot, nextSlot};
+ghost use Rattle.actl.specs.inner.NodeBytes.{putAt};
+ghost use Rattle.formulas.specs.inner.Access.{fourBytes, condIn, slotOfNode};
+ghost use Rattle.actl.specs.inner.Shaped.{shaped};
 
 // 01: "A step condition is either the silent step or a set of labels." Bit a of a mask is label a.
 pub enum Condition {

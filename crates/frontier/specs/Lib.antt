@@ -1,3 +1,1 @@
-pub mod Frontier
-pub mod Reached
-pub mod Sizes
+pub mod inner

@@ -11,10 +11,10 @@ mod steps;
 
 ghost use mathlib.Core.Path.{_≡_};
 ghost use Rattle.lts.specs.Steps.{labels};
-ghost use Rattle.lts.specs.Prepared.{tableIn};
-ghost use Rattle.lts.specs.HoldsTable.{HoldsTable};
-ghost use Rattle.labelling.specs.Nodes.{AtStart};
-ghost use Rattle.actl.specs.HoldsFormula.{HoldsFormula};
+ghost use Rattle.lts.specs.inner.Prepared.{tableIn};
+ghost use Rattle.lts.specs.inner.HoldsTable.{HoldsTable};
+ghost use Rattle.labelling.specs.inner.Nodes.{AtStart};
+ghost use Rattle.actl.specs.inner.HoldsFormula.{HoldsFormula};
 ghost use Rattle.satisfaction.specs.VerdictAsked.{verdictReplied, VerdictAnswered};
 ghost use Rattle.labelling.specs.Replies.{verdictReply};
 

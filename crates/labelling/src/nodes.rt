@@ -15,15 +15,16 @@ use until_search::until;
 ghost use mathlib.Core.Path.{_≡_};
 ghost use Prim.Native.Nat.{_+_, _<_};
 ghost use lib.ListN.{length, getD};
-ghost use Rattle.actl.specs.Sizes.{mostNodes, nodePositions};
+ghost use Rattle.actl.specs.Sizes.{mostNodes};
+ghost use Rattle.actl.specs.inner.Sizes.{nodePositions};
 ghost use Rattle.lts.specs.Steps.{labels};
-ghost use Rattle.lts.specs.Prepared.{tableIn};
-ghost use Rattle.lts.specs.HoldsTable.{HoldsTable};
-ghost use Rattle.tables.specs.StepArray.{StepsOf};
-ghost use Rattle.until_search.specs.Flags.{flagAt, nodeHolds, Flags};
-ghost use Rattle.until_search.specs.Links.{Linked};
-ghost use Rattle.labelling.specs.Nodes.{RowRead, RowPut, ArmsLabelled, NodeRow, NodesLabelled};
-ghost use Rattle.actl.specs.HoldsFormula.{HoldsFormula, ArmsEnd};
+ghost use Rattle.lts.specs.inner.Prepared.{tableIn};
+ghost use Rattle.lts.specs.inner.HoldsTable.{HoldsTable};
+ghost use Rattle.tables.specs.inner.StepArray.{StepsOf};
+ghost use Rattle.until_search.specs.inner.Flags.{flagAt, nodeHolds, Flags};
+ghost use Rattle.until_search.specs.inner.Links.{Linked};
+ghost use Rattle.labelling.specs.inner.Nodes.{RowRead, RowPut, ArmsLabelled, NodeRow, NodesLabelled};
+ghost use Rattle.actl.specs.inner.HoldsFormula.{HoldsFormula, ArmsEnd};
 
 // Where a node holds, from where its arms hold.
 fn label_node(

@@ -11,11 +11,11 @@ ghost use mathlib.Core.Path.{_≡_};
 ghost use mathlib.Core.Bool.{_&&_};
 ghost use Prim.Native.Nat.{_<_, _≤_};
 ghost use Rattle.lts.specs.Sizes.{mostStates};
-ghost use Rattle.lts.specs.Steps.{Carried};
-ghost use Rattle.tables.specs.StepArray.{stepsIn, StepsFit};
+ghost use Rattle.lts.specs.inner.Steps.{Carried};
+ghost use Rattle.tables.specs.inner.StepArray.{stepsIn, StepsFit};
 ghost use Rattle.actl.specs.Actions as actions;
-ghost use Rattle.formulas.specs.Access.{condIn};
-ghost use Rattle.until_search.specs.Flags.{flagAt, asWanted, someStep, atOnce, Flags};
+ghost use Rattle.formulas.specs.inner.Access.{condIn};
+ghost use Rattle.until_search.specs.inner.Flags.{flagAt, asWanted, someStep, atOnce, Flags};
 
 fn leads(wanted: bool, condition: Condition, label: usize, there: bool) -> bool
     requires { ⌜ Carried label ⌝ }

@@ -6,8 +6,8 @@ ghost use Prim.Native.Nat.{_+_, _*_, _≤_, _<_};
 ghost use lib.ListN.{length};
 ghost use Rattle.automaton.specs.Bytes.{rowLength, edgeLength, bitOf, edgeAt};
 ghost use Rattle.columns.specs.Bytes.{lowFirst};
-ghost use Rattle.columns.specs.Write.{pasted};
-ghost use Rattle.listing.specs.Places.{rowOf, edgeTo, putRow, putEdge, RowRead, EdgeRead};
+ghost use Rattle.columns.specs.inner.Write.{pasted};
+ghost use Rattle.listing.specs.inner.Places.{rowOf, edgeTo, putRow, putEdge, RowRead, EdgeRead};
 
 // A row as it stands in its place; the mark is 1 if it is final.
 pub struct Row {

@@ -7,8 +7,9 @@ ghost use mathlib.Core.Bool.{true, false};
 ghost use Prim.Native.Nat.{_+_, _*_, _≤_};
 ghost use lib.ListN.{length};
 ghost use Rattle.automaton.specs.Bytes.{rowLength, edgeLength};
-ghost use Rattle.explanations.specs.Printed.{refusalLine, listingText, TextWritten};
-ghost use Rattle.listing_text.specs.Lines.{summaryOf, lineNumbers, LineFits, LineWritten, LinesFit, LinesWritten};
+ghost use Rattle.explanations.specs.Printed.{refusalLine};
+ghost use Rattle.explanations.specs.inner.Printed.{listingText, TextWritten};
+ghost use Rattle.listing_text.specs.inner.Lines.{summaryOf, lineNumbers, LineFits, LineWritten, LinesFit, LinesWritten};
 
 // What the line of a row has.
 fn row_numbers(rows: &[u8], i: usize) -> [u64; 4]

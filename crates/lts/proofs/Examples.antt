@@ -10,10 +10,14 @@ use Rattle.columns.specs.Ascii.{ascii}
 use Rattle.columns.specs.Columns.{column, digitsWithin}
 use Rattle.lts.specs.Reply.{accepted, refusal}
 use Rattle.lts.specs.Directions.{neither, received, sent, labelDirection}
-use Rattle.lts.specs.Steps.{Step, Table, stepsFrom, alphabet}
-use Rattle.lts.specs.Text.{tableText, ended}
-use Rattle.lts.specs.Reading.{readTable, readTableWith, readLabels, readLabelsWith, readTransitions}
-use Rattle.lts.specs.Prepared.{tableBytes, tableIn, preparedTable}
+use Rattle.lts.specs.Steps.{Step, Table}
+use Rattle.lts.specs.inner.Steps.{stepsFrom, alphabet}
+use Rattle.lts.specs.inner.Text.{tableText}
+use Rattle.lts.specs.Text.{ended}
+use Rattle.lts.specs.Reading.{readTable, readTableWith, readLabelsWith, readTransitions}
+use Rattle.lts.specs.inner.Reading.{readLabels}
+use Rattle.lts.specs.Prepared.{tableBytes}
+use Rattle.lts.specs.inner.Prepared.{tableIn, preparedTable}
 
 abbrev pub step : ℕ → ℕ → ℕ → Step
 step s a t = record { from = s; label = a; to = t }

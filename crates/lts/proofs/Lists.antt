@@ -8,7 +8,8 @@ use native.Mathlib.Nat.{add-zero, add-suc, suc-add, zero-add}
 use native.Mathlib.Omega.{arith}
 use lib.ListN.{length, getD, take, drop}
 use lib.Seq.{slice}
-use Rattle.lts.specs.Lists.{upFrom, consIf, keep, anyOf, every, orElse, Rising, bind}
+use Rattle.lts.specs.inner.Lists.{upFrom, consIf, keep, every, orElse}
+use Rattle.lts.specs.Lists.{anyOf, Rising, bind}
 
 -- Booleans.
 pub and-true-of : (a b : Bool) → (a && b) ≡ true → (a ≡ true) × (b ≡ true)

@@ -7,7 +7,9 @@ use native.Mathlib.Omega.{arith}
 use lib.Dec.{eqb}
 use borrow.Author.Tests.{eqb-true, ne-eqb}
 use Rattle.lts.specs.Sizes.{mostLabels}
-use Rattle.lts.specs.Steps.{idleLabel, silent, Carried}
+use Rattle.lts.specs.Idle.{idleLabel}
+use Rattle.lts.specs.Steps.{silent}
+use Rattle.lts.specs.inner.Steps.{Carried}
 use Rattle.lts.proofs.Lists.{or-true-of}
 
 pub zero-silent : silent 0 ≡ true

@@ -8,9 +8,12 @@ use native.Mathlib.Decide.{decLe, ℕ-discrete}
 use native.Mathlib.Omega.{arith}
 use borrow.Author.Tests.{eqb-true, eq-eqb}
 use Rattle.lts.specs.Sizes.{mostLabels}
-use Rattle.lts.specs.Lists.{upFrom, keep, orElse, Rising}
-use Rattle.lts.specs.Steps.{Step, Table, labels, idleLabel, IsStep, Exitless, Carried, idleAt, leaves, stepsFrom, alphabet}
-use Rattle.lts.specs.Range.{InRange}
+use Rattle.lts.specs.inner.Lists.{upFrom, keep, orElse}
+use Rattle.lts.specs.Lists.{Rising}
+use Rattle.lts.specs.Steps.{Step, Table, labels, IsStep, Exitless}
+use Rattle.lts.specs.Idle.{idleLabel}
+use Rattle.lts.specs.inner.Steps.{Carried, idleAt, leaves, stepsFrom, alphabet}
+use Rattle.lts.specs.inner.Range.{InRange}
 use Rattle.lts.proofs.Lists.{keep-of, keep-to, upFrom-of, upFrom-to, upFrom-rising, rising-append}
 
 pub carried-within : {n l : ℕ} → n ≤ mostLabels → (l ≤ n) ⊎ (l ≡ idleLabel) → Carried l

@@ -1,9 +1,12 @@
 -- Directions: of a name, by its mark, and of a table's labels.
-use mathlib.Core.Bool.{Bool, cond}
+use mathlib.Core.Bool.{Bool, cond, true, not}
 use mathlib.Core.List.{List, [], _∷_}
 use Prim.Native.Nat.{ℕ, zero, suc}
 use lib.Dec.{eqb}
 use lib.ListN.{getD}
+use mathlib.Core.Path.{_≡_}
+use Rattle.lts.specs.inner.Lists.{every}
+use Rattle.lts.specs.Marks.{isMark}
 
 -- 02: "its direction (none, in, out)": "`clamp!` is sent, `clamp?` is received"
 pub data Direction : Type 0 where
@@ -37,3 +40,7 @@ abbrev pub markOf : Direction → List ℕ
 markOf neither = []
 markOf received = 63 ∷ []
 markOf sent = 33 ∷ []
+
+-- A text without marks.
+abbrev pub Plain : List ℕ → Type 0
+Plain s = every (λ b. not (isMark b)) s ≡ true

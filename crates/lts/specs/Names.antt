@@ -1,12 +1,11 @@
 -- Label names, with and without marks: which bytes are one, and looking one up.
-use mathlib.Core.Path.{_≡_}
-use mathlib.Core.Bool.{Bool, true, false, cond, not, _&&_, _||_}
+use mathlib.Core.Bool.{Bool, true, false, cond, _&&_, _||_}
 use mathlib.Core.List.{List, [], _∷_}
 use mathlib.Core.Option.{Option, none, some}
 use Prim.Native.Nat.{ℕ, zero, suc}
 use lib.Dec.{leb, eqb}
 use Rattle.columns.specs.Bytes.{sameBytes}
-use Rattle.lts.specs.Lists.{every}
+use Rattle.lts.specs.Marks.{Marks, isLastMark, marked}
 
 -- 01: "a lower-case letter, then lower-case letters, digits or underscores"
 abbrev pub isLower : ℕ → Bool
@@ -14,19 +13,6 @@ isLower b = leb 97 b && leb b 122
 
 abbrev pub isNameByte : ℕ → Bool
 isNameByte b = isLower b || (eqb b 95 || (leb 48 b && leb b 57))
-
--- 02: "A name may end in one `?` or `!` beyond its 12 bytes". Whether it may is a parameter: 01's names have no marks.
-pub data Marks : Type 0 where
-  unmarked marked : Marks
-
-abbrev pub isMark : ℕ → Bool
-isMark b = eqb b 63 || eqb b 33
-
--- The byte b is a mark, and nothing stands behind it.
-abbrev pub isLastMark : Marks → ℕ → List ℕ → Bool
-isLastMark unmarked b l = false
-isLastMark marked b [] = isMark b
-isLastMark marked b (c ∷ l) = false
 
 -- At most n bytes of a name, and perhaps a mark.
 abbrev pub atMost : Marks → ℕ → List ℕ → Bool
@@ -41,13 +27,6 @@ isNameWith m (b ∷ l) = isLower b && atMost m 11 l
 
 abbrev pub isName : List ℕ → Bool
 isName l = isNameWith marked l
-
-abbrev pub longestName : ℕ
-longestName = 13
-
--- A text without marks.
-abbrev pub Plain : List ℕ → Type 0
-Plain s = every (λ b. not (isMark b)) s ≡ true
 
 -- Where a name stands in a list of names, from k; that is its label's number if k is 1.
 unfoldable pub findFrom : ℕ → List (List ℕ) → List ℕ → Option ℕ

@@ -1,5 +1,5 @@
 -- Reading a table's text: line by line, on each line 1, 2, then 3 or 4. m says whether names may have marks.
-use mathlib.Core.Bool.{Bool, true, false, cond, not, _&&_, _||_}
+use mathlib.Core.Bool.{Bool, true, cond, not, _&&_, _||_}
 use mathlib.Core.List.{List, [], _∷_, _++_}
 use Prim.Native.Nat.{ℕ, zero, suc, _+_}
 use lib.Dec.{leb, ltb, eqb}
@@ -10,7 +10,8 @@ use Rattle.columns.specs.Columns.{valueAt}
 use Rattle.lts.specs.Reply.{Reply, accepted, refusal, unless}
 use Rattle.lts.specs.Lists.{anyOf}
 use Rattle.lts.specs.Steps.{Step, Table}
-use Rattle.lts.specs.Names.{Marks, marked, isNameWith}
+use Rattle.lts.specs.Marks.{Marks, marked}
+use Rattle.lts.specs.Names.{isNameWith}
 use Rattle.lts.specs.Text.{headerLine, labelLine, transitionLine}
 
 -- A text's first line, without its LF, and what follows; or none, if no LF follows.
@@ -51,9 +52,6 @@ headerInRange h = leb 1 (h .states) && leb (h .states) mostStates && leb (h .lab
 -- A label's line: its number and its name.
 abbrev pub labelLaidOutWith : Marks → List ℕ → Bool
 labelLaidOutWith m l = sameBytes l (labelLine (valueAt 0 l) (drop 7 l)) && isNameWith m (drop 7 l)
-
-abbrev pub labelLaidOut : List ℕ → Bool
-labelLaidOut l = labelLaidOutWith marked l
 
 -- 01: "a label name used on an earlier line"
 abbrev pub used : List (List ℕ) → List ℕ → Bool
@@ -110,10 +108,6 @@ readTableWith m text =
     unless (headerLaidOut (headerOf l) l) 1 1 (
     unless (headerInRange (headerOf l)) 2 1 (
     readLabelsWith m (headerOf l) (headerOf l .labels) [] rest)))
-
--- Tables have marks.
-abbrev pub readLabels : Header → ℕ → List (List ℕ) → List ℕ → Reply Table
-readLabels h left names text = readLabelsWith marked h left names text
 
 abbrev pub readTable : List ℕ → Reply Table
 readTable text = readTableWith marked text

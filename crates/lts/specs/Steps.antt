@@ -2,12 +2,11 @@
 use mathlib.Core.Path.{_≡_}
 use mathlib.Core.Logic.{_⊎_}
 use mathlib.Core.Bool.{Bool, _||_}
-use mathlib.Core.List.{List, [], _∷_, _++_, List·Memᴰ}
-use Prim.Native.Nat.{ℕ, suc, _≤_}
+use mathlib.Core.List.{List, List·Memᴰ}
+use Prim.Native.Nat.{ℕ}
 use lib.Dec.{eqb}
 use lib.ListN.{length}
-use Rattle.lts.specs.Sizes.{mostLabels}
-use Rattle.lts.specs.Lists.{upFrom, keep, orElse}
+use Rattle.lts.specs.Idle.{idleLabel}
 
 pub record Step : Type 0 where
   pub from : ℕ
@@ -24,10 +23,6 @@ pub record Table : Type 0 where
 abbrev pub labels : Table → ℕ
 labels t = length (t .names)
 
--- 02: "The idle step now prints as label 99."
-abbrev pub idleLabel : ℕ
-idleLabel = 99
-
 -- 01: "Label 0 is the silent step." 02, of the idle step: "It still counts as silent in formulas"
 unfoldable pub silent : ℕ → Bool
 silent a = eqb a 0 || eqb a idleLabel
@@ -35,9 +30,6 @@ silent a = eqb a 0 || eqb a idleLabel
 -- 01: "A state without transitions is given a silent loop to itself, its idle step." Here with label i, and then with the idle label.
 abbrev pub loopAt : ℕ → ℕ → Step
 loopAt i s = record { from = s; label = i; to = s }
-
-abbrev pub idleAt : ℕ → Step
-idleAt s = loopAt idleLabel s
 
 abbrev pub Exitless : Table → ℕ → Type 0
 Exitless t s = (x : Step) → List·Memᴰ x (t .transitions) → x .from ≡ s → ⊥
@@ -48,18 +40,3 @@ IsStepWith i t st = List·Memᴰ st (t .transitions) ⊎ ((st ≡ loopAt i (st .
 
 abbrev pub IsStep : Table → Step → Type 0
 IsStep t st = IsStepWith idleLabel t st
-
-abbrev pub leaves : ℕ → Step → Bool
-leaves s st = eqb (st .from) s
-
--- The steps that leave s, in the table's order.
-unfoldable pub stepsFrom : Table → ℕ → List Step
-stepsFrom t s = orElse (keep (leaves s) (t .transitions)) (idleAt s ∷ [])
-
--- The labels that steps may carry, rising.
-abbrev pub alphabet : Table → List ℕ
-alphabet t = upFrom 0 (suc (labels t)) ++ (idleLabel ∷ [])
-
--- A label that a step of some table may carry.
-abbrev pub Carried : ℕ → Type 0
-Carried l = (l ≤ mostLabels) ⊎ (l ≡ idleLabel)

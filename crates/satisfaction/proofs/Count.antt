@@ -6,7 +6,7 @@ use mathlib.Core.List.{List, [], _∷_, List·Memᴰ, List·Memᴰ·not-nil, Lis
 use Prim.Native.Nat.{ℕ, suc, _≤_, _<_}
 use native.Mathlib.Omega.{arith}
 use lib.ListN.{length}
-use Rattle.satisfaction.specs.Count.{plus, count}
+use Rattle.satisfaction.specs.inner.Count.{plus, count}
 
 plus-le : (b : Bool) (m n : ℕ) → m ≤ n → plus b m ≤ suc n
 plus-le true m n h = omega arith

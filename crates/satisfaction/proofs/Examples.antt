@@ -1,11 +1,12 @@
 -- Worked examples: verdicts, run.
 use mathlib.Core.Path.{_≡_, refl}
 use mathlib.Core.List.{[]}
-use Rattle.lts.specs.Steps.{Table, silent, stepsFrom}
+use Rattle.lts.specs.Steps.{Table, silent}
+use Rattle.lts.specs.inner.Steps.{stepsFrom}
 use Rattle.lts.proofs.Examples.{M}
 use Rattle.actl.specs.Actions.{silent as silentStep, labels, inSet, meets, passes}
 use Rattle.actl.specs.Formulas.{tru, ex, ax, eu, euThen}
-use Rattle.satisfaction.specs.Holds.{holds, within, verdict}
+use Rattle.satisfaction.specs.inner.Holds.{holds, within, verdict}
 
 -- Over table M: `EU[*;ack] T` and `AX[req] T` hold, `AX[ack] T` and `EX[ack] T` do not.
 some-path-to-ack : verdict M (euThen 6 4 tru) ≡ 1

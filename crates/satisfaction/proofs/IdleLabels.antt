@@ -3,8 +3,9 @@ use mathlib.Core.Path.{_≡_, refl, sym, ap, _∙_, subst}
 use mathlib.Core.Logic.{_⊎_, inl, inr, _↔_, ⊎-map}
 use mathlib.Core.Bool.{Bool, true}
 use Prim.Native.Nat.{ℕ, suc}
-use Rattle.lts.specs.Steps.{Step, Table, idleLabel, silent, loopAt, Exitless, IsStepWith}
-use Rattle.lts.specs.Range.{InRange}
+use Rattle.lts.specs.Steps.{Step, Table, silent, loopAt, Exitless, IsStepWith}
+use Rattle.lts.specs.Idle.{idleLabel}
+use Rattle.lts.specs.inner.Range.{InRange}
 use Rattle.lts.proofs.Silence.{zero-silent, idle-silent}
 use Rattle.lts.proofs.StepsFrom.{idle-exactly}
 use Rattle.actl.specs.Actions.{Mask, Cond, inSet, meets, passes}
@@ -12,7 +13,7 @@ use Rattle.actl.specs.Formulas.{Formula, tru, not, or, ex, ax, eu, euThen}
 use Rattle.actl.proofs.Laws.Masks.{sets-alike, meets-alike, passes-alike}
 use Rattle.satisfaction.specs.Runs.{RunWith, Run}
 use Rattle.satisfaction.specs.Satisfaction.{SatWith}
-use Rattle.satisfaction.specs.Holds.{verdict}
+use Rattle.satisfaction.specs.inner.Holds.{verdict}
 use Rattle.satisfaction.specs.VerdictAsked.{TellsWhether}
 use Rattle.satisfaction.proofs.Verdicts.{verdict-is}
 

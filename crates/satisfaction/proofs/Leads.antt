@@ -7,14 +7,15 @@ use Prim.Native.Nat.{ℕ, zero, suc, _≤_, _<_}
 use native.Mathlib.Omega.{arith}
 use lib.ListN.{length}
 use Rattle.lts.specs.Lists.{anyOf}
-use Rattle.lts.specs.Steps.{Step, Table, IsStep, stepsFrom}
+use Rattle.lts.specs.Steps.{Step, Table, IsStep}
+use Rattle.lts.specs.inner.Steps.{stepsFrom}
 use Rattle.lts.proofs.Lists.{and-true-of, and-true-to, or-true-of, or-true-left, or-true-right, some-of, some-to}
 use Rattle.lts.proofs.StepsFrom.{From, steps-are}
 use Rattle.actl.specs.Actions.{Mask, passes}
 use Rattle.satisfaction.specs.Runs.{Run}
-use Rattle.satisfaction.specs.Holds.{within}
+use Rattle.satisfaction.specs.inner.Holds.{within}
 use Rattle.satisfaction.proofs.Runs.{onto, firstOf, past}
-use Rattle.satisfaction.specs.Count.{count}
+use Rattle.satisfaction.specs.inner.Count.{count}
 use Rattle.satisfaction.proofs.Count.{count-le, count-grows}
 
 -- Zero or more steps that pass lead from a state into the goal.

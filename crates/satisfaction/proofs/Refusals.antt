@@ -4,7 +4,7 @@ use Prim.Native.Nat.{ℕ}
 use Rattle.lts.specs.Reply.{accepted}
 use Rattle.actl.specs.Foreign.{RefusesForeign}
 use Rattle.actl.proofs.Laws.Foreign.{refuses-foreign}
-use Rattle.satisfaction.specs.Holds.{verdict}
+use Rattle.satisfaction.specs.inner.Holds.{verdict}
 use Rattle.satisfaction.specs.VerdictAsked.{verdictReplied}
 
 pub verdict-refuses-foreign : (table formula : List ℕ) → RefusesForeign table formula (verdictReplied table formula)

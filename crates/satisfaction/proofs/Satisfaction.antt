@@ -6,15 +6,17 @@ use mathlib.Core.List.{List, [], _∷_, List·Memᴰ}
 use Prim.Native.Nat.{ℕ, zero, suc, _<_}
 use native.Mathlib.Decide.{map-dec}
 use lib.ListN.{length}
-use Rattle.lts.specs.Lists.{anyOf, every}
-use Rattle.lts.specs.Steps.{Step, Table, IsStep, stepsFrom}
+use Rattle.lts.specs.Lists.{anyOf}
+use Rattle.lts.specs.inner.Lists.{every}
+use Rattle.lts.specs.Steps.{Step, Table, IsStep}
+use Rattle.lts.specs.inner.Steps.{stepsFrom}
 use Rattle.lts.proofs.Lists.{and-true-of, and-true-to, or-true-of, or-true-left, or-true-right, some-of, some-to, every-of, every-to}
 use Rattle.lts.proofs.StepsFrom.{From, steps-are}
 use Rattle.actl.specs.Actions.{Mask, inSet, Cond, meets, passes}
 use Rattle.actl.specs.Formulas.{Formula, tru, not, or, ex, ax, eu, euThen}
 use Rattle.satisfaction.specs.Runs.{Run}
 use Rattle.satisfaction.specs.Satisfaction.{Sat}
-use Rattle.satisfaction.specs.Holds.{within, enters, holds}
+use Rattle.satisfaction.specs.inner.Holds.{within, enters, holds}
 use Rattle.satisfaction.proofs.Runs.{any-run, onto, firstOf}
 use Rattle.satisfaction.proofs.Leads.{Leads, leads-map, within-is-leads, leads-ahead, ahead-leads}
 

@@ -8,8 +8,9 @@ use Prim.Native.Nat.{ℕ, zero, suc, _≤_}
 use native.Mathlib.Omega.{arith}
 use Rattle.lts.specs.Reply.{accepted}
 use Rattle.lts.specs.Directions.{labelDirection}
-use Rattle.lts.specs.Steps.{Step, Table, labels, idleLabel, silent, IsStep}
-use Rattle.lts.specs.Range.{InRange}
+use Rattle.lts.specs.Steps.{Step, Table, labels, silent, IsStep}
+use Rattle.lts.specs.Idle.{idleLabel}
+use Rattle.lts.specs.inner.Range.{InRange}
 use Rattle.lts.specs.Reading.{readTable}
 use Rattle.lts.proofs.Lists.{or-true-left, or-true-right}
 use Rattle.lts.proofs.StepsFrom.{step-labelled}
@@ -17,7 +18,8 @@ use Rattle.lts.proofs.Laws.Texts.{text-of-read}
 use Rattle.actl.specs.Actions.{Action, Mask, meets, passes}
 use Rattle.actl.specs.Formulas.{Formula, not}
 use Rattle.actl.specs.Grammar.{Set, existential, universal, reach, labelled, Conjunction, and, Term, modal}
-use Rattle.actl.specs.Meaning.{maskIn, formulaA, formulaT}
+use Rattle.actl.specs.Meaning.{maskIn}
+use Rattle.actl.specs.inner.Meaning.{formulaA, formulaT}
 use Rattle.actl.proofs.Laws.Masks.{mask-satisfied}
 use Rattle.satisfaction.specs.Satisfaction.{Sat}
 use Rattle.satisfaction.specs.ShortForms.{allLabels, both, somewhere, everywhere, afterSome, afterEvery, HoldsSomewhere, HoldsEverywhere, HoldsAfterSome, HoldsAfterEvery}

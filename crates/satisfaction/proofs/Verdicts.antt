@@ -10,7 +10,7 @@ use Rattle.lts.specs.Steps.{Table}
 use Rattle.actl.specs.Formulas.{Formula}
 use Rattle.actl.proofs.Laws.Replies.{on-prepared-accepted}
 use Rattle.satisfaction.specs.Satisfaction.{Sat}
-use Rattle.satisfaction.specs.Holds.{holds, verdict}
+use Rattle.satisfaction.specs.inner.Holds.{holds, verdict}
 use Rattle.satisfaction.specs.VerdictAsked.{verdictReplied, TellsWhether, VerdictIs, VerdictAnswered}
 use Rattle.satisfaction.proofs.Satisfaction.{holds-is-satisfaction}
 

@@ -1,7 +1,8 @@
 -- Unending paths.
 use mathlib.Core.Path.{_≡_}
 use Prim.Native.Nat.{ℕ, suc}
-use Rattle.lts.specs.Steps.{Step, Table, idleLabel, IsStepWith}
+use Rattle.lts.specs.Steps.{Step, Table, IsStepWith}
+use Rattle.lts.specs.Idle.{idleLabel}
 
 -- 01: "An unending run from the start is a function that gives each whole number from 0 a step of the table, idle steps included: step 0
 -- leaves the start, each later one the state that the one before reached." The same from any state s, if idle steps carry label i.

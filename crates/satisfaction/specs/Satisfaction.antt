@@ -3,7 +3,8 @@ use mathlib.Core.Path.{_≡_}
 use mathlib.Core.Logic.{_⊎_}
 use mathlib.Core.Bool.{true}
 use Prim.Native.Nat.{ℕ, _<_}
-use Rattle.lts.specs.Steps.{Table, idleLabel}
+use Rattle.lts.specs.Steps.{Table}
+use Rattle.lts.specs.Idle.{idleLabel}
 use Rattle.actl.specs.Actions.{inSet, meets, passes}
 use Rattle.actl.specs.Formulas.{Formula, tru, not, or, ex, ax, eu, euThen}
 use Rattle.satisfaction.specs.Runs.{RunWith}

@@ -9,7 +9,7 @@ use Rattle.actl.specs.Formulas.{Formula}
 use Rattle.actl.specs.FormulaReading.{onPrepared}
 use Rattle.actl.specs.InPrepared.{InPrepared}
 use Rattle.satisfaction.specs.Satisfaction.{Sat}
-use Rattle.satisfaction.specs.Holds.{verdict}
+use Rattle.satisfaction.specs.inner.Holds.{verdict}
 
 unfoldable pub verdictReplied : List ℕ → List ℕ → Reply ℕ
 verdictReplied table formula = onPrepared table formula (λ t F. accepted (verdict t F))

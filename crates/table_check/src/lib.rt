@@ -21,13 +21,14 @@ use tables::prepared::transition_count;
 ghost use mathlib.Core.Path.{_≡_};
 ghost use Prim.Native.Nat.{_+_, _*_, _≤_, _<_};
 ghost use lib.ListN.{length};
-ghost use Rattle.lts.specs.Sizes.{mostLabels, mostTransitions, headLength, nameSlotLength, tableLength};
+ghost use Rattle.lts.specs.Sizes.{mostLabels, mostTransitions, nameSlotLength, tableLength};
+ghost use Rattle.lts.specs.inner.Sizes.{headLength};
 ghost use Rattle.lts.specs.Steps.{labels};
-ghost use Rattle.lts.specs.Names.{longestName};
-ghost use Rattle.lts.specs.Prepared.{tableIn, byteAt, preparedTable};
-ghost use Rattle.lts.specs.Answers.{Decides, isSome};
-ghost use Rattle.table_check.specs.Filled.{NamesFilled, TransitionsFilled};
-ghost use Rattle.lts.specs.Check.{ZerosFrom, CountsHeld, NameHeld, NewName, NamesHeld, TransitionHeld, TransitionsHeld};
+ghost use Rattle.lts.specs.inner.Sizes.{longestName};
+ghost use Rattle.lts.specs.inner.Prepared.{tableIn, byteAt, preparedTable};
+ghost use Rattle.lts.specs.inner.Answers.{Decides, isSome};
+ghost use Rattle.table_check.specs.inner.Filled.{NamesFilled, TransitionsFilled};
+ghost use Rattle.lts.specs.inner.Check.{ZerosFrom, CountsHeld, NameHeld, NewName, NamesHeld, TransitionHeld, TransitionsHeld};
 
 pub fn is_prepared(table: &[u8]) -> bool
     ensures { λ r. ⌜ r ≡ isSome (preparedTable (now (table .entry))) ⌝ }

@@ -1,1 +1,1 @@
-pub mod LineReplies
+pub mod inner

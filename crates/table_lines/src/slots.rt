@@ -5,11 +5,11 @@ ghost use mathlib.Core.Path.{_≡_};
 ghost use Prim.Native.Nat.{_+_, _*_, _<_, _≤_};
 ghost use lib.ListN.{length};
 ghost use Rattle.lts.specs.Sizes.{mostTransitions, nameSlotLength, transitionLength, transitionsLength};
-ghost use Rattle.columns.specs.Write.{pasted};
-ghost use Rattle.lts.specs.Names.{longestName};
+ghost use Rattle.columns.specs.inner.Write.{pasted};
+ghost use Rattle.lts.specs.inner.Sizes.{longestName};
 ghost use Rattle.lts.specs.Prepared.{transitionSlot};
-ghost use Rattle.lts.specs.Slots.{risesAfter, counted};
-ghost use Rattle.tables.specs.Access.{stepIn};
+ghost use Rattle.lts.specs.inner.Slots.{risesAfter, counted};
+ghost use Rattle.tables.specs.inner.Access.{stepIn};
 use tables::prepared::Transition;
 use tables::prepared::below;
 

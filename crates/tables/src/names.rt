@@ -12,13 +12,14 @@ ghost use lib.ListN.{length};
 ghost use Rattle.lts.specs.Sizes.{mostLabels, nameSlotLength, tableLength};
 ghost use Rattle.columns.specs.Bytes.{sameBytes};
 ghost use Rattle.lts.specs.Steps.{labels};
-ghost use Rattle.lts.specs.Names.{longestName, isLower, isNameByte, lookup};
+ghost use Rattle.lts.specs.inner.Sizes.{longestName};
+ghost use Rattle.lts.specs.Names.{isLower, isNameByte, lookup};
 ghost use Rattle.lts.specs.Directions.{labelDirection, directionCode, sameDirection};
-ghost use Rattle.lts.specs.NameEnds.{stemEnd, nameEnd, nameDirection};
-ghost use Rattle.lts.specs.Prepared.{tableIn};
-ghost use Rattle.lts.specs.HoldsTable.{HoldsTable};
-ghost use Rattle.lts.specs.Slots.{storedName, storedNames};
-ghost use Rattle.tables.specs.Access.{foundIn, directionIn, NameStands};
+ghost use Rattle.lts.specs.inner.NameEnds.{stemEnd, nameEnd, nameDirection};
+ghost use Rattle.lts.specs.inner.Prepared.{tableIn};
+ghost use Rattle.lts.specs.inner.HoldsTable.{HoldsTable};
+ghost use Rattle.lts.specs.inner.Slots.{storedName, storedNames};
+ghost use Rattle.tables.specs.inner.Access.{foundIn, directionIn, NameStands};
 
 // 02: "its direction (none, in, out)"
 pub enum Direction {

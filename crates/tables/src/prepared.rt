@@ -9,10 +9,10 @@ ghost use Prim.Native.Nat.{_+_, _*_, _≤_, _<_};
 ghost use lib.ListN.{length};
 ghost use Rattle.lts.specs.Sizes.{mostTransitions, tableLength};
 ghost use Rattle.lts.specs.Steps.{labels};
-ghost use Rattle.lts.specs.Prepared.{tableIn, byteAt};
+ghost use Rattle.lts.specs.inner.Prepared.{tableIn, byteAt};
 ghost use Rattle.lts.specs.Reading.{stepBelow};
-ghost use Rattle.tables.specs.Access.{StepRead, stepIn};
-ghost use Rattle.lts.specs.Answers.{Counted};
+ghost use Rattle.tables.specs.inner.Access.{StepRead, stepIn};
+ghost use Rattle.lts.specs.inner.Answers.{Counted};
 
 pub struct Transition {
     pub from: usize,

@@ -22,12 +22,12 @@ ghost use Prim.Native.Nat.{_+_, _^_, _<_, _≤_};
 ghost use lib.Dec.{eqb};
 ghost use lib.ListN.{length, getD};
 ghost use Rattle.actl.specs.Sizes.{mostNodes, formulaLength};
-ghost use Rattle.automaton.specs.Sizes.{placeCount, columnCount};
-ghost use Rattle.lts.specs.Steps.{Carried};
+ghost use Rattle.automaton.specs.inner.Sizes.{placeCount, columnCount};
+ghost use Rattle.lts.specs.inner.Steps.{Carried};
 ghost use Rattle.actl.specs.Actions as actions;
 ghost use Rattle.actl.specs.Formulas.{Formula};
-ghost use Rattle.actl.specs.Prepared.{slotAt};
-ghost use Rattle.target_masks.specs.Masks.{bitIf, columnOf, maskOn, maskOfNode, finalOfNode, Spells, MasksFit, MasksOf, MasksOn, FinalsOf};
+ghost use Rattle.actl.specs.inner.Prepared.{slotAt};
+ghost use Rattle.target_masks.specs.inner.Masks.{bitIf, columnOf, maskOn, maskOfNode, finalOfNode, Spells, MasksFit, MasksOf, MasksOn, FinalsOf};
 
 // Bit k, if it is wanted.
 fn bit_if(wanted: bool, k: usize) -> u64

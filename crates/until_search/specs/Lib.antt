@@ -1,3 +1,1 @@
-pub mod Flags
-pub mod Links
-pub mod Queue
+pub mod inner

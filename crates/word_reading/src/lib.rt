@@ -20,11 +20,12 @@ pub mod frontiers;
 
 ghost use mathlib.Core.Path.{_≡_};
 ghost use Prim.Native.Nat.{ℕ, _<_, _≤_};
-ghost use Rattle.lts.specs.Sizes.{mostStates, mostSteps};
-ghost use Rattle.lts.specs.Steps.{Carried};
-ghost use Rattle.tables.specs.StepArray.{stepAt, stepsIn, StepsFit};
-ghost use Rattle.frontier.specs.Frontier.{nowhere, allPlaces};
-ghost use Rattle.frontier.specs.Reached.{targetsOf, stepTaken, stepsTaken, placesRead, letterRead, wordRead, rootReached, Letters};
+ghost use Rattle.lts.specs.Sizes.{mostStates};
+ghost use Rattle.lts.specs.inner.Sizes.{mostSteps};
+ghost use Rattle.lts.specs.inner.Steps.{Carried};
+ghost use Rattle.tables.specs.inner.StepArray.{stepAt, stepsIn, StepsFit};
+ghost use Rattle.frontier.specs.inner.Frontier.{nowhere, allPlaces};
+ghost use Rattle.frontier.specs.inner.Reached.{targetsOf, stepTaken, stepsTaken, placesRead, letterRead, wordRead, rootReached, Letters};
 
 pub fn wide(letter: u8) -> usize
     ensures { λ r. ⌜ r ≡ letter ⌝ }

@@ -20,15 +20,15 @@ ghost use Prim.Native.Nat.{_≤_};
 ghost use Rattle.actl.specs.Sizes.{mostNodes};
 ghost use Rattle.lts.specs.Reply.{accepted};
 ghost use Rattle.lts.specs.Steps.{labels};
-ghost use Rattle.lts.specs.Prepared.{tableIn};
-ghost use Rattle.tables.specs.Access.{foundIn};
-ghost use Rattle.lts.specs.HoldsTable.{HoldsTable};
-ghost use Rattle.actl.specs.HoldsFormula.{HoldsFormula};
+ghost use Rattle.lts.specs.inner.Prepared.{tableIn};
+ghost use Rattle.tables.specs.inner.Access.{foundIn};
+ghost use Rattle.lts.specs.inner.HoldsTable.{HoldsTable};
+ghost use Rattle.actl.specs.inner.HoldsFormula.{HoldsFormula};
 ghost use Rattle.automaton.specs.Bytes.{bitOf};
 ghost use Rattle.words.specs.Replies.{wordReply};
 ghost use Rattle.automaton.specs.WordAsked.{isBad, badLetter, wordReplied, WordAnswered};
-ghost use Rattle.frontier.specs.Reached.{finalPlace, someFinal, Letters, AcceptsAnswer};
-ghost use Rattle.words.specs.Answered.{Answered};
+ghost use Rattle.frontier.specs.inner.Reached.{finalPlace, someFinal, Letters, AcceptsAnswer};
+ghost use Rattle.words.specs.inner.Answered.{Answered};
 
 // What `accepts` answers. specs/Replies.antt lists the number and the figure of each case.
 pub enum WordReply {

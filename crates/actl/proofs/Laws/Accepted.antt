@@ -22,8 +22,9 @@ use Rattle.actl.specs.WrittenOut.{writtenOut}
 use Rattle.actl.specs.Meaning.{actionOfSet, maskIn, condOf, nextOf, modalOf, formulaOf, formulaOfTerm}
 use Rattle.actl.specs.Mentions.{namesF}
 use Rattle.actl.specs.Prepared.{slotOf, formulaBytes, maskWithin, slotWithin, IsForm}
-use Rattle.actl.specs.Reader.{Result, whole, refused, read}
-use Rattle.actl.specs.Reading.{unlessFound, firstUnknown, withClasses, onResult, readFormula}
+use Rattle.actl.specs.inner.Reader.{Result, whole, refused, read}
+use Rattle.actl.specs.Reading.{unlessFound, firstUnknown, withClasses}
+use Rattle.actl.specs.inner.Reading.{onResult, readFormula}
 use Rattle.actl.proofs.Laws.Classed.{all-classed}
 use Rattle.actl.proofs.Laws.Masks.{mask-within}
 use Rattle.actl.proofs.Laws.Prepared.{has-form}

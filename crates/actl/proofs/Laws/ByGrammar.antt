@@ -13,13 +13,14 @@ use Rattle.actl.specs.Sizes.{formulaLength, longestText}
 use Rattle.lts.specs.Sizes.{tableLength}
 use Rattle.lts.specs.Reply.{Reply, accepted, refusal, unless, answers}
 use Rattle.lts.specs.Steps.{Table}
-use Rattle.lts.specs.Names.{Marks, marked}
-use Rattle.lts.specs.Prepared.{preparedTable}
+use Rattle.lts.specs.Marks.{Marks, marked}
+use Rattle.lts.specs.inner.Prepared.{preparedTable}
 use Rattle.lts.proofs.Laws.Refusals.{Between, numbered-of, same-refusal, unless-refused, answers-refused}
 use Rattle.actl.specs.Formulas.{Formula}
-use Rattle.actl.specs.Grammar.{Grammatical, Longest}
-use Rattle.actl.specs.Reader.{Result, whole, refused, read}
-use Rattle.actl.specs.Reading.{onTree, onResult, readFormula}
+use Rattle.actl.specs.Grammatical.{Grammatical, Longest}
+use Rattle.actl.specs.inner.Reader.{Result, whole, refused, read}
+use Rattle.actl.specs.Reading.{onTree}
+use Rattle.actl.specs.inner.Reading.{onResult, readFormula}
 use Rattle.actl.specs.FormulaReading.{withTable, onTable, formulaReading, formulaReplied, formulaLeft}
 use Rattle.actl.specs.ByGrammar.{ReadBy, long, ungrammatical, grammatical, FormulaByGrammar}
 use Rattle.actl.proofs.Grammar.{read-text, read-refused, refused-text}

@@ -12,11 +12,11 @@ use lib.Dec.{leb, ltb, eqb}
 use lib.ListN.{length, getD}
 use lib.Pow.{pow-pos, pow-mono}
 use borrow.Author.Tests.{eq-eqb, ne-eqb, eqb-true, eqb-false, lt-ltb, le-ltb, lt-leb, le-leb}
-use Rattle.lts.specs.Lists.{upFrom, every}
+use Rattle.lts.specs.inner.Lists.{upFrom, every}
 use Rattle.lts.proofs.Lists.{upFrom-to, every-of, and-true-of}
 use Rattle.actl.specs.Prepared.{Slot, slot, maskWithin, slotWithin}
-use Rattle.actl.specs.Shaped.{shaped, firstUsed, secondUsed}
-use Rattle.actl.specs.Check.{slotFits}
+use Rattle.actl.specs.inner.Shaped.{shaped, firstUsed, secondUsed}
+use Rattle.actl.specs.inner.Check.{slotFits}
 
 -- Masks within n labels.
 module _ (n m : ℕ) where

@@ -12,7 +12,7 @@ use lib.ListN.{length, getD, drop, drop-of-length-le}
 use lib.Seq.{drop-cons}
 use borrow.Author.Tests.{eqb-false, eq-eqb, ne-eqb}
 use Rattle.actl.specs.Formulas.{Formula, tru, not, or, ex, ax, eu, euThen, nodes, isT, classOf, classOfNot, classOfOr, classOfSome, classOfAll, hasNoClass, highestFrom, highestWithoutClass}
-use Rattle.actl.specs.Walk.{lastNone}
+use Rattle.actl.specs.inner.Walk.{lastNone}
 
 -- A node whose arm has no class has none.
 none-all : (f : Formula) → classOf f ≡ 0 → classOfAll (isT f) (classOf f) ≡ 0

@@ -7,11 +7,13 @@ use lib.ListN.{length}
 use borrow.Author.Tests.{le-leb}
 use Rattle.actl.specs.Sizes.{longestText}
 use Rattle.lts.specs.Reply.{refusal, unless}
-use Rattle.lts.specs.Names.{marked}
-use Rattle.actl.specs.Grammar.{Disjunction, Text}
+use Rattle.lts.specs.Marks.{marked}
+use Rattle.actl.specs.Grammar.{Disjunction}
+use Rattle.actl.specs.Grammatical.{Text}
 use Rattle.actl.specs.Base.{Base, typed, BaseText}
 use Rattle.actl.specs.WrittenOut.{writtenOut}
-use Rattle.actl.specs.Reading.{onTree, onResult, readUnlimited, readFormula}
+use Rattle.actl.specs.Reading.{onTree}
+use Rattle.actl.specs.inner.Reading.{onResult, readUnlimited, readFormula}
 use Rattle.actl.specs.Expansion.{expansion, SameAnswer, same, lacking}
 use Rattle.actl.proofs.Marks.{formula-fits}
 use Rattle.actl.proofs.Grammar.{read-text, one-tree}

@@ -11,14 +11,16 @@ use borrow.Author.Tests.{leb-true, le-leb}
 use Rattle.lts.specs.Sizes.{tableLength, mostLabels}
 use Rattle.lts.specs.Reply.{Reply, refusal, unless, answers}
 use Rattle.lts.specs.Steps.{Table, labels}
-use Rattle.lts.specs.Prepared.{LeftByReading, preparedTable}
+use Rattle.lts.specs.Prepared.{LeftByReading}
+use Rattle.lts.specs.inner.Prepared.{preparedTable}
 use Rattle.lts.proofs.Laws.Prepared.{prepared-of, prepared-to, prepared-left}
 use Rattle.lts.proofs.Laws.Refusals.{Numbered, Between, numbered-of, unless-refused, answers-refused}
 use Rattle.lts.proofs.Laws.Texts.{text-of-read}
 use Rattle.actl.specs.Sizes.{formulaLength}
 use Rattle.actl.specs.Formulas.{Formula}
-use Rattle.actl.specs.Prepared.{FormOfSome, preparedFormula}
-use Rattle.actl.specs.Reading.{readFormula}
+use Rattle.actl.specs.Prepared.{FormOfSome}
+use Rattle.actl.specs.inner.Prepared.{preparedFormula}
+use Rattle.actl.specs.inner.Reading.{readFormula}
 use Rattle.actl.specs.FormulaReading.{withTable, withFormula, longEnough, onPrepared, onTable, formulaReading, formulaReplied}
 use Rattle.actl.specs.Foreign.{LongEnough, TableForeign, FormulaForeign, RefusesForeign}
 use Rattle.actl.proofs.Laws.Prepared.{prepared-form}

@@ -9,7 +9,8 @@ use Rattle.actl.specs.Sizes.{mostNodes, nodeSlotLength, formulaLength}
 use Rattle.columns.specs.Bytes.{padded, lowFirst}
 use Rattle.lts.specs.Lists.{bind}
 use Rattle.actl.specs.Formulas.{Formula, tru, size, nodes}
-use Rattle.actl.specs.Prepared.{Slot, slot, slotOf, slotBytes, formulaBytes, number, slotAt}
+use Rattle.actl.specs.Prepared.{Slot, slot, slotOf, slotBytes, formulaBytes}
+use Rattle.actl.specs.inner.Prepared.{number, slotAt}
 use Rattle.actl.proofs.Nodes.{length-nodes}
 use Rattle.actl.proofs.Laws.Numbers.{length-low-first, number-low-first, number-take}
 use Rattle.actl.proofs.Laws.Slots.{Shape, shape-of, node-shaped}

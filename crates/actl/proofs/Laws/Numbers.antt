@@ -8,7 +8,7 @@ use native.Mathlib.Omega.{arith}
 use lib.ListN.{length, getD, drop, take}
 use lib.Seq.{drop-drop, getD-drop, getD-take}
 use Rattle.columns.specs.Bytes.{lowFirst}
-use Rattle.actl.specs.Prepared.{number}
+use Rattle.actl.specs.inner.Prepared.{number}
 
 -- Four bytes, in two pairs; eight bytes, in two fours.
 pub number-of-four : (b : List ℕ) (at : ℕ)

@@ -13,8 +13,9 @@ use Rattle.lts.specs.Lists.{bind}
 use Rattle.lts.proofs.Lists.{map-append}
 use Rattle.actl.specs.Actions.{Mask, Cond, silent, labels}
 use Rattle.actl.specs.Formulas.{Formula, tru, not, or, ex, ax, eu, euThen, nodes}
-use Rattle.actl.specs.Prepared.{Slot, slot, slotOf, push, pushOn, treesIn, one, two, chosen}
-use Rattle.actl.specs.Shaped.{firstUsed, secondUsed}
+use Rattle.actl.specs.Prepared.{Slot, slot, slotOf}
+use Rattle.actl.specs.inner.Prepared.{push, pushOn, treesIn, one, two, chosen}
+use Rattle.actl.specs.inner.Shaped.{firstUsed, secondUsed}
 
 -- A slot without the masks that its kind does not have.
 abbrev cleaned : ℕ → Mask → Mask → Slot

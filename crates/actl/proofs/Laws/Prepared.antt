@@ -14,15 +14,17 @@ use lib.Seq.{getD-take, ext-getD, take-at}
 use borrow.Author.Tests.{leb-true, le-leb, eqb-false, ne-eqb, not-true}
 use Rattle.actl.specs.Sizes.{mostNodes, formulaLength}
 use Rattle.lts.specs.Sizes.{mostLabels}
-use Rattle.lts.specs.Answers.{isSome, Decides}
+use Rattle.lts.specs.inner.Answers.{isSome, Decides}
 use Rattle.columns.specs.Bytes.{sameBytes}
-use Rattle.lts.specs.Lists.{upFrom, bind, every}
+use Rattle.lts.specs.inner.Lists.{upFrom, every}
+use Rattle.lts.specs.Lists.{bind}
 use Rattle.lts.proofs.Laws.Prepared.{is-some-of}
 use Rattle.lts.proofs.Lists.{and-true-of, and-true-to, every-of, every-to, getD-mem}
 use Rattle.actl.specs.Actions.{Mask}
 use Rattle.actl.specs.Formulas.{Formula, tru, size, nodes, classOf}
-use Rattle.actl.specs.Prepared.{Slot, slot, slotOf, formulaBytes, slotAt, maskWithin, slotWithin, IsForm, FormOfSome, isForm, treesIn, formed, preparedFormula}
-use Rattle.actl.specs.Shaped.{shaped, firstUsed, secondUsed}
+use Rattle.actl.specs.Prepared.{Slot, slot, slotOf, formulaBytes, maskWithin, slotWithin, IsForm, FormOfSome}
+use Rattle.actl.specs.inner.Prepared.{slotAt, isForm, treesIn, formed, preparedFormula}
+use Rattle.actl.specs.inner.Shaped.{shaped, firstUsed, secondUsed}
 use Rattle.actl.proofs.Nodes.{length-nodes}
 use Rattle.actl.proofs.Laws.Lists.{length-upFrom, getD-upFrom, same-bytes-of, same-bytes-refl}
 use Rattle.actl.proofs.Laws.Masks.{within-low}

@@ -11,11 +11,13 @@ use lib.Seq.{drop-cons, drop-drop, take-add, take-nil, length-take-le, getD-take
 use borrow.Author.Tests.{eqb-true}
 use Rattle.actl.specs.Sizes.{mostNodes, nodeSlotLength, formulaLength}
 use Rattle.columns.specs.Bytes.{padded, lowFirst}
-use Rattle.lts.specs.Lists.{upFrom, bind, every}
+use Rattle.lts.specs.inner.Lists.{upFrom, every}
+use Rattle.lts.specs.Lists.{bind}
 use Rattle.lts.proofs.Lists.{upFrom-to, upFrom-snoc, every-of, bind-append}
 use Rattle.actl.specs.Formulas.{Formula, size, nodes}
-use Rattle.actl.specs.Prepared.{Slot, slotOf, slotBytes, formulaBytes, number, slotAt}
-use Rattle.actl.specs.Check.{zerosFrom}
+use Rattle.actl.specs.Prepared.{Slot, slotOf, slotBytes, formulaBytes}
+use Rattle.actl.specs.inner.Prepared.{number, slotAt}
+use Rattle.actl.specs.inner.Check.{zerosFrom}
 use Rattle.actl.proofs.Nodes.{length-nodes}
 use Rattle.actl.proofs.Laws.Lists.{length-upFrom}
 

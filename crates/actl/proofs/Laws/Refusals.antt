@@ -13,8 +13,9 @@ use Rattle.actl.specs.Grammar.{Disjunction}
 use Rattle.actl.specs.WrittenOut.{writtenOut}
 use Rattle.actl.specs.Meaning.{formulaOf}
 use Rattle.actl.specs.Mentions.{namesF}
-use Rattle.actl.specs.Reader.{Result, whole, refused, read}
-use Rattle.actl.specs.Reading.{unlessFound, firstUnknown, onTree, onResult, readFormula}
+use Rattle.actl.specs.inner.Reader.{Result, whole, refused, read}
+use Rattle.actl.specs.Reading.{unlessFound, firstUnknown, onTree}
+use Rattle.actl.specs.inner.Reading.{onResult, readFormula}
 
 pub numbered-found : {A : Type 0} (P : ℕ → Type 0) (o : Option ℕ) (n : ℕ) (r : Reply A) → P n → Numbered P r → Numbered P (unlessFound o n r)
 numbered-found P none n r h o = o

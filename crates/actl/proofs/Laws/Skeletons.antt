@@ -7,8 +7,9 @@ use Prim.Native.Nat.{ℕ, zero, suc, _+_}
 use Rattle.lts.proofs.Lists.{map-append}
 use Rattle.actl.specs.Actions.{Mask, Cond, silent, labels}
 use Rattle.actl.specs.Formulas.{Formula, tru, not, or, ex, ax, eu, euThen, size, nodes, isT, classOf, classOfNot, classOfOr, classOfSome, classOfAll}
-use Rattle.actl.specs.Prepared.{Slot, slot, slotOf, treesIn}
-use Rattle.actl.specs.Walk.{kindOf, kindsOf, armOf, endsFrom, classesOf}
+use Rattle.actl.specs.Prepared.{Slot, slot, slotOf}
+use Rattle.actl.specs.inner.Prepared.{treesIn}
+use Rattle.actl.specs.inner.Walk.{kindOf, kindsOf, armOf, endsFrom, classesOf}
 use Rattle.actl.proofs.Laws.Polish.{tree-of-slots}
 
 abbrev skeletonCond : Cond → Cond

@@ -9,7 +9,7 @@ use Rattle.lts.proofs.Lists.{and-true-of}
 use Rattle.actl.specs.Actions.{Mask, Cond, silent, labels}
 use Rattle.actl.specs.Formulas.{Formula, tru, not, or, ex, ax, eu, euThen}
 use Rattle.actl.specs.Prepared.{Slot, slot, slotOf}
-use Rattle.actl.specs.Shaped.{shaped, firstUsed, secondUsed}
+use Rattle.actl.specs.inner.Shaped.{shaped, firstUsed, secondUsed}
 
 pub slot-by-parts : (s : Slot) {k a b : ℕ} → s .kind ≡ k → s .first ≡ a → s .second ≡ b → slot k a b ≡ s
 slot-by-parts s e f g = λ i. slot (sym e i) (sym f i) (sym g i)

@@ -7,12 +7,12 @@ use native.Mathlib.Omega.{arith}
 use lib.Dec.{eqb}
 use lib.ListN.{getD}
 use borrow.Author.Tests.{eqb-true, ne-eqb}
-use Rattle.lts.specs.Lists.{upFrom, every}
+use Rattle.lts.specs.inner.Lists.{upFrom, every}
 use Rattle.lts.proofs.Lists.{upFrom-to, every-of}
 use Rattle.actl.specs.Actions.{Mask, Cond, silent, labels}
 use Rattle.actl.specs.Formulas.{Formula, tru, not, or, ex, ax, eu, euThen, isT, classOf, classOfNot, classOfOr, classOfSome, classOfAll}
 use Rattle.actl.specs.Prepared.{nextSlot}
-use Rattle.actl.specs.Walk.{armOf, classOfArm, classFrom}
+use Rattle.actl.specs.inner.Walk.{armOf, classOfArm, classFrom}
 
 -- A row for each kind, by the arm.
 abbrev pub classes : List (List ℕ)

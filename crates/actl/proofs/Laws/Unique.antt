@@ -12,8 +12,9 @@ use borrow.Author.Tests.{le-leb}
 use Rattle.lts.proofs.Lists.{map-append}
 use Rattle.actl.specs.Actions.{Mask, Cond, silent, labels}
 use Rattle.actl.specs.Formulas.{Formula, tru, not, or, ex, ax, eu, euThen, size, nodes, isT, classOf}
-use Rattle.actl.specs.Prepared.{Slot, slot, slotOf, treesIn}
-use Rattle.actl.specs.Walk.{kindOf, kindsOf, kindAt, armOf, endsFrom, classesOf, Spelled, Traversed}
+use Rattle.actl.specs.Prepared.{Slot, slot, slotOf}
+use Rattle.actl.specs.inner.Prepared.{treesIn}
+use Rattle.actl.specs.inner.Walk.{kindOf, kindsOf, kindAt, armOf, endsFrom, classesOf, Spelled, Traversed}
 use Rattle.actl.proofs.Nodes.{size-pos}
 use Rattle.actl.proofs.Laws.Polish.{tree-of-slots}
 use Rattle.actl.proofs.Laws.Walks.{kind-here, drop-part, length-kinds}

@@ -14,7 +14,7 @@ use lib.Seq.{sets, drop-cons, drop-append-seam, drop-drop}
 use Rattle.lts.proofs.Lists.{map-append}
 use Rattle.actl.specs.Actions.{Mask, Cond, silent, labels}
 use Rattle.actl.specs.Formulas.{Formula, tru, not, or, ex, ax, eu, euThen, size, nodes, isT, classOf, classOfOr}
-use Rattle.actl.specs.Walk.{kindOf, kindsOf, kindAt, armOf, classOfArm, classFrom, endsFrom, classesOf, Spelled, Traversed}
+use Rattle.actl.specs.inner.Walk.{kindOf, kindsOf, kindAt, armOf, classOfArm, classFrom, endsFrom, classesOf, Spelled, Traversed}
 use Rattle.actl.proofs.Nodes.{length-nodes}
 use Rattle.actl.proofs.Laws.Sets.{set-before, sets-append}
 use Rattle.actl.proofs.Laws.Table.{class-of-not, class-of-ex, class-of-ax, class-of-eu, class-of-euThen, class-of-or}

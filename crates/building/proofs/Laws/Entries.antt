@@ -5,21 +5,22 @@ use mathlib.Core.Option.{some}
 use Prim.Native.Nat.{ℕ}
 use Rattle.lts.specs.Reply.{Reply, leftIn, answers}
 use Rattle.lts.specs.Steps.{Table, labels}
-use Rattle.lts.specs.Prepared.{tableIn}
+use Rattle.lts.specs.inner.Prepared.{tableIn}
 use Rattle.actl.specs.Formulas.{Formula}
-use Rattle.actl.specs.Prepared.{preparedFormula}
+use Rattle.actl.specs.inner.Prepared.{preparedFormula}
 use Rattle.formula_check.specs.Inputs.{inputsReply}
 use Rattle.formula_check.specs.declared.inputs.Unprepared.{Unprepared}
 use Rattle.formula_check.specs.declared.inputs.Inputs.{Inputs}
 use Rattle.formula_check.specs.declared.inputs.Inputs.the-variants as inputs
 use Rattle.formula_check.proofs.Laws.Inputs.{checked, Both, goes-on, inputs-refused}
-use Rattle.automaton.specs.Listing.{Listing, listing}
+use Rattle.automaton.specs.Listing.{Listing}
+use Rattle.automaton.specs.inner.Search.{listing}
 use Rattle.automaton.specs.Bytes.{rowsBytes, edgesBytes}
 use Rattle.building.specs.Replies.{buildReply}
 use Rattle.automaton.specs.Build.{counts, fitted, built, buildReplied, rowsLeft, edgesLeft}
 use Rattle.explanations.specs.Demands.{FromPrepared}
 use Rattle.explanations.proofs.Demands.{building-explains}
-use Rattle.building.specs.LaidOut.{LaidOut}
+use Rattle.building.specs.inner.LaidOut.{LaidOut}
 use Rattle.building.specs.declared.BuildReply.{BuildReply}
 use Rattle.building.specs.declared.BuildReply.the-variants.{Refused}
 

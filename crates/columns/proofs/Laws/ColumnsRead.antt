@@ -12,7 +12,7 @@ use lib.ListN.{length, replicate, take, drop, length-append, length-replicate, l
 use lib.Seq.{take-all}
 use Rattle.columns.specs.Bytes.{sameBytes}
 use Rattle.columns.specs.Columns.{digitsWithin, decimal, column, valueFrom, valueAt}
-use Rattle.columns.specs.Read.{columnAt, columnIf, lead}
+use Rattle.columns.specs.inner.Read.{columnAt, columnIf, lead}
 use Rattle.columns.specs.declared.Column.the-variants.{Number, Bad}
 pub use Rattle.columns.proofs.Laws.Columns.{column-length, value-column}
 use Rattle.columns.proofs.Laws.Compared.{same-equal, same-of-unequal, unequal-of-same, Each, each-append, each-take}

@@ -6,7 +6,7 @@ use native.Mathlib.Numerals.{add-one}
 use native.Mathlib.Omega.{arith}
 use lib.ListN.{length, getD, take, drop, set, length-drop}
 use lib.Seq.{paste, paste-zero, paste-suc, length-paste, getD-drop, take-all}
-use Rattle.columns.specs.Write.{pasted}
+use Rattle.columns.specs.inner.Write.{pasted}
 
 pub record Copying (buffer : List ℕ) (at : ℕ) (bytes : List ℕ) (from : ℕ) (out : List ℕ) (i : ℕ) : Type 0 where
   pub is : out ≡ paste buffer at (drop from bytes) i

@@ -7,8 +7,9 @@ use native.Mathlib.Numerals.{add-one}
 use native.Mathlib.Omega.{arith}
 use lib.ListN.{length, getD, take, drop, set, length-append, length-drop, take-append-drop}
 use lib.Seq.{take-at, drop-append-add, drop-drop, drop-at, length-take-le, set-split, take-suc}
-use Rattle.columns.specs.Columns.{column, numbersLine}
-use Rattle.columns.specs.Write.{pasted}
+use Rattle.columns.specs.Columns.{column}
+use Rattle.columns.specs.Lines.{numbersLine}
+use Rattle.columns.specs.inner.Write.{pasted}
 
 pub record Pasting (buffer : List ℕ) (at : ℕ) (text out : List ℕ) (end : ℕ) : Type 0 where
   pub is : out ≡ pasted buffer at text

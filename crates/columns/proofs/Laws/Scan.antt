@@ -10,7 +10,7 @@ use lib.ListN.{length, getD, take, drop, length-drop, drop-of-length-le}
 use lib.Seq.{take-suc, drop-cons, take-at, getD-at, getD-take, getD-drop, length-take-le}
 use Rattle.columns.specs.Bytes.{sameBytes}
 use Rattle.columns.specs.Columns.{column, valueFrom, valueAt}
-use Rattle.columns.specs.Read.{lead}
+use Rattle.columns.specs.inner.Read.{lead}
 use Rattle.columns.proofs.Laws.Compared.{same-of-equal, same-of-unequal}
 use Rattle.columns.proofs.Laws.ColumnsRead.{leads, leads-length, column-leads}
 

@@ -5,9 +5,11 @@ use mathlib.Core.List.{List}
 use Prim.Native.Nat.{ℕ, min}
 use native.Mathlib.Omega.{arith}
 use lib.ListN.{take, replicate}
-use Rattle.explanations.specs.Sizes.{rowsLength, edgesLength, keptLength}
-use Rattle.explanations.specs.Printed.{printed, lentExplanation, withLength, TextWritten}
-use Rattle.files.specs.Files.{filesText}
+use Rattle.explanations.specs.Sizes.{rowsLength, edgesLength}
+use Rattle.explanations.specs.inner.Sizes.{keptLength}
+use Rattle.explanations.specs.Printed.{printed, lentExplanation}
+use Rattle.explanations.specs.inner.Printed.{withLength, TextWritten}
+use Rattle.files.specs.inner.Files.{filesText}
 use Rattle.files.proofs.Replied.{few-counts, reply-text}
 use Rattle.files.proofs.explain_files.Statement.{statement}
 use Rattle.files.proofs.explain_files.Tie as tie

@@ -10,14 +10,15 @@ use lib.ListN.{length, getD, length-take, length-map}
 use lib.Seq.{getD-take}
 use borrow.Author.Tests.{eq-eqb}
 use Rattle.actl.specs.Sizes.{mostNodes, nodeSlotLength, formulaLength}
-use Rattle.lts.specs.Lists.{upFrom}
-use Rattle.lts.specs.Answers.{isSome, Decides}
+use Rattle.lts.specs.inner.Lists.{upFrom}
+use Rattle.lts.specs.inner.Answers.{isSome, Decides}
 use Rattle.lts.proofs.Lists.{upFrom-of, every-of, every-to, and-true-of, and-true-to, getD-mem, map-of, map-to}
 use Rattle.actl.specs.Formulas.{Formula, tru, size, nodes}
-use Rattle.actl.specs.Prepared.{Slot, slotOf, slotAt, slotWithin, IsForm, formed, preparedFormula}
-use Rattle.actl.specs.Shaped.{shaped}
-use Rattle.actl.specs.Walk.{kindsIn}
-use Rattle.actl.specs.Check.{isPrepared, slotFits, slotsFit, zerosFrom, SpelledClassed}
+use Rattle.actl.specs.Prepared.{Slot, slotOf, slotWithin, IsForm}
+use Rattle.actl.specs.inner.Prepared.{slotAt, formed, preparedFormula}
+use Rattle.actl.specs.inner.Shaped.{shaped}
+use Rattle.actl.specs.inner.Walk.{kindsIn}
+use Rattle.actl.specs.inner.Check.{isPrepared, slotFits, slotsFit, zerosFrom, SpelledClassed}
 use Rattle.actl.proofs.Nodes.{length-nodes}
 use Rattle.actl.proofs.Laws.Skeletons.{class-by-kinds}
 use Rattle.actl.proofs.Laws.Classed.{nodes-classed, root-among-nodes}

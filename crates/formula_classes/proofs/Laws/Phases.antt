@@ -5,13 +5,13 @@ use Prim.Native.Nat.{ℕ, _+_, _≤_, _<_}
 use native.Mathlib.Omega.{arith}
 use lib.ListN.{length, getD, set}
 use Rattle.actl.specs.Formulas.{classOfOr}
-use Rattle.actl.specs.Walk.{classFrom, classOfArm, Spelled, Traversed}
+use Rattle.actl.specs.inner.Walk.{classFrom, classOfArm, Spelled, Traversed}
 use Rattle.actl.proofs.Nodes.{size-pos}
 use Rattle.actl.proofs.Laws.Table.{arm-low}
 use Rattle.actl.proofs.Laws.Unique.{no-right, spelled-fits}
 use Rattle.actl.proofs.Laws.Walks.{traversed-noted, traversed-T, traversed-unary, traversed-or}
-use Rattle.formula_classes.specs.WalkReplies.{Walks}
-use Rattle.formula_classes.specs.Phases.{Room, NodeNoted, HasArm, RightWalks}
+use Rattle.formula_classes.specs.inner.WalkReplies.{Walks}
+use Rattle.formula_classes.specs.inner.Phases.{Room, NodeNoted, HasArm, RightWalks}
 use Rattle.formula_classes.specs.declared.Walked.{Walked}
 use Rattle.formula_classes.specs.declared.Walked.the-variants.{Broken, Node}
 

@@ -11,14 +11,14 @@ use lib.ListN.{length, getD, take, drop, length-append, length-map, List·getD-a
 use lib.Seq.{sets, sets-eq, take-at, getD-append-add, ext-getD}
 use borrow.Author.Tests.{eqb-true, eqb-false}
 use Rattle.actl.specs.Sizes.{nodeSlotLength}
-use Rattle.lts.specs.Lists.{upFrom}
+use Rattle.lts.specs.inner.Lists.{upFrom}
 use Rattle.actl.specs.Formulas.{Formula, tru, not, or, ex, ax, eu, euThen, size, nodes, classOf}
-use Rattle.actl.specs.Prepared.{preparedFormula}
-use Rattle.lts.specs.Answers.{Decides}
+use Rattle.actl.specs.inner.Prepared.{preparedFormula}
+use Rattle.lts.specs.inner.Answers.{Decides}
 use Rattle.lts.proofs.Laws.Decides.{decided-yes, decided-no}
-use Rattle.actl.specs.Check.{SpelledClassed}
-use Rattle.actl.specs.Walk.{kindOf, kindsOf, kindsIn, armOf, classOfArm, endsFrom, classesOf, Spelled, Traversed}
-use Rattle.formula_classes.specs.WalkReplies.{Walks}
+use Rattle.actl.specs.inner.Check.{SpelledClassed}
+use Rattle.actl.specs.inner.Walk.{kindOf, kindsOf, kindsIn, armOf, classOfArm, endsFrom, classesOf, Spelled, Traversed}
+use Rattle.formula_classes.specs.inner.WalkReplies.{Walks}
 use Rattle.formula_classes.specs.declared.Walked.{Walked}
 use Rattle.formula_classes.specs.declared.Walked.the-variants.{Broken, Node}
 use Rattle.actl.proofs.Nodes.{length-nodes}

@@ -1,6 +1,6 @@
 -- `class_of_or` meets its contract: each arm by itself must give class 1.
 use mathlib.Core.Path.{sym, _∙_}
-use Rattle.actl.specs.Walk.{classFrom, classOfArm}
+use Rattle.actl.specs.inner.Walk.{classFrom, classOfArm}
 use Rattle.actl.proofs.Laws.Table.{or-none, or-second}
 use borrow.Author.Needs.{needs}
 use Rattle.formula_classes.proofs.class_of_or.Statement.{statement}

@@ -5,7 +5,7 @@ use native.Mathlib.Omega.{arith}
 use lib.ListN.{length, take}
 use lib.Seq.{length-take-le}
 use Rattle.actl.specs.Formulas.{size, nodes, highestWithoutClass}
-use Rattle.actl.specs.Walk.{classesOf, lastNone}
+use Rattle.actl.specs.inner.Walk.{classesOf, lastNone}
 use Rattle.actl.proofs.Laws.Classed.{highest-none}
 use Rattle.actl.proofs.Laws.Walks.{length-kinds}
 use Rattle.formula_classes.proofs.Laws.Walked.{walk-noted, noted-classes, length-kinds-in}

@@ -4,7 +4,7 @@ use Prim.Native.Nat.{ℕ, _+_, _-_, _*_, _≤_}
 use native.Mathlib.Omega.{arith}
 use lib.ListN.{length, getD, take, length-set}
 use Rattle.actl.specs.Sizes.{nodeSlotLength}
-use Rattle.actl.specs.Walk.{kindsIn}
+use Rattle.actl.specs.inner.Walk.{kindsIn}
 use Rattle.actl.proofs.Laws.Lists.{filled-more}
 use Rattle.formula_classes.proofs.kinds_in.Statement.{statement}
 use Rattle.formula_classes.proofs.kinds_in.Tie as tie

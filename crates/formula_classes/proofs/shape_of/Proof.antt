@@ -1,7 +1,7 @@
 -- `shape_of` meets its contract: a prepared formula's kinds are those of its nodes, and the walk from node 0 notes their ends and classes.
 use mathlib.Core.Path.{ap, _∙_}
 use native.Mathlib.Omega.{arith}
-use Rattle.actl.specs.Walk.{kindsIn}
+use Rattle.actl.specs.inner.Walk.{kindsIn}
 use Rattle.actl.proofs.Laws.Prepared.{prepared-count, prepared-few}
 use Rattle.formula_classes.proofs.Laws.Walked.{shape-noted, noted-end, noted-class}
 use borrow.Author.Needs.{needs}

@@ -4,8 +4,8 @@ use mathlib.Core.List.{List}
 use Prim.Native.Nat.{ℕ}
 use lib.ListN.{replicate}
 use Rattle.lts.proofs.Laws.Decides.{decided-no}
-use Rattle.actl.specs.Walk.{kindsIn, Traversed}
-use Rattle.formula_classes.specs.WalkReplies.{Walks}
+use Rattle.actl.specs.inner.Walk.{kindsIn, Traversed}
+use Rattle.formula_classes.specs.inner.WalkReplies.{Walks}
 use Rattle.formula_classes.proofs.Laws.Walked.{not-spelled, not-ending, spelled-decided}
 use borrow.Author.Needs.{needs}
 use Rattle.formula_classes.proofs.spelled.Statement.{statement}

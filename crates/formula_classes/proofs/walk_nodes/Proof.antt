@@ -2,7 +2,7 @@
 use mathlib.Core.Path.{sym, ap, _∙_, subst}
 use native.Mathlib.Omega.{arith}
 use lib.ListN.{length}
-use Rattle.formula_classes.specs.WalkReplies.{Walks}
+use Rattle.formula_classes.specs.inner.WalkReplies.{Walks}
 use Rattle.formula_classes.proofs.Laws.Walked.{length-kinds-in}
 use borrow.Author.Needs.{needs}
 use Rattle.formula_classes.proofs.walk_nodes.Statement.{statement}

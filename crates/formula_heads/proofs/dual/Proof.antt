@@ -1,7 +1,7 @@
 -- `dual` puts a node between two `~` where every path or step is meant.
 use borrow.Author.Needs.{needs}
 use mathlib.Core.Path.{sym, ap}
-use Rattle.formula_heads.specs.Brackets.{dualOf}
+use Rattle.formula_heads.specs.inner.Brackets.{dualOf}
 use Rattle.formula_heads.proofs.dual.Statement.{statement}
 use Rattle.formula_heads.proofs.dual.Tie as tie
 

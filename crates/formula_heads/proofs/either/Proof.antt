@@ -1,7 +1,7 @@
 -- `either` takes one of two keywords.
 use borrow.Author.Needs.{needs}
 use mathlib.Core.Path.{subst}
-use Rattle.formula_cursor.specs.CursorReplies.{KeywordAnswer}
+use Rattle.formula_cursor.specs.inner.CursorReplies.{KeywordAnswer}
 use Rattle.formula_heads.proofs.either.Statement.{statement}
 use Rattle.formula_heads.proofs.either.Tie as tie
 

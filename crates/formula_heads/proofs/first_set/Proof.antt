@@ -1,10 +1,10 @@
 -- `first_set` reads what stands behind the first set of EU.
 use borrow.Author.Needs.{needs}
 use mathlib.Core.Path.{subst}
-use Rattle.actl.specs.Cursor.{Tokened}
-use Rattle.actl.specs.Readers.{namesIn}
-use Rattle.formula_cursor.specs.CursorReplies.{MarkAnswer, TokenAnswer}
-use Rattle.formula_sets.specs.SetReplies.{EnclosedAnswer}
+use Rattle.actl.specs.inner.Cursor.{Tokened}
+use Rattle.actl.specs.inner.Readers.{namesIn}
+use Rattle.formula_cursor.specs.inner.CursorReplies.{MarkAnswer, TokenAnswer}
+use Rattle.formula_sets.specs.inner.SetReplies.{EnclosedAnswer}
 use Rattle.formula_sets.proofs.ReadingSets.{token-behind}
 use Rattle.formula_heads.proofs.ReadingBrackets.{until-read, until-open, then-read, then-fails}
 use Rattle.formula_heads.proofs.first_set.Statement.{statement}

@@ -3,9 +3,9 @@ use borrow.Author.Needs.{needs}
 use mathlib.Core.Path.{subst}
 use mathlib.Core.List.{[], _∷_}
 use native.Mathlib.Omega.{arith}
-use Rattle.actl.specs.Readers.{namesIn}
-use Rattle.formula_cursor.specs.CursorReplies.{KeywordAnswer}
-use Rattle.formula_heads.specs.Brackets.{ChoiceAnswer}
+use Rattle.actl.specs.inner.Readers.{namesIn}
+use Rattle.formula_cursor.specs.inner.CursorReplies.{KeywordAnswer}
+use Rattle.formula_heads.specs.inner.Brackets.{ChoiceAnswer}
 use Rattle.formula_heads.proofs.ReadingHeads.{head-next, head-until}
 use Rattle.formula_heads.proofs.head.Statement.{statement}
 use Rattle.formula_heads.proofs.head.Tie as tie

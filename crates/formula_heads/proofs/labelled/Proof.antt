@@ -1,11 +1,11 @@
 -- `labelled` reads a set and the end of the bracket.
 use borrow.Author.Needs.{needs}
 use mathlib.Core.Path.{sym, subst}
-use Rattle.actl.specs.Readers.{namesIn}
-use Rattle.formula_sets.specs.SetReplies.{EnclosedAnswer}
+use Rattle.actl.specs.inner.Readers.{namesIn}
+use Rattle.formula_sets.specs.inner.SetReplies.{EnclosedAnswer}
 use Rattle.formulas.specs.declared.node.Condition.the-variants.{Labels}
 use Rattle.formulas.specs.declared.node.Node.the-variants.{Ex}
-use Rattle.formula_heads.specs.Brackets.{RestAnswer, inBracket, shownBracket}
+use Rattle.formula_heads.specs.inner.Brackets.{RestAnswer, inBracket, shownBracket}
 use Rattle.formula_heads.specs.declared.Keyword.the-variants.{Labelled}
 use Rattle.formula_heads.proofs.ReadingHeads.{dual-read}
 use Rattle.formula_heads.proofs.ReadingBrackets.{labelled-set, labelled-fails}

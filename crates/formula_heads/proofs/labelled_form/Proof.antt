@@ -2,8 +2,8 @@
 use borrow.Author.Needs.{needs}
 use mathlib.Core.Path.{refl, subst}
 use native.Mathlib.Omega.{arith}
-use Rattle.actl.specs.Readers.{namesIn}
-use Rattle.formula_cursor.specs.CursorReplies.{MarkAnswer}
+use Rattle.actl.specs.inner.Readers.{namesIn}
+use Rattle.formula_cursor.specs.inner.CursorReplies.{MarkAnswer}
 use Rattle.formula_heads.specs.declared.Quantifier.the-variants.{Existential, Universal}
 use Rattle.formula_heads.proofs.ReadingHeads.{head-letters, no-head}
 use Rattle.formula_heads.proofs.labelled_form.Statement.{statement}

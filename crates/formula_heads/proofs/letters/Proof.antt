@@ -3,9 +3,9 @@ use borrow.Author.Needs.{needs}
 use mathlib.Core.Path.{sym, subst, _∙_}
 use native.Mathlib.Omega.{arith}
 use lib.ListN.{getD}
-use Rattle.actl.specs.Cursor.{Marked}
-use Rattle.actl.specs.Readers.{namesIn}
-use Rattle.formula_cursor.specs.CursorReplies.{MarkAnswer}
+use Rattle.actl.specs.inner.Cursor.{Marked}
+use Rattle.actl.specs.inner.Readers.{namesIn}
+use Rattle.formula_cursor.specs.inner.CursorReplies.{MarkAnswer}
 use Rattle.formula_heads.proofs.ReadingHeads.{no-second, no-third, letters-read}
 use Rattle.formula_heads.proofs.letters.Statement.{statement}
 use Rattle.formula_heads.proofs.letters.Tie as tie

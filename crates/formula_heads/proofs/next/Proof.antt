@@ -1,9 +1,9 @@
 -- `next` reads a dot or a set, and the end of the bracket.
 use borrow.Author.Needs.{needs}
 use mathlib.Core.Path.{subst}
-use Rattle.actl.specs.Readers.{namesIn}
-use Rattle.formula_cursor.specs.CursorReplies.{MarkAnswer, TokenAnswer}
-use Rattle.formula_sets.specs.SetReplies.{EnclosedAnswer}
+use Rattle.actl.specs.inner.Readers.{namesIn}
+use Rattle.formula_cursor.specs.inner.CursorReplies.{MarkAnswer, TokenAnswer}
+use Rattle.formula_sets.specs.inner.SetReplies.{EnclosedAnswer}
 use Rattle.formula_heads.proofs.ReadingBrackets.{next-silent, next-silent-open, next-set, next-set-fails}
 use Rattle.formula_heads.proofs.next.Statement.{statement}
 use Rattle.formula_heads.proofs.next.Tie as tie

@@ -1,7 +1,7 @@
 -- `next_node` makes the node of EX or AX.
 use borrow.Author.Needs.{needs}
 use mathlib.Core.Path.{sym, ap}
-use Rattle.formula_heads.specs.Brackets.{nodeOver}
+use Rattle.formula_heads.specs.inner.Brackets.{nodeOver}
 use Rattle.formula_heads.proofs.next_node.Statement.{statement}
 use Rattle.formula_heads.proofs.next_node.Tie as tie
 

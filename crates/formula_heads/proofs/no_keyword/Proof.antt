@@ -2,7 +2,7 @@
 use borrow.Author.Needs.{needs}
 use mathlib.Core.Path.{refl, subst}
 use mathlib.Core.Logic.{inl, inr}
-use Rattle.formula_cursor.specs.CursorReplies.{MarkAnswer}
+use Rattle.formula_cursor.specs.inner.CursorReplies.{MarkAnswer}
 use Rattle.formula_heads.proofs.no_keyword.Statement.{statement}
 use Rattle.formula_heads.proofs.no_keyword.Tie as tie
 

@@ -2,9 +2,9 @@
 use borrow.Author.Needs.{needs}
 use mathlib.Core.Path.{sym, subst}
 use mathlib.Core.List.{[], _∷_}
-use Rattle.actl.specs.Readers.{namesIn}
-use Rattle.formula_heads.specs.HeadReplies.{HeadAnswer}
-use Rattle.formula_heads.specs.Brackets.{ChoiceAnswer}
+use Rattle.actl.specs.inner.Readers.{namesIn}
+use Rattle.formula_heads.specs.inner.HeadReplies.{HeadAnswer}
+use Rattle.formula_heads.specs.inner.Brackets.{ChoiceAnswer}
 use Rattle.formula_heads.proofs.ReadingHeads.{head-reach}
 use Rattle.formula_heads.proofs.short_form.Statement.{statement}
 use Rattle.formula_heads.proofs.short_form.Tie as tie

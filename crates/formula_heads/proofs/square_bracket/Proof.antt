@@ -3,11 +3,11 @@ use borrow.Author.Needs.{needs}
 use mathlib.Core.Path.{_≡_, sym, subst}
 use mathlib.Core.List.{List}
 use Prim.Native.Nat.{ℕ}
-use Rattle.actl.specs.Cursor.{Tokened}
-use Rattle.actl.specs.Readers.{namesIn, ReaderStart}
-use Rattle.formula_cursor.specs.CursorReplies.{TokenAnswer}
+use Rattle.actl.specs.inner.Cursor.{Tokened}
+use Rattle.actl.specs.inner.Readers.{namesIn, ReaderStart}
+use Rattle.formula_cursor.specs.inner.CursorReplies.{TokenAnswer}
 use Rattle.formula_sets.proofs.ReadingSets.{token-behind}
-use Rattle.formula_heads.specs.Brackets.{RestAnswer, ContentsAnswer, behindWord, shownWord}
+use Rattle.formula_heads.specs.inner.Brackets.{RestAnswer, ContentsAnswer, behindWord, shownWord}
 use Rattle.formula_heads.specs.declared.Keyword.{Keyword}
 use Rattle.formula_heads.specs.declared.Heading.{Heading}
 use Rattle.formula_heads.proofs.ReadingHeads.{unopened, opened}

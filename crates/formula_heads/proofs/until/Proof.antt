@@ -1,9 +1,9 @@
 -- `until` reads the first set, and hands over to `first_set`.
 use borrow.Author.Needs.{needs}
 use mathlib.Core.Path.{subst}
-use Rattle.actl.specs.Readers.{namesIn}
-use Rattle.formula_sets.specs.SetReplies.{SetAnswer}
-use Rattle.formula_heads.specs.Brackets.{shownBracket}
+use Rattle.actl.specs.inner.Readers.{namesIn}
+use Rattle.formula_sets.specs.inner.SetReplies.{SetAnswer}
+use Rattle.formula_heads.specs.inner.Brackets.{shownBracket}
 use Rattle.formula_heads.specs.declared.Keyword.the-variants.{Until}
 use Rattle.formula_heads.proofs.ReadingHeads.{behind}
 use Rattle.formula_heads.proofs.ReadingBrackets.{until-fails, first-set-moves}

@@ -3,7 +3,7 @@ use mathlib.Core.Path.{_≡_, refl, ap, _∙_}
 use Prim.Native.Nat.{_+_, _*_, _≤_}
 use native.Mathlib.Omega.{arith}
 use lib.ListN.{length}
-use Rattle.columns.specs.Write.{pasted}
+use Rattle.columns.specs.inner.Write.{pasted}
 use Rattle.actl.specs.Sizes.{nodeSlotLength}
 use Rattle.actl.proofs.ReadingNodes.{moved, moved-none, moved-step, length-moved, moved-all}
 use Rattle.formula_nodes.proofs.move_up.Statement.{statement}

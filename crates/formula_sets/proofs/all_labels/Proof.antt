@@ -5,7 +5,7 @@ use Rattle.actl.proofs.ReadingLabels.{shifted-all}
 use mathlib.Core.Path.{ap}
 use Rattle.lts.specs.Directions.{labelDirection}
 use Rattle.actl.specs.Actions.{Action, maskOf}
-use Rattle.actl.specs.Readers.{namesIn}
+use Rattle.actl.specs.inner.Readers.{namesIn}
 use Rattle.formula_sets.proofs.all_labels.Statement.{statement}
 use Rattle.formula_sets.proofs.all_labels.Tie as tie
 

@@ -1,9 +1,9 @@
 -- `bare_operand` reads a mark or a name, or is refused where neither stands.
 use borrow.Author.Needs.{needs}
 use mathlib.Core.Path.{subst}
-use Rattle.actl.specs.Readers.{namesIn}
-use Rattle.formula_cursor.specs.CursorReplies.{NameAnswer}
-use Rattle.formula_sets.specs.SetReplies.{WildcardAnswer}
+use Rattle.actl.specs.inner.Readers.{namesIn}
+use Rattle.formula_cursor.specs.inner.CursorReplies.{NameAnswer}
+use Rattle.formula_sets.specs.inner.SetReplies.{WildcardAnswer}
 use Rattle.formula_sets.proofs.ReadingSets.{operand-stops}
 use Rattle.formula_sets.proofs.bare_operand.Statement.{statement}
 use Rattle.formula_sets.proofs.bare_operand.Tie as tie

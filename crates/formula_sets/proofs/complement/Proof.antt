@@ -5,8 +5,8 @@ use Prim.Native.Nat.{_-_}
 use native.Mathlib.Omega.{arith}
 use Rattle.actl.specs.Actions.{Action}
 use Rattle.actl.specs.Meaning.{labelsOf}
-use Rattle.actl.specs.Readers.{namesIn}
-use Rattle.formula_sets.specs.OperandPhases.{MaskWithin, complemented}
+use Rattle.actl.specs.inner.Readers.{namesIn}
+use Rattle.formula_sets.specs.inner.OperandPhases.{MaskWithin, complemented}
 use Rattle.formula_sets.specs.declared.Labels.the-variants as labels
 use Rattle.formula_sets.proofs.complement.Statement.{statement}
 use Rattle.formula_sets.proofs.complement.Tie as tie

@@ -5,8 +5,8 @@ use mathlib.Core.Bool.{Bool, cond}
 use Prim.Native.Nat.{suc, _^_}
 use native.Mathlib.Omega.{arith}
 use Rattle.lts.specs.Directions.{labelDirection, sameDirection}
-use Rattle.actl.specs.Readers.{namesIn}
-use Rattle.tables.specs.Access.{directionIn}
+use Rattle.actl.specs.inner.Readers.{namesIn}
+use Rattle.tables.specs.inner.Access.{directionIn}
 use Rattle.actl.proofs.ReadingLabels.{shifted-two}
 use Rattle.formula_sets.proofs.directed_bit.Statement.{statement}
 use Rattle.formula_sets.proofs.directed_bit.Tie as tie

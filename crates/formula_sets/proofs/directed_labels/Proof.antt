@@ -6,8 +6,8 @@ use native.Mathlib.Omega.{arith}
 use lib.ListN.{length}
 use Rattle.lts.specs.Directions.{Direction, labelDirection}
 use Rattle.actl.specs.Actions.{Action, maskOf}
-use Rattle.actl.specs.Readers.{namesIn}
-use Rattle.tables.specs.Access.{directionIn}
+use Rattle.actl.specs.inner.Readers.{namesIn}
+use Rattle.tables.specs.inner.Access.{directionIn}
 use Rattle.actl.proofs.ReadingMasks.{mask-none-yet, mask-more, mask-small}
 use Rattle.formula_sets.proofs.directed_labels.Statement.{statement}
 use Rattle.formula_sets.proofs.directed_labels.Tie as tie

@@ -1,7 +1,7 @@
 -- `directed_wildcard` reads a mark and answers the labels of its direction.
 use borrow.Author.Needs.{needs}
 use mathlib.Core.Path.{subst}
-use Rattle.formula_cursor.specs.CursorReplies.{MarkAnswer}
+use Rattle.formula_cursor.specs.inner.CursorReplies.{MarkAnswer}
 use Rattle.formula_sets.proofs.directed_wildcard.Statement.{statement}
 use Rattle.formula_sets.proofs.directed_wildcard.Tie as tie
 

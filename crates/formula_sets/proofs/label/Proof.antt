@@ -6,8 +6,8 @@ use Prim.Native.Nat.{ℕ, _-_, _≤_}
 use native.Mathlib.Omega.{arith}
 use lib.ListN.{take, drop}
 use Rattle.lts.specs.Names.{lookup}
-use Rattle.tables.specs.Access.{foundIn}
-use Rattle.actl.specs.Readers.{OperandRead, namesIn}
+use Rattle.tables.specs.inner.Access.{foundIn}
+use Rattle.actl.specs.inner.Readers.{OperandRead, namesIn}
 use Rattle.actl.proofs.ReadingLabels.{found-range, shifted-one, label-known, label-unknown}
 use Rattle.formula_sets.proofs.label.Statement.{statement}
 use Rattle.formula_sets.proofs.label.Tie as tie

@@ -5,11 +5,11 @@ use mathlib.Core.List.{List}
 use Prim.Native.Nat.{ℕ}
 use Rattle.lts.specs.Directions.{Direction}
 use Rattle.actl.specs.Actions.{Action}
-use Rattle.actl.specs.Cursor.{peek}
+use Rattle.actl.specs.inner.Cursor.{peek}
 use Rattle.actl.specs.Meaning.{labelsOf}
-use Rattle.actl.specs.Readers.{namesIn}
-use Rattle.formula_cursor.specs.CursorReplies.{MarkAnswer}
-use Rattle.formula_sets.specs.OperandPhases.{MarkedLabels}
+use Rattle.actl.specs.inner.Readers.{namesIn}
+use Rattle.formula_cursor.specs.inner.CursorReplies.{MarkAnswer}
+use Rattle.formula_sets.specs.inner.OperandPhases.{MarkedLabels}
 use Rattle.formula_sets.specs.declared.Wildcard.{Wildcard}
 use Rattle.formula_sets.proofs.ReadingSets.{operand-any, operand-received, sent-says}
 use Rattle.formula_sets.proofs.wildcard_labels.Statement.{statement}

@@ -2,8 +2,8 @@
 use borrow.Author.Needs.{needs}
 use mathlib.Core.Path.{subst}
 use native.Mathlib.Omega.{arith}
-use Rattle.actl.specs.Readers.{namesIn}
-use Rattle.formula_heads.specs.HeadReplies.{HeadAnswer}
+use Rattle.actl.specs.inner.Readers.{namesIn}
+use Rattle.formula_heads.specs.inner.HeadReplies.{HeadAnswer}
 use Rattle.formula_heads.specs.declared.Heading.{Heading}
 use Rattle.formula_heads.specs.declared.Heading.the-variants.{Read, Dual}
 use Rattle.formula_terms.proofs.ReadingTerms.{prefix-head}

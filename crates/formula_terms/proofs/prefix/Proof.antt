@@ -1,7 +1,7 @@
 -- `prefix` reads `~` or a keyword, and puts its nodes down.
 use borrow.Author.Needs.{needs}
 use mathlib.Core.Path.{subst}
-use Rattle.formula_cursor.specs.CursorReplies.{TokenAnswer}
+use Rattle.formula_cursor.specs.inner.CursorReplies.{TokenAnswer}
 use Rattle.formula_terms.proofs.ReadingTerms.{prefix-not}
 use Rattle.formula_terms.proofs.prefix.Statement.{statement}
 use Rattle.formula_terms.proofs.prefix.Tie as tie

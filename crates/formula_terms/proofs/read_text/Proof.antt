@@ -4,9 +4,9 @@ use mathlib.Core.Path.{subst}
 use mathlib.Core.List.{List}
 use Prim.Native.Nat.{ℕ}
 use native.Mathlib.Omega.{arith}
-use Rattle.formula_cursor.specs.CursorReplies.{MarkAnswer}
-use Rattle.actl.specs.Readers.{namesIn}
-use Rattle.formula_terms.specs.TermReplies.{FormulaAnswer}
+use Rattle.formula_cursor.specs.inner.CursorReplies.{MarkAnswer}
+use Rattle.actl.specs.inner.Readers.{namesIn}
+use Rattle.formula_terms.specs.inner.TermReplies.{FormulaAnswer}
 use Rattle.formula_terms.specs.declared.Chain.{Chain}
 use Rattle.formula_cursor.proofs.ReadingTexts.{text-blank, text-token, text-fails, text-whole, text-rest}
 use Rattle.formula_terms.proofs.read_text.Statement.{statement}

@@ -5,13 +5,13 @@ use mathlib.Core.Bool.{true}
 use mathlib.Core.List.{List}
 use Prim.Native.Nat.{ℕ}
 use borrow.Author.Tests.{not-true, not-false}
-use Rattle.lts.specs.Answers.{isSome}
-use Rattle.lts.specs.Prepared.{preparedTable}
+use Rattle.lts.specs.inner.Answers.{isSome}
+use Rattle.lts.specs.inner.Prepared.{preparedTable}
 use Rattle.actl.specs.FormulaReading.{formulaReading, formulaReplied, formulaLeft}
 use Rattle.actl.specs.ByGrammar.{FormulaByGrammar}
 use Rattle.actl.proofs.Laws.ByGrammar.{formula-by-grammar}
 use Rattle.formula_text.specs.Replies.{formulaReply}
-use Rattle.formula_text.specs.FormulaAnswers.{FormulaAnswered}
+use Rattle.formula_text.specs.inner.FormulaAnswers.{FormulaAnswered}
 use Rattle.formula_text.specs.declared.FormulaReply.{FormulaReply}
 use Rattle.formula_text.proofs.ReadingEntry.{short-table, short-formula, foreign-table, on-prepared, table-held}
 use Rattle.formula_text.proofs.read_formula.Statement.{statement}

@@ -5,8 +5,8 @@ use mathlib.Core.List.{List}
 use Prim.Native.Nat.{ℕ}
 use lib.ListN.{replicate}
 use Rattle.actl.specs.Sizes.{formulaLength}
-use Rattle.actl.specs.Readers.{namesIn}
-use Rattle.formula_terms.specs.TermReplies.{ReadingAnswer}
+use Rattle.actl.specs.inner.Readers.{namesIn}
+use Rattle.formula_terms.specs.inner.TermReplies.{ReadingAnswer}
 use Rattle.formula_terms.specs.declared.Reading.{Reading}
 use Rattle.formula_text.proofs.ReadingEntry.{long-text, refused-text, whole-text}
 use Rattle.formula_text.proofs.read_text_over.Statement.{statement}

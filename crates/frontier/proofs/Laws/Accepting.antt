@@ -7,25 +7,26 @@ use native.Mathlib.Omega.{arith}
 use lib.Dec.{eqb}
 use lib.ListN.{length, getD, length-replicate}
 use borrow.Author.Tests.{eqb-true, eq-eqb}
-use Rattle.automaton.specs.Sizes.{placeCount}
-use Rattle.frontier.specs.Sizes.{frontierLength}
-use Rattle.lts.specs.Lists.{upFrom}
-use Rattle.lts.specs.Steps.{Step, Table, Carried, stepsFrom}
-use Rattle.lts.specs.Range.{InRange}
+use Rattle.automaton.specs.inner.Sizes.{placeCount}
+use Rattle.frontier.specs.inner.Sizes.{frontierLength}
+use Rattle.lts.specs.inner.Lists.{upFrom}
+use Rattle.lts.specs.Steps.{Step, Table}
+use Rattle.lts.specs.inner.Steps.{Carried, stepsFrom}
+use Rattle.lts.specs.inner.Range.{InRange}
 use Rattle.lts.proofs.Lists.{some-of, some-to, and-true-of, and-true-to, upFrom-of, upFrom-to}
 use Rattle.actl.specs.Formulas.{Formula, size}
-use Rattle.until_search.specs.Flags.{flagAt}
+use Rattle.until_search.specs.inner.Flags.{flagAt}
 use Rattle.automaton.specs.Places.{Final}
 use Rattle.automaton.specs.Positions.{Position, at, rootAt, Joins, Walk, stop, go}
-use Rattle.automaton.specs.Listing.{final}
-use Rattle.target_masks.specs.Masks.{bitAt, MasksOf, FinalsOf}
-use Rattle.automaton.specs.Words.{accepts}
+use Rattle.automaton.specs.inner.Search.{final}
+use Rattle.target_masks.specs.inner.Masks.{bitAt, MasksOf, FinalsOf}
+use Rattle.automaton.specs.inner.Words.{accepts}
 use Rattle.automaton.proofs.Inside.{Inside, joins-inside}
 use Rattle.target_masks.proofs.Laws.MasksFound.{bit-pow}
 use Rattle.automaton.proofs.Reading.{accepts-is}
 use Rattle.automaton.proofs.Tests.{leads-inside, final-of, final-to}
-use Rattle.frontier.specs.Frontier.{hasState, nowhere, emptied, allPlaces}
-use Rattle.frontier.specs.Reached.{placesRead, stateRead, letterRead, wordRead, rootReached, finalPlace, someFinal, Letters}
+use Rattle.frontier.specs.inner.Frontier.{hasState, nowhere, emptied, allPlaces}
+use Rattle.frontier.specs.inner.Reached.{placesRead, stateRead, letterRead, wordRead, rootReached, finalPlace, someFinal, Letters}
 use Rattle.frontier.proofs.Laws.Through.{through-same}
 use Rattle.frontier.proofs.Laws.Frontiers.{reachedAt, nowhere-reached, length-brought, brought-reached}
 use Rattle.frontier.proofs.Laws.Reaching.{all-reached, length-letter, letter-of, letter-to}

@@ -9,9 +9,9 @@ use lib.Count.{trailingZeros, under}
 use lib.Dec.{eqb}
 use lib.Pow.{shr-shr}
 use borrow.Author.Tests.{eq-eqb, ne-eqb, eqb-true, eqb-false}
-use Rattle.target_masks.specs.Masks.{bitAt}
+use Rattle.target_masks.specs.inner.Masks.{bitAt}
 use Rattle.target_masks.proofs.Laws.MasksFound.{bit-zero}
-use Rattle.frontier.specs.Frontier.{FirstFrom}
+use Rattle.frontier.specs.inner.Frontier.{FirstFrom}
 
 -- Bits of what is left after a shift.
 bit-shift : (m k j : ℕ) → bitAt (m / 2 ^ k) j ≡ bitAt m (k + j)

@@ -10,12 +10,12 @@ use lib.Dec.{eqb}
 use lib.ListN.{length, getD, set, length-set}
 use lib.Seq.{getD-set-same, getD-set-other}
 use borrow.Author.Tests.{eq-eqb, ne-eqb}
-use Rattle.frontier.specs.Sizes.{frontierLength}
+use Rattle.frontier.specs.inner.Sizes.{frontierLength}
 use Rattle.lts.proofs.Lists.{or-true-right}
-use Rattle.target_masks.specs.Masks.{bitAt}
+use Rattle.target_masks.specs.inner.Masks.{bitAt}
 use Rattle.target_masks.proofs.Laws.MasksFound.{bit-or, bit-zero, bit-pow}
 use Rattle.target_masks.proofs.Laws.Places.{zeros-at}
-use Rattle.frontier.specs.Frontier.{marksAt, hasState, placesAt, nowhere, emptied, brought, FirstFrom}
+use Rattle.frontier.specs.inner.Frontier.{marksAt, hasState, placesAt, nowhere, emptied, brought, FirstFrom}
 use Rattle.frontier.proofs.Laws.Through.{or-none}
 
 -- Place q of state v is reached.

@@ -11,15 +11,17 @@ use lib.Dec.{eqb, ltb}
 use lib.ListN.{length, getD, drop, length-drop}
 use lib.Seq.{drop-cons}
 use borrow.Author.Tests.{ltb-false, eqb-true, eq-eqb, ne-eqb}
-use Rattle.lts.specs.Lists.{upFrom, anyOf as any}
+use Rattle.lts.specs.inner.Lists.{upFrom}
+use Rattle.lts.specs.Lists.{anyOf as any}
 use Rattle.lts.specs.Sizes.{mostLabels}
-use Rattle.lts.specs.Steps.{Step, idleLabel}
+use Rattle.lts.specs.Steps.{Step}
+use Rattle.lts.specs.Idle.{idleLabel}
 use Rattle.lts.proofs.StepsFrom.{carried-within}
-use Rattle.tables.specs.StepArray.{stepAt, stepsBetween}
+use Rattle.tables.specs.inner.StepArray.{stepAt, stepsBetween}
 use Rattle.tables.proofs.Laws.StepArray.{between-next, between-over}
 use Rattle.automaton.specs.WordAsked.{isBad, badFrom, badLetter}
-use Rattle.frontier.specs.Frontier.{brought}
-use Rattle.frontier.specs.Reached.{stepTaken, stepsTaken, letterRead, wordRead, Letters}
+use Rattle.frontier.specs.inner.Frontier.{brought}
+use Rattle.frontier.specs.inner.Reached.{stepTaken, stepsTaken, letterRead, wordRead, Letters}
 
 over : (w : List ℕ) (i : ℕ) → length w ≤ i → drop i w ≡ []
 over w i h = empty (drop i w) (omega (arith, length-drop i w))

@@ -9,23 +9,25 @@ use lib.Bits.{bitOr}
 use lib.Dec.{eqb}
 use lib.ListN.{length, getD}
 use borrow.Author.Tests.{eqb-true, eq-eqb}
-use Rattle.automaton.specs.Sizes.{placeCount}
-use Rattle.frontier.specs.Sizes.{frontierLength}
-use Rattle.lts.specs.Lists.{upFrom, anyOf}
-use Rattle.lts.specs.Steps.{Step, Table, IsStep, Carried, stepsFrom}
-use Rattle.lts.specs.Range.{InRange}
+use Rattle.automaton.specs.inner.Sizes.{placeCount}
+use Rattle.frontier.specs.inner.Sizes.{frontierLength}
+use Rattle.lts.specs.inner.Lists.{upFrom}
+use Rattle.lts.specs.Lists.{anyOf}
+use Rattle.lts.specs.Steps.{Step, Table, IsStep}
+use Rattle.lts.specs.inner.Steps.{Carried, stepsFrom}
+use Rattle.lts.specs.inner.Range.{InRange}
 use Rattle.lts.proofs.Lists.{some-of, some-to, and-true-of, and-true-to, upFrom-of, upFrom-to}
 use Rattle.lts.proofs.StepsFrom.{steps-are}
 use Rattle.actl.specs.Formulas.{Formula, size}
-use Rattle.automaton.specs.Listing.{leads, onLabel}
-use Rattle.target_masks.specs.Masks.{bitAt, MasksOf, maskOn}
+use Rattle.automaton.specs.inner.Search.{leads, onLabel}
+use Rattle.target_masks.specs.inner.Masks.{bitAt, MasksOf, maskOn}
 use Rattle.automaton.specs.Positions.{at, Joins}
 use Rattle.target_masks.proofs.Laws.MasksFound.{bit-or, bit-zero, target-bit}
 use Rattle.target_masks.proofs.Laws.Places.{mask-carried}
 use Rattle.automaton.proofs.Moves.{leaving}
 use Rattle.automaton.proofs.Tests.{leads-of, leads-to}
-use Rattle.frontier.specs.Frontier.{hasState, emptied, brought, placesAdded, allPlaces}
-use Rattle.frontier.specs.Reached.{targetsAdded, targetsOf, stepTaken, stepsTaken, placesRead, stateRead, letterRead}
+use Rattle.frontier.specs.inner.Frontier.{hasState, emptied, brought, placesAdded, allPlaces}
+use Rattle.frontier.specs.inner.Reached.{targetsAdded, targetsOf, stepTaken, stepsTaken, placesRead, stateRead, letterRead}
 use Rattle.frontier.proofs.Laws.Through.{or-none, through-adds, through-good}
 use Rattle.frontier.proofs.Laws.Frontiers.{reachedAt, reached-of, reached-to, and-no, emptied-reached, length-emptied, length-brought, brought-reached}
 

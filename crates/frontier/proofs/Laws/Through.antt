@@ -5,8 +5,9 @@ use Prim.Native.Nat.{ℕ, zero, suc, _+_, _-_, _≤_, _<_}
 use native.Mathlib.Decide.{decLt}
 use native.Mathlib.Numerals.{add-one}
 use native.Mathlib.Omega.{arith}
-use Rattle.lts.specs.Lists.{upFrom, anyOf}
-use Rattle.frontier.specs.Frontier.{through, FirstFrom}
+use Rattle.lts.specs.inner.Lists.{upFrom}
+use Rattle.lts.specs.Lists.{anyOf}
+use Rattle.frontier.specs.inner.Frontier.{through, FirstFrom}
 
 -- Numbers below n that are not gone through yet, from k on.
 module _ {A : Type 0} (f : ℕ → A → A) (n : ℕ) where

@@ -10,20 +10,20 @@ use lib.ListN.{length, getD}
 use Rattle.actl.specs.Sizes.{mostNodes}
 use Rattle.lts.specs.Sizes.{mostStates}
 use Rattle.lts.specs.Steps.{Table, labels as labelCount}
-use Rattle.lts.specs.Prepared.{tableIn}
-use Rattle.lts.specs.HoldsTable.{HoldsTable}
-use Rattle.lts.specs.Range.{InRange}
+use Rattle.lts.specs.inner.Prepared.{tableIn}
+use Rattle.lts.specs.inner.HoldsTable.{HoldsTable}
+use Rattle.lts.specs.inner.Range.{InRange}
 use Rattle.actl.specs.Actions.{Mask, inSet, silent, labels, meets}
 use Rattle.actl.specs.Formulas.{Formula, tru, not, or, ex, ax, eu, euThen, size, nodes, At, in-not, in-left, in-right, in-ex, in-ax, in-eu, in-euThen}
 use Rattle.actl.specs.Prepared.{slotOf}
-use Rattle.formulas.specs.Access.{slotOfNode}
+use Rattle.formulas.specs.inner.Access.{slotOfNode}
 use Rattle.formulas.specs.declared.node.Node.{Node}
 use Rattle.formulas.proofs.NodeSlots.{nodeIn, node-in-slot}
 use Rattle.actl.proofs.Laws.Prepared.{prepared-few, prepared-count}
 use Rattle.actl.proofs.Subformulas.{node-at, at-node, at-lt}
-use Rattle.satisfaction.specs.Holds.{within, enters, holds}
-use Rattle.until_search.specs.Flags.{flagAt, nodeHolds, Flags}
-use Rattle.labelling.specs.Nodes.{RowRead, RowPut, LabelledFrom, RowsFrom, NodeRow}
+use Rattle.satisfaction.specs.inner.Holds.{within, enters, holds}
+use Rattle.until_search.specs.inner.Flags.{flagAt, nodeHolds, Flags}
+use Rattle.labelling.specs.inner.Nodes.{RowRead, RowPut, LabelledFrom, RowsFrom, NodeRow}
 use Rattle.until_search.proofs.Laws.Flags.{flags-same}
 use Rattle.until_search.proofs.Laws.Agree.{Agree, some-agree, every-agree, within-agree}
 

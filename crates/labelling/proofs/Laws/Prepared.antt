@@ -6,20 +6,21 @@ use Prim.Native.Nat.{ℕ, _≤_, _<_}
 use native.Mathlib.Nat.{zero-add}
 use native.Mathlib.Omega.{arith}
 use lib.ListN.{length, getD, length-take}
-use Rattle.actl.specs.Sizes.{mostNodes, formulaLength, nodePositions}
+use Rattle.actl.specs.Sizes.{mostNodes, formulaLength}
+use Rattle.actl.specs.inner.Sizes.{nodePositions}
 use Rattle.lts.specs.Steps.{labels}
-use Rattle.lts.specs.Prepared.{tableIn}
-use Rattle.lts.specs.HoldsTable.{HoldsTable}
+use Rattle.lts.specs.inner.Prepared.{tableIn}
+use Rattle.lts.specs.inner.HoldsTable.{HoldsTable}
 use Rattle.actl.specs.Formulas.{Formula, root}
-use Rattle.actl.specs.Prepared.{slotAt}
-use Rattle.actl.specs.Shaped.{shaped}
+use Rattle.actl.specs.inner.Prepared.{slotAt}
+use Rattle.actl.specs.inner.Shaped.{shaped}
 use Rattle.actl.proofs.Nodes.{size-pos}
 use Rattle.actl.proofs.Subformulas.{node-at}
 use Rattle.actl.proofs.Laws.Forms.{length-form}
 use Rattle.actl.proofs.Laws.Prepared.{prepared-of, prepared-few, prepared-count, prepared-shaped}
-use Rattle.satisfaction.specs.Holds.{holds}
-use Rattle.labelling.specs.Nodes.{RowsFrom, NodesLabelled, AtStart}
-use Rattle.actl.specs.HoldsFormula.{HoldsFormula}
+use Rattle.satisfaction.specs.inner.Holds.{holds}
+use Rattle.labelling.specs.inner.Nodes.{RowsFrom, NodesLabelled, AtStart}
+use Rattle.actl.specs.inner.HoldsFormula.{HoldsFormula}
 
 module _ (n : ℕ) (b : List ℕ) (h : HoldsFormula n b) where
   pub formula-long : formulaLength ≤ length b

@@ -8,10 +8,11 @@ use native.Mathlib.Decide.{ℕ-discrete}
 use native.Mathlib.Omega.{arith}
 use lib.ListN.{length, getD, set, replicate, length-set, length-replicate}
 use lib.Seq.{getD-set-same, getD-set-other}
-use Rattle.actl.specs.Sizes.{mostNodes, nodePositions}
+use Rattle.actl.specs.Sizes.{mostNodes}
+use Rattle.actl.specs.inner.Sizes.{nodePositions}
 use Rattle.lts.specs.Sizes.{mostStates}
-use Rattle.until_search.specs.Flags.{flagAt, Flags}
-use Rattle.labelling.specs.Nodes.{RowRead, RowPut}
+use Rattle.until_search.specs.inner.Flags.{flagAt, Flags}
+use Rattle.labelling.specs.inner.Nodes.{RowRead, RowPut}
 
 -- A row that is not there is empty.
 pub row-none : (k : ℕ) (flags : List Bool) → 40 ≤ k → RowRead k flags (replicate mostStates false)

@@ -8,7 +8,7 @@ use Rattle.lts.specs.Reply.{Reply, accepted}
 use Rattle.lts.specs.Steps.{Table}
 use Rattle.actl.specs.Formulas.{Formula}
 use Rattle.formula_check.proofs.Laws.Inputs.{Both, goes-on, inputs-refused, inputs-prepared, both-held}
-use Rattle.satisfaction.specs.Holds.{verdict}
+use Rattle.satisfaction.specs.inner.Holds.{verdict}
 use Rattle.satisfaction.specs.VerdictAsked.{verdictReplied, VerdictAnswered}
 use Rattle.satisfaction.proofs.Verdicts.{verdict-answered}
 use Rattle.labelling.specs.Replies.{verdictReply}

@@ -5,7 +5,7 @@ use Prim.Native.Nat.{ℕ, _+_, _-_, _≤_, _<_}
 use native.Mathlib.Omega.{arith}
 use lib.ListN.{length, getD, take, drop, List·getD-append}
 use lib.Seq.{length-take-le, getD-append-add, getD-take, getD-drop}
-use Rattle.columns.specs.Write.{pasted}
+use Rattle.columns.specs.inner.Write.{pasted}
 
 module _ (out : List ℕ) (at : ℕ) (part : List ℕ) (room : at ≤ length out) where
   abbrev behind : List ℕ

@@ -7,11 +7,11 @@ use native.Mathlib.Nat.{add-zero}
 use native.Mathlib.Decide.{decLt, decLe}
 use native.Mathlib.Omega.{arith}
 use lib.ListN.{length, getD}
-use Rattle.columns.specs.Write.{pasted}
+use Rattle.columns.specs.inner.Write.{pasted}
 use Rattle.automaton.specs.Listing.{Row, Edge}
 use Rattle.automaton.specs.Bytes.{rowLength, edgeLength, rowBytes, edgeBytes, bitOf, rowState, rowFinal, edgeAt}
 use Rattle.automaton.proofs.Bytes.{two-bytes}
-use Rattle.listing.specs.Places.{rowPlace, putRow, putEdge}
+use Rattle.listing.specs.inner.Places.{rowPlace, putRow, putEdge}
 use Rattle.listing.proofs.Laws.Pasted.{pasted-there, pasted-before, pasted-behind}
 
 -- Byte j of a part of w bytes in place n, if a part of as many bytes is written there, or in another place.

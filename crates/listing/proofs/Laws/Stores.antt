@@ -7,11 +7,11 @@ use native.Mathlib.Omega.{arith}
 use lib.ListN.{length, set, take, drop}
 use lib.Seq.{sets, sets-eq}
 use Rattle.columns.specs.Bytes.{lowFirst}
-use Rattle.columns.specs.Write.{pasted}
+use Rattle.columns.specs.inner.Write.{pasted}
 use Rattle.columns.proofs.Laws.Pasting.{pasting-none, pasting-more, pasting-length, set-pasted}
 use Rattle.automaton.specs.Listing.{Edge}
 use Rattle.automaton.specs.Bytes.{edgeLength}
-use Rattle.listing.specs.Places.{putEdge}
+use Rattle.listing.specs.inner.Places.{putEdge}
 
 in-place : (out : List ℕ) (at : ℕ) (part : List ℕ) → at + length part ≤ length out → sets out at part ≡ pasted out at part
 in-place out at part h = sets-eq part out at h ∙ append-assoc (take at out) part (drop (at + length part) out)

@@ -7,7 +7,7 @@ use Prim.Native.Nat.{_+_, _*_}
 use native.Mathlib.Omega.{arith}
 use lib.ListN.{length-set}
 use Rattle.automaton.specs.Bytes.{edgeLength}
-use Rattle.listing.specs.Places.{edgeTo}
+use Rattle.listing.specs.inner.Places.{edgeTo}
 use Rattle.listing.proofs.Laws.Stores.{edge-in-place}
 
 mul-at : tie.Need-mul-at

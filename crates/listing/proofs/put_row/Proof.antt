@@ -8,8 +8,8 @@ use Prim.Native.Nat.{_*_}
 use native.Mathlib.Omega.{arith}
 use lib.ListN.{length-set}
 use Rattle.automaton.specs.Bytes.{rowLength}
-use Rattle.columns.specs.Write.{pasted}
-use Rattle.listing.specs.Places.{putRow}
+use Rattle.columns.specs.inner.Write.{pasted}
+use Rattle.listing.specs.inner.Places.{putRow}
 use Rattle.listing.proofs.Laws.Stores.{three-stores}
 
 mul-at : tie.Need-mul-at

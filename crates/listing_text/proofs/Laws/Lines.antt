@@ -6,12 +6,12 @@ use Prim.Native.Nat.{ℕ, _+_, _*_, _≤_, _<_}
 use native.Mathlib.Omega.{arith}
 use lib.ListN.{length, getD, take}
 use Rattle.automaton.specs.Bytes.{rowLength, edgeLength}
-use Rattle.columns.specs.Columns.{numbersLine}
-use Rattle.columns.specs.Write.{pasted}
+use Rattle.columns.specs.Lines.{numbersLine}
+use Rattle.columns.specs.inner.Write.{pasted}
 use Rattle.columns.proofs.Laws.Pasting.{pasting-length}
-use Rattle.explanations.specs.Printed.{rowText, edgeText}
+use Rattle.explanations.specs.inner.Printed.{rowText, edgeText}
 use Rattle.explanations.proofs.Printing.{Lines, lines-none, lines-more, three-wide, four-wide}
-use Rattle.listing_text.specs.Lines.{lineNumbers, lineColumns, lineText, partLength, lineWidth, mostLines, LineFits, LineWritten, LinesFit, LinesWritten}
+use Rattle.listing_text.specs.inner.Lines.{lineNumbers, lineColumns, lineText, partLength, lineWidth, mostLines, LineFits, LineWritten, LinesFit, LinesWritten}
 
 -- Lists of bytes.
 abbrev pub AreBytes : List ℕ → Type 0

@@ -6,7 +6,7 @@ use Prim.Native.Nat.{_-_, _≤_}
 use native.Mathlib.Omega.{arith}
 use Rattle.columns.proofs.Laws.Pasting.{pasting-length}
 use Rattle.explanations.proofs.Printing.{Lines}
-use Rattle.listing_text.specs.Lines.{lineText, lineWidth}
+use Rattle.listing_text.specs.inner.Lines.{lineText, lineWidth}
 use Rattle.listing_text.proofs.Laws.Lines.{AreBytes, lines-start, line-fits, line-more, lines-written}
 
 abbrev Inv-loop : tie.InvT-loop

@@ -3,9 +3,10 @@ use borrow.Author.Needs.{needs}
 use Rattle.listing_text.proofs.write_listing.Statement.{statement}
 use Rattle.listing_text.proofs.write_listing.Tie as tie
 use native.Mathlib.Omega.{arith}
-use Rattle.explanations.specs.Printed.{rowsText, edgesText, summaryLine}
+use Rattle.explanations.specs.inner.Printed.{rowsText, edgesText}
+use Rattle.explanations.specs.Printed.{summaryLine}
 use Rattle.explanations.proofs.Printing.{three-texts}
-use Rattle.listing_text.specs.Lines.{summaryOf}
+use Rattle.listing_text.specs.inner.Lines.{summaryOf}
 
 write-numbers-requires : tie.Need-write-numbers-requires
 write-numbers-requires c κs = search needs

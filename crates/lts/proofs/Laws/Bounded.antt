@@ -8,7 +8,8 @@ use native.Mathlib.Omega.{arith}
 use lib.Dec.{eqb}
 use lib.ListN.{length, take, drop, length-append, length-drop}
 use lib.Seq.{drop-drop}
-use Rattle.lts.specs.Sizes.{mostTransitions, enoughTableText}
+use Rattle.lts.specs.Sizes.{mostTransitions}
+use Rattle.lts.specs.inner.Sizes.{enoughTableText}
 use Rattle.columns.specs.Columns.{column, valueAt}
 use Rattle.columns.specs.Bytes.{sameBytes}
 use Rattle.columns.proofs.Laws.Bytes.{same-of}
@@ -17,7 +18,8 @@ use Rattle.lts.specs.Reply.{Reply, accepted, refusal, unless}
 use Rattle.lts.specs.Steps.{Step, Table}
 use Rattle.lts.specs.Names.{isName}
 use Rattle.lts.specs.Text.{headerLine, labelLine, transitionLine}
-use Rattle.lts.specs.Reading.{Line, missing, line, longer, firstLine, onLine, Header, headerOf, headerLaidOut, headerInRange, labelLaidOut, used, stepOf, stepLaidOut, stepInRange, above, atEnd, readTransitions, readLabels, readLabelsWith, readTable, readTableWith}
+use Rattle.lts.specs.Reading.{Line, missing, line, longer, firstLine, onLine, Header, headerOf, headerLaidOut, headerInRange, used, stepOf, stepLaidOut, stepInRange, above, atEnd, readTransitions, readLabelsWith, readTable, readTableWith}
+use Rattle.lts.specs.inner.Reading.{labelLaidOut, readLabels}
 use Rattle.lts.proofs.Lists.{and-true-of}
 use Rattle.lts.proofs.Laws.Tests.{name-shape, counts-of}
 use Rattle.lts.proofs.Laws.LinesRead.{column-peeled}

@@ -5,9 +5,9 @@ use Prim.Native.Nat.{ℕ, zero, suc, _+_, _*_, _<_}
 use native.Mathlib.Nat.{zero-add}
 use native.Mathlib.Omega.{arith}
 use lib.ListN.{length, getD, length-map}
-use Rattle.lts.specs.Lists.{upFrom}
+use Rattle.lts.specs.inner.Lists.{upFrom}
 use Rattle.lts.specs.Steps.{Step, labels}
-use Rattle.lts.specs.Prepared.{tableIn, byteAt, nameAt, transitionAt}
+use Rattle.lts.specs.inner.Prepared.{tableIn, byteAt, nameAt, transitionAt}
 use Rattle.lts.proofs.Lists.{upFrom-length, upFrom-at}
 
 -- A map's members, with a default of either list.

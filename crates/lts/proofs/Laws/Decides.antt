@@ -8,7 +8,7 @@ use native.Mathlib.Omega.{arith}
 use lib.Bits.{bitOr, or-add-and, and-le-l, and-le-r}
 use lib.Dec.{eqb}
 use borrow.Author.Tests.{eqb-true, eqb-false}
-use Rattle.lts.specs.Answers.{Decides}
+use Rattle.lts.specs.inner.Answers.{Decides}
 
 pub decided-yes : {P : Type 0} → P → Decides P true
 decided-yes p = record { yes = λ e. p; no = λ e q. true≢false e }

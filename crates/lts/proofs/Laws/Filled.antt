@@ -7,8 +7,9 @@ use native.Mathlib.Omega.{arith}
 use lib.ListN.{length, take, drop, replicate, length-drop, length-replicate, getD-replicate, List·getD-append}
 use lib.Seq.{length-take-le, take-add, getD-take, getD-drop, getD-append-add, ext-getD}
 use Rattle.columns.specs.Bytes.{padded}
-use Rattle.lts.specs.Lists.{upFrom, bind}
-use Rattle.lts.specs.Prepared.{byteAt}
+use Rattle.lts.specs.inner.Lists.{upFrom}
+use Rattle.lts.specs.Lists.{bind}
+use Rattle.lts.specs.inner.Prepared.{byteAt}
 use Rattle.lts.proofs.Lists.{upFrom-snoc, bind-append}
 use Rattle.lts.proofs.Laws.Contents.{map-upFrom-length, map-upFrom-at}
 

@@ -6,15 +6,18 @@ use Prim.Native.Nat.{ℕ, _+_, _-_, _*_, _≤_, _<_}
 use native.Mathlib.Omega.{arith}
 use lib.ListN.{length, getD, take, drop, take-append-drop}
 use lib.Seq.{getD-drop}
-use Rattle.lts.specs.Sizes.{headLength, nameSlotLength, transitionLength, namesLength, transitionsAt, transitionsLength, tableLength}
+use Rattle.lts.specs.inner.Sizes.{headLength, transitionsAt}
+use Rattle.lts.specs.Sizes.{nameSlotLength, transitionLength, namesLength, transitionsLength, tableLength}
 use Rattle.columns.specs.Bytes.{padded}
 use Rattle.lts.specs.Lists.{bind}
 use Rattle.lts.specs.Names.{isName}
-use Rattle.lts.specs.Steps.{Table, labels, idleAt}
-use Rattle.lts.specs.Range.{Below, Differ, StepInRange, InRange}
-use Rattle.lts.specs.Prepared.{nameSlot, transitionSlot, tableBytes, byteAt, transitionAt, tableIn, preparedTable}
-use Rattle.lts.specs.Answers.{isSome}
-use Rattle.lts.specs.Check.{ZerosFrom, NameHeld, NewName, TransitionHeld, WellFormed}
+use Rattle.lts.specs.Steps.{Table, labels}
+use Rattle.lts.specs.inner.Steps.{idleAt}
+use Rattle.lts.specs.inner.Range.{Below, Differ, StepInRange, InRange}
+use Rattle.lts.specs.Prepared.{nameSlot, transitionSlot, tableBytes}
+use Rattle.lts.specs.inner.Prepared.{byteAt, transitionAt, tableIn, preparedTable}
+use Rattle.lts.specs.inner.Answers.{isSome}
+use Rattle.lts.specs.inner.Check.{ZerosFrom, NameHeld, NewName, TransitionHeld, WellFormed}
 use Rattle.lts.proofs.Lists.{getD-mem, rising-index}
 use Rattle.lts.proofs.Laws.Contents.{name-in, transition-in}
 use Rattle.lts.proofs.Laws.Slots.{slots-length}

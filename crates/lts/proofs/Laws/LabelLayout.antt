@@ -11,10 +11,11 @@ use Rattle.columns.specs.Columns.{column, valueAt}
 use Rattle.columns.proofs.Laws.Compared.{each-append, each-weaken, same-equal, same-of-equal}
 use Rattle.columns.proofs.Laws.ColumnsRead.{ColumnAt}
 use Rattle.lts.specs.Names.{isName}
-use Rattle.lts.specs.NameEnds.{nameLength, nameEnd}
+use Rattle.lts.specs.inner.NameEnds.{nameLength, nameEnd}
 use Rattle.lts.specs.Text.{labelLine}
-use Rattle.lts.specs.Reading.{firstLine, labelLaidOut}
-use Rattle.lts.specs.Lines.{NoLineAt, Labelled}
+use Rattle.lts.specs.Reading.{firstLine}
+use Rattle.lts.specs.inner.Reading.{labelLaidOut}
+use Rattle.lts.specs.inner.Lines.{NoLineAt, Labelled}
 use Rattle.lts.proofs.Lists.{and-true-of, and-true-to}
 use Rattle.lts.proofs.Laws.LinesRead.{NoEnd, line-here, line-parts, drop-further, column-front, column-back, byte-within, byte-front, byte-back, column-peeled}
 use Rattle.lts.proofs.Laws.NameRuns.{High, name-high, name-short, run-is-name, name-is-run}

@@ -12,7 +12,7 @@ use Rattle.columns.proofs.Laws.ColumnsRead.{Figure, ColumnAt, column-figures, c
 use Rattle.lts.specs.Steps.{Step}
 use Rattle.lts.specs.Text.{headerLine, transitionLine}
 use Rattle.lts.specs.Reading.{Header, firstLine, headerOf, headerLaidOut, stepOf, stepLaidOut}
-use Rattle.lts.specs.Lines.{LineAt, NoLineAt}
+use Rattle.lts.specs.inner.Lines.{LineAt, NoLineAt}
 use Rattle.lts.proofs.Laws.LinesRead.{NoEnd, line-here, line-parts, column-front, column-back, byte-within, byte-front, byte-back, column-peeled}
 
 pub no-end : (v : ℕ) → Each NoEnd (column v)

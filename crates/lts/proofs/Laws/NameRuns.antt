@@ -10,9 +10,10 @@ use lib.Dec.{eqb}
 use lib.ListN.{length, getD, take, drop, length-append, length-drop, drop-of-length-le}
 use lib.Seq.{drop-at, drop-cons, drop-drop, take-at, take-add}
 use Rattle.columns.proofs.Laws.Compared.{Each, each-append, each-weaken}
-use Rattle.lts.specs.Names.{isLower, isNameByte, unmarked, marked, isMark, isLastMark, atMost, isNameWith, isName}
+use Rattle.lts.specs.Names.{isLower, isNameByte, atMost, isNameWith, isName}
+use Rattle.lts.specs.Marks.{unmarked, marked, isMark, isLastMark}
 use Rattle.lts.specs.Directions.{Direction, neither, received, sent, directionOfMark, directionOf, sameDirection, markOf}
-use Rattle.lts.specs.NameEnds.{stemLength, stemEnd, markLength, withMark, nameLength, nameEnd, nameDirection}
+use Rattle.lts.specs.inner.NameEnds.{stemLength, stemEnd, markLength, withMark, nameLength, nameEnd, nameDirection}
 use Rattle.lts.proofs.Lists.{and-true-of, and-true-to, or-true-of, or-true-left, or-true-right}
 use Rattle.lts.proofs.Laws.Stems.{isStem, stem-high, stem-short, stem-is-name, stem-is-longest, stem-is-run}
 

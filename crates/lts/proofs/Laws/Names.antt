@@ -11,12 +11,13 @@ use lib.Seq.{length-take-le, getD-take, getD-drop}
 use Rattle.lts.specs.Sizes.{nameSlotLength}
 use Rattle.columns.specs.Bytes.{sameBytes}
 use Rattle.columns.proofs.Laws.Compared.{same-of-unequal, same-equal}
-use Rattle.lts.specs.Lists.{upFrom}
-use Rattle.lts.specs.Names.{longestName, findFrom, lookup}
+use Rattle.lts.specs.inner.Lists.{upFrom}
+use Rattle.lts.specs.inner.Sizes.{longestName}
+use Rattle.lts.specs.Names.{findFrom, lookup}
 use Rattle.lts.specs.Directions.{Direction, markOf}
 use Rattle.lts.specs.Reading.{used}
-use Rattle.lts.specs.Slots.{storedName, storedNames}
-use Rattle.lts.specs.Answers.{isSome}
+use Rattle.lts.specs.inner.Slots.{storedName, storedNames}
+use Rattle.lts.specs.inner.Answers.{isSome}
 use Rattle.lts.proofs.Laws.NameRuns.{IsStem, three-names}
 
 -- The name in slot k, and one of another length or of the same.

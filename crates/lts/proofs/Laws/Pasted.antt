@@ -6,9 +6,10 @@ use native.Mathlib.Numerals.{add-one}
 use native.Mathlib.Omega.{arith}
 use lib.ListN.{length, set, take, drop, length-append}
 use lib.Seq.{take-suc-set, drop-set-lt, append-snoc, take-at, drop-append-add, drop-drop}
-use Rattle.lts.specs.Sizes.{namesLength, transitionsAt, transitionsLength}
+use Rattle.lts.specs.Sizes.{namesLength, transitionsLength}
+use Rattle.lts.specs.inner.Sizes.{transitionsAt}
 use Rattle.lts.specs.Reply.{overwritten}
-use Rattle.columns.specs.Write.{pasted}
+use Rattle.columns.specs.inner.Write.{pasted}
 
 pub pasted-first : (l : List ℕ) (i n : ℕ) (vs : List ℕ) → i < length l → pasted (set l i n) (i + 1) vs ≡ pasted l i (n ∷ vs)
 pasted-first l i n vs h =

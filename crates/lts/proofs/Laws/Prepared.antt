@@ -12,12 +12,13 @@ use Rattle.columns.specs.Bytes.{sameBytes}
 use Rattle.columns.proofs.Laws.Bytes.{same-of, same-to}
 use Rattle.lts.specs.Reply.{Reply, accepted, refusal}
 use Rattle.lts.specs.Steps.{Table}
-use Rattle.lts.specs.Range.{InRange}
-use Rattle.lts.specs.Text.{tableText}
+use Rattle.lts.specs.inner.Range.{InRange}
+use Rattle.lts.specs.inner.Text.{tableText}
 use Rattle.lts.specs.Reading.{readTable}
-use Rattle.lts.specs.Prepared.{tableBytes, tableIn, leftBy, preparedTable, LeftByReading}
-use Rattle.lts.specs.HoldsTable.{HoldsTable}
-use Rattle.lts.specs.Answers.{isSome}
+use Rattle.lts.specs.Prepared.{tableBytes, LeftByReading}
+use Rattle.lts.specs.inner.Prepared.{tableIn, leftBy, preparedTable}
+use Rattle.lts.specs.inner.HoldsTable.{HoldsTable}
+use Rattle.lts.specs.inner.Answers.{isSome}
 use Rattle.lts.proofs.Laws.Texts.{read-of-text, text-of-read}
 use Rattle.lts.proofs.Laws.TableBytes.{table-bytes-length, table-in-bytes}
 

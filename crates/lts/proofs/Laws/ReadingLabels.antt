@@ -13,8 +13,10 @@ use Rattle.columns.proofs.Laws.Bytes.{same-of}
 use Rattle.lts.specs.Reply.{accepted, unless}
 use Rattle.lts.specs.Steps.{Table}
 use Rattle.lts.specs.Names.{isName}
-use Rattle.lts.specs.Text.{ended, labelLine, labelLines}
-use Rattle.lts.specs.Reading.{Line, line, firstLine, onLine, Header, labelLaidOut, used, readTransitions, readLabels, readLabelsWith}
+use Rattle.lts.specs.Text.{ended, labelLine}
+use Rattle.lts.specs.inner.Text.{labelLines}
+use Rattle.lts.specs.Reading.{Line, line, firstLine, onLine, Header, used, readTransitions, readLabelsWith}
+use Rattle.lts.specs.inner.Reading.{labelLaidOut, readLabels}
 use Rattle.lts.proofs.Lists.{and-true-of}
 use Rattle.lts.proofs.Laws.Tests.{name-shape}
 use Rattle.lts.proofs.Laws.Lines.{first-line-of, first-line-to, label-number, label-name, label-laid-out, label-unbroken}

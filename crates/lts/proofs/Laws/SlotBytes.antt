@@ -9,15 +9,16 @@ use lib.ListN.{length, getD, take, drop, replicate, length-append, length-replic
 use lib.Seq.{take-append-seam, drop-append-add, take-at, drop-at, drop-drop, getD-drop}
 use Rattle.lts.specs.Sizes.{mostLabels, mostTransitions, nameSlotLength, transitionLength, namesLength, transitionsLength}
 use Rattle.columns.specs.Bytes.{padded}
-use Rattle.columns.specs.Write.{pasted}
-use Rattle.lts.specs.Lists.{upFrom, bind, every}
+use Rattle.columns.specs.inner.Write.{pasted}
+use Rattle.lts.specs.inner.Lists.{upFrom, every}
+use Rattle.lts.specs.Lists.{bind}
 use Rattle.lts.specs.Steps.{Step}
 use Rattle.lts.specs.Names.{isName, lookup}
 use Rattle.lts.specs.Reading.{used, stepBelow, above}
 use Rattle.lts.specs.Prepared.{nameSlot, transitionSlot}
-use Rattle.lts.specs.Slots.{counted, storedName, storedNames, storedStep, risesAfter, nameBytes, stepBytes}
+use Rattle.lts.specs.inner.Slots.{counted, storedName, storedNames, storedStep, risesAfter, nameBytes, stepBytes}
 use Rattle.lts.proofs.Lists.{and-true-of, and-true-to, bind-append}
-use Rattle.lts.specs.Answers.{isSome}
+use Rattle.lts.specs.inner.Answers.{isSome}
 use Rattle.lts.proofs.Laws.NameRuns.{name-short}
 use Rattle.lts.proofs.Laws.Names.{used-looked-up}
 

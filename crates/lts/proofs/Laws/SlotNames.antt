@@ -9,18 +9,20 @@ use borrow.Author.Tests.{leb-true, leb-false}
 use lib.Dec.{leb}
 use lib.ListN.{length, getD, take, drop, length-take, length-drop, take-append-drop}
 use lib.Seq.{length-take-le, getD-take, getD-drop, ext-getD, drop-cons, drop-drop}
-use Rattle.lts.specs.Sizes.{mostLabels, headLength, nameSlotLength, namesLength, tableLength}
+use Rattle.lts.specs.Sizes.{mostLabels, nameSlotLength, namesLength, tableLength}
+use Rattle.lts.specs.inner.Sizes.{headLength}
 use Rattle.columns.specs.Bytes.{sameBytes}
 use Rattle.columns.proofs.Laws.Compared.{same-of-unequal}
-use Rattle.lts.specs.Lists.{upFrom}
+use Rattle.lts.specs.inner.Lists.{upFrom}
 use Rattle.lts.specs.Steps.{labels}
-use Rattle.lts.specs.Names.{longestName, isName, findFrom, lookup}
-use Rattle.lts.specs.NameEnds.{nameLength, nameEnd}
+use Rattle.lts.specs.inner.Sizes.{longestName}
+use Rattle.lts.specs.Names.{isName, findFrom, lookup}
+use Rattle.lts.specs.inner.NameEnds.{nameLength, nameEnd}
 use Rattle.lts.specs.Reading.{used}
-use Rattle.lts.specs.Prepared.{tableIn, byteAt, nameAt}
-use Rattle.lts.specs.Slots.{storedName, storedNames}
-use Rattle.lts.specs.Answers.{isSome}
-use Rattle.lts.specs.Check.{NameHeld, NewName}
+use Rattle.lts.specs.inner.Prepared.{tableIn, byteAt, nameAt}
+use Rattle.lts.specs.inner.Slots.{storedName, storedNames}
+use Rattle.lts.specs.inner.Answers.{isSome}
+use Rattle.lts.specs.inner.Check.{NameHeld, NewName}
 use Rattle.lts.proofs.Lists.{upFrom-of, upFrom-to, map-of, map-to}
 use Rattle.lts.proofs.Laws.Contents.{labels-in}
 use Rattle.lts.proofs.Laws.NameRuns.{name-short, run-is-name, name-is-run}

@@ -11,8 +11,9 @@ use lib.Dec.{leb, eqb}
 use lib.ListN.{length, getD, take, drop, drop-of-length-le}
 use lib.Seq.{drop-cons}
 use Rattle.columns.proofs.Laws.Compared.{Each}
-use Rattle.lts.specs.Names.{isLower, isNameByte, unmarked, atMost, isNameWith}
-use Rattle.lts.specs.NameEnds.{stemRun, stemLength, stemEnd}
+use Rattle.lts.specs.Names.{isLower, isNameByte, atMost, isNameWith}
+use Rattle.lts.specs.Marks.{unmarked}
+use Rattle.lts.specs.inner.NameEnds.{stemRun, stemLength, stemEnd}
 use Rattle.lts.proofs.Lists.{and-true-of, or-true-of}
 
 abbrev pub isStem : List ℕ → Bool

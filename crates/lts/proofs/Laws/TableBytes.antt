@@ -6,13 +6,17 @@ use native.Mathlib.Nat.{add-zero}
 use native.Mathlib.Omega.{arith}
 use lib.ListN.{length, getD, take, drop, replicate, length-append}
 use lib.Seq.{take-append-seam, drop-at, drop-drop, getD-drop, ext-getD}
-use Rattle.lts.specs.Sizes.{headLength, nameSlotLength, transitionLength, namesLength, transitionsAt, transitionsLength, tableLength}
+use Rattle.lts.specs.inner.Sizes.{headLength, transitionsAt}
+use Rattle.lts.specs.Sizes.{nameSlotLength, transitionLength, namesLength, transitionsLength, tableLength}
 use Rattle.columns.specs.Bytes.{lowFirst}
 use Rattle.columns.proofs.Laws.Bytes.{Bytes, bytes-none, bytes-cons, bytes-append, padded-length, padded-bytes, lowFirst-bytes, pair-value}
-use Rattle.lts.specs.Lists.{upFrom, bind}
-use Rattle.lts.specs.Steps.{Step, Table, labels, idleAt}
-use Rattle.lts.specs.Range.{InRange}
-use Rattle.lts.specs.Prepared.{nameSlot, transitionSlot, nameSlots, transitionSlots, tableBytes, byteAt, nameAt, transitionAt, tableIn}
+use Rattle.lts.specs.inner.Lists.{upFrom}
+use Rattle.lts.specs.Lists.{bind}
+use Rattle.lts.specs.Steps.{Step, Table, labels}
+use Rattle.lts.specs.inner.Steps.{idleAt}
+use Rattle.lts.specs.inner.Range.{InRange}
+use Rattle.lts.specs.Prepared.{nameSlot, transitionSlot, nameSlots, transitionSlots, tableBytes}
+use Rattle.lts.specs.inner.Prepared.{byteAt, nameAt, transitionAt, tableIn}
 use Rattle.lts.proofs.Lists.{bind-of}
 use Rattle.lts.proofs.Laws.Tests.{name-shape}
 use Rattle.lts.proofs.Laws.Contents.{map-upFrom-length, map-upFrom-at}

@@ -12,9 +12,10 @@ use Rattle.lts.specs.Sizes.{mostStates, mostLabels, mostTransitions}
 use Rattle.columns.specs.Bytes.{sameBytes}
 use Rattle.columns.proofs.Laws.Bytes.{same-of, same-to}
 use Rattle.lts.specs.Lists.{Rising}
-use Rattle.lts.specs.Names.{isLower, isNameByte, marked, isMark, isLastMark, atMost, isName}
+use Rattle.lts.specs.Names.{isLower, isNameByte, atMost, isName}
+use Rattle.lts.specs.Marks.{marked, isMark, isLastMark}
 use Rattle.lts.specs.Steps.{Step, labels}
-use Rattle.lts.specs.Range.{Below, Differ}
+use Rattle.lts.specs.inner.Range.{Below, Differ}
 use Rattle.lts.specs.Reading.{Header, headerInRange, used, stepInRange, stepBelow, above}
 use Rattle.lts.proofs.Lists.{and-true-of, and-true-to, or-true-of, or-true-left, or-true-right, not-false, some-of, some-to}
 

@@ -9,10 +9,12 @@ use lib.Dec.{eqb}
 use lib.ListN.{length, take, drop}
 use Rattle.columns.specs.Bytes.{sameBytes}
 use Rattle.columns.specs.Columns.{valueAt}
-use Rattle.lts.specs.Lists.{every}
+use Rattle.lts.specs.inner.Lists.{every}
 use Rattle.lts.specs.Reply.{Reply, refusal, unless}
 use Rattle.lts.specs.Steps.{Table}
-use Rattle.lts.specs.Names.{Marks, unmarked, marked, isMark, isNameWith, isName, Plain}
+use Rattle.lts.specs.Marks.{Marks, unmarked, marked, isMark}
+use Rattle.lts.specs.Names.{isNameWith, isName}
+use Rattle.lts.specs.Directions.{Plain}
 use Rattle.lts.specs.Text.{labelLine}
 use Rattle.lts.specs.Reading.{Line, missing, line, longer, firstLine, onLine, Header, headerOf, headerLaidOut, headerInRange, labelLaidOutWith, used, readTransitions, readLabelsWith, readTableWith}
 use Rattle.lts.proofs.Lists.{and-true-of, and-true-to, not-false}

@@ -8,15 +8,18 @@ use native.Mathlib.Nat.{add-zero}
 use native.Mathlib.Omega.{arith}
 use lib.ListN.{length, getD, take, drop, replicate, length-drop}
 use lib.Seq.{take-add, drop-drop, drop-cons, getD-drop}
-use Rattle.lts.specs.Sizes.{mostLabels, mostTransitions, headLength, nameSlotLength, transitionLength, namesLength, transitionsAt, transitionsLength, tableLength}
+use Rattle.lts.specs.Sizes.{mostLabels, mostTransitions, nameSlotLength, transitionLength, namesLength, transitionsLength, tableLength}
+use Rattle.lts.specs.inner.Sizes.{headLength, transitionsAt}
 use Rattle.columns.specs.Bytes.{lowFirst}
 use Rattle.columns.proofs.Laws.Bytes.{pair-bytes}
-use Rattle.lts.specs.Lists.{upFrom}
+use Rattle.lts.specs.inner.Lists.{upFrom}
 use Rattle.lts.specs.Names.{isName}
-use Rattle.lts.specs.Steps.{Step, labels, idleAt}
-use Rattle.lts.specs.Range.{Below, Differ, StepInRange, InRange}
-use Rattle.lts.specs.Prepared.{nameSlot, transitionSlot, nameSlots, transitionSlots, tableBytes, byteAt, nameAt, transitionAt, tableIn, preparedTable}
-use Rattle.lts.specs.Check.{WellFormed}
+use Rattle.lts.specs.Steps.{Step, labels}
+use Rattle.lts.specs.inner.Steps.{idleAt}
+use Rattle.lts.specs.inner.Range.{Below, Differ, StepInRange, InRange}
+use Rattle.lts.specs.Prepared.{nameSlot, transitionSlot, nameSlots, transitionSlots, tableBytes}
+use Rattle.lts.specs.inner.Prepared.{byteAt, nameAt, transitionAt, tableIn, preparedTable}
+use Rattle.lts.specs.inner.Check.{WellFormed}
 use Rattle.lts.proofs.Lists.{mem-index, rising-pairs, rising-adjacent}
 use Rattle.lts.proofs.Laws.Tests.{below-trans, name-shape}
 use Rattle.lts.proofs.Laws.Contents.{labels-in, transitions-in, name-in, transition-in}

@@ -4,10 +4,10 @@ use mathlib.Core.Bool.{Bool, true, false, not}
 use mathlib.Core.List.{List}
 use Prim.Native.Nat.{ℕ}
 use borrow.Author.Tests.{not-true, not-false}
-use Rattle.lts.specs.Answers.{Decides}
-use Rattle.lts.specs.Check.{ZerosFrom}
+use Rattle.lts.specs.inner.Answers.{Decides}
+use Rattle.lts.specs.inner.Check.{ZerosFrom}
 use Rattle.lts.proofs.Laws.Decides.{decided-no, decided-by}
-use Rattle.table_check.specs.Filled.{Filled}
+use Rattle.table_check.specs.inner.Filled.{Filled}
 
 module _ {Held : Type 0} (b : List ℕ) (to : ℕ) (r : Bool) (d : Decides Held r) where
   pub unfilled : (from : ℕ) → not r ≡ true → Decides (Filled Held b from to) false

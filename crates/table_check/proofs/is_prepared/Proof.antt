@@ -6,13 +6,13 @@ use Prim.Native.Nat.{ℕ}
 use native.Mathlib.Omega.{arith}
 use borrow.Author.Needs.{needs}
 use borrow.Author.Tests.{not-true, not-false}
-use Rattle.lts.specs.Prepared.{tableIn, preparedTable}
-use Rattle.lts.specs.Answers.{isSome, Decides}
-use Rattle.lts.specs.Check.{CountsHeld, WellFormed}
+use Rattle.lts.specs.inner.Prepared.{tableIn, preparedTable}
+use Rattle.lts.specs.inner.Answers.{isSome, Decides}
+use Rattle.lts.specs.inner.Check.{CountsHeld, WellFormed}
 use Rattle.lts.proofs.Laws.Decides.{decided-no}
 use Rattle.lts.proofs.Laws.Held.{prepared-well-formed}
 use Rattle.lts.proofs.Laws.WellFormed.{well-formed-prepared}
-use Rattle.table_check.specs.Filled.{NamesFilled}
+use Rattle.table_check.specs.inner.Filled.{NamesFilled}
 use Rattle.table_check.proofs.is_prepared.Statement.{statement}
 use Rattle.table_check.proofs.is_prepared.Tie as tie
 

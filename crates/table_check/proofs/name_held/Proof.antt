@@ -4,10 +4,11 @@ use mathlib.Core.List.{List}
 use Prim.Native.Nat.{ℕ, _+_, _*_}
 use native.Mathlib.Omega.{arith}
 use borrow.Author.Needs.{needs}
-use Rattle.lts.specs.Sizes.{headLength, nameSlotLength}
-use Rattle.lts.specs.NameEnds.{nameEnd}
-use Rattle.lts.specs.Prepared.{byteAt}
-use Rattle.lts.specs.Check.{ZerosFrom, NameHeld}
+use Rattle.lts.specs.inner.Sizes.{headLength}
+use Rattle.lts.specs.Sizes.{nameSlotLength}
+use Rattle.lts.specs.inner.NameEnds.{nameEnd}
+use Rattle.lts.specs.inner.Prepared.{byteAt}
+use Rattle.lts.specs.inner.Check.{ZerosFrom, NameHeld}
 use Rattle.lts.proofs.Laws.Decides.{decided-no, decided-by}
 use Rattle.lts.proofs.Laws.SlotNames.{name-few, held-end, end-held}
 use Rattle.table_check.proofs.name_held.Statement.{statement}

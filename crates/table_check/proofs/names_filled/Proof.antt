@@ -1,7 +1,8 @@
 -- `names_filled` meets its contract: both tests are parts of it.
 use borrow.Author.Needs.{needs}
 use Prim.Native.Nat.{_+_, _*_}
-use Rattle.lts.specs.Sizes.{headLength, nameSlotLength, transitionsAt}
+use Rattle.lts.specs.inner.Sizes.{headLength, transitionsAt}
+use Rattle.lts.specs.Sizes.{nameSlotLength}
 use Rattle.table_check.proofs.Laws.Filled.{unfilled, filled}
 use Rattle.table_check.proofs.names_filled.Statement.{statement}
 use Rattle.table_check.proofs.names_filled.Tie as tie

@@ -4,10 +4,11 @@ use Prim.Native.Nat.{ℕ, _+_, _-_, _*_, _≤_, _<_}
 use native.Mathlib.Omega.{arith}
 use borrow.Author.Count.{below-more}
 use borrow.Author.Tests.{not-true, not-false}
-use Rattle.lts.specs.Sizes.{mostLabels, headLength, nameSlotLength}
+use Rattle.lts.specs.Sizes.{mostLabels, nameSlotLength}
+use Rattle.lts.specs.inner.Sizes.{headLength}
 use Rattle.lts.specs.Steps.{labels}
-use Rattle.lts.specs.Prepared.{tableIn, byteAt}
-use Rattle.lts.specs.Check.{NameHeld, NewName}
+use Rattle.lts.specs.inner.Prepared.{tableIn, byteAt}
+use Rattle.lts.specs.inner.Check.{NameHeld, NewName}
 use Rattle.lts.proofs.Laws.Decides.{decided-yes, decided-no}
 use Rattle.lts.proofs.Laws.SlotNames.{name-few}
 use Rattle.table_check.proofs.names_held.Statement.{statement}

@@ -5,10 +5,10 @@ use Prim.Native.Nat.{ℕ}
 use lib.ListN.{take, drop}
 use Rattle.lts.specs.Sizes.{namesLength}
 use Rattle.lts.specs.Names.{lookup}
-use Rattle.lts.specs.Prepared.{nameAt}
-use Rattle.lts.specs.Slots.{storedNames}
-use Rattle.tables.specs.Access.{foundIn}
-use Rattle.lts.specs.Answers.{isSome}
+use Rattle.lts.specs.inner.Prepared.{nameAt}
+use Rattle.lts.specs.inner.Slots.{storedNames}
+use Rattle.tables.specs.inner.Access.{foundIn}
+use Rattle.lts.specs.inner.Answers.{isSome}
 use Rattle.lts.proofs.Laws.Decides.{decided-yes, decided-no}
 use Rattle.lts.proofs.Laws.SlotNames.{new-of, new-not}
 use borrow.Author.Needs.{needs}

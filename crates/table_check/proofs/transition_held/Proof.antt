@@ -5,10 +5,10 @@ use Prim.Native.Nat.{ℕ, suc, _-_}
 use native.Mathlib.Omega.{arith}
 use borrow.Author.Needs.{needs}
 use Rattle.lts.specs.Steps.{Step}
-use Rattle.lts.specs.Range.{Below}
-use Rattle.lts.specs.Prepared.{transitionAt}
-use Rattle.lts.specs.Check.{TransitionHeld}
-use Rattle.tables.specs.Access.{stepIn}
+use Rattle.lts.specs.inner.Range.{Below}
+use Rattle.lts.specs.inner.Prepared.{transitionAt}
+use Rattle.lts.specs.inner.Check.{TransitionHeld}
+use Rattle.tables.specs.inner.Access.{stepIn}
 use Rattle.lts.proofs.Laws.Tests.{below-of, below-to}
 use Rattle.lts.proofs.Laws.Decides.{decided-yes, decided-no, decided-test}
 use Rattle.table_check.proofs.transition_held.Statement.{statement}

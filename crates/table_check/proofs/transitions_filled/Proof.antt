@@ -1,7 +1,8 @@
 -- `transitions_filled` meets its contract, as `names_filled` does.
 use borrow.Author.Needs.{needs}
 use Prim.Native.Nat.{_+_, _*_}
-use Rattle.lts.specs.Sizes.{transitionLength, transitionsAt, tableLength}
+use Rattle.lts.specs.Sizes.{transitionLength, tableLength}
+use Rattle.lts.specs.inner.Sizes.{transitionsAt}
 use Rattle.table_check.proofs.Laws.Filled.{unfilled, filled}
 use Rattle.table_check.proofs.transitions_filled.Statement.{statement}
 use Rattle.table_check.proofs.transitions_filled.Tie as tie

@@ -7,8 +7,8 @@ use lib.ListN.{length}
 use borrow.Author.Count.{below-more}
 use borrow.Author.Tests.{not-true, not-false}
 use Rattle.lts.specs.Steps.{labels}
-use Rattle.lts.specs.Prepared.{tableIn}
-use Rattle.lts.specs.Check.{TransitionHeld}
+use Rattle.lts.specs.inner.Prepared.{tableIn}
+use Rattle.lts.specs.inner.Check.{TransitionHeld}
 use Rattle.lts.proofs.Laws.Decides.{decided-yes, decided-no}
 use Rattle.table_check.proofs.transitions_held.Statement.{statement}
 use Rattle.table_check.proofs.transitions_held.Tie as tie

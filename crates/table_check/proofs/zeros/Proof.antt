@@ -2,8 +2,8 @@
 use mathlib.Core.Path.{_≡_, refl}
 use Prim.Native.Nat.{_-_, _≤_, _<_}
 use native.Mathlib.Omega.{arith}
-use Rattle.lts.specs.Prepared.{byteAt}
-use Rattle.lts.specs.Check.{ZerosFrom}
+use Rattle.lts.specs.inner.Prepared.{byteAt}
+use Rattle.lts.specs.inner.Check.{ZerosFrom}
 use Rattle.lts.proofs.Laws.Decides.{decided-zero, together, from-more}
 use Rattle.table_check.proofs.zeros.Statement.{statement}
 use Rattle.table_check.proofs.zeros.Tie as tie

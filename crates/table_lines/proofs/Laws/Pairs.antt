@@ -5,11 +5,11 @@ use Prim.Native.Nat.{ℕ, _+_}
 use native.Mathlib.Omega.{arith}
 use lib.ListN.{take, drop}
 use Rattle.columns.specs.Columns.{column}
-use Rattle.columns.specs.Read.{columnAt}
+use Rattle.columns.specs.inner.Read.{columnAt}
 use Rattle.columns.specs.declared.Column.{Column}
 use Rattle.columns.specs.declared.Column.the-variants.{Number, Bad}
 use Rattle.columns.proofs.Laws.ColumnsRead.{ColumnAt, column-found, column-lacking}
-use Rattle.table_lines.specs.LineReplies.{pairOf, pairAt}
+use Rattle.table_lines.specs.inner.LineReplies.{pairOf, pairAt}
 use Rattle.table_lines.specs.declared.Pair.the-variants.{Numbers, NoPair}
 
 module _ (s : List ℕ) (at a b : ℕ) where

@@ -2,9 +2,9 @@
 use borrow.Author.Needs.{needs}
 use mathlib.Core.Path.{_≡_, sym, ap, ap₂, _∙_}
 use Prim.Native.Nat.{_+_}
-use Rattle.columns.specs.Read.{columnAt}
+use Rattle.columns.specs.inner.Read.{columnAt}
 use Rattle.columns.specs.declared.Column.the-variants.{Number}
-use Rattle.table_lines.specs.LineReplies.{pairOf, pairAt}
+use Rattle.table_lines.specs.inner.LineReplies.{pairOf, pairAt}
 use Rattle.table_lines.proofs.read_pair.Statement.{statement}
 use Rattle.table_lines.proofs.read_pair.Tie as tie
 

@@ -10,10 +10,12 @@ use lib.ListN.{length, drop}
 use Rattle.columns.specs.Columns.{valueAt}
 use Rattle.lts.specs.Reply.{Reply, refusal, unless}
 use Rattle.lts.specs.Steps.{Step, Table}
-use Rattle.lts.specs.Reading.{Header, Line, missing, line, firstLine, onLine, labelLaidOut, used, stepOf, stepLaidOut, stepInRange, above}
-use Rattle.lts.specs.Reading.{readTransitions, readLabels, readLabelsWith}
-use Rattle.lts.specs.Lines.{LineAt, NoLineAt}
-use Rattle.table_text.specs.Progress.{Refuses, numberRefused}
+use Rattle.lts.specs.Reading.{Header, Line, missing, line, firstLine, onLine, used, stepOf, stepLaidOut, stepInRange, above}
+use Rattle.lts.specs.inner.Reading.{labelLaidOut}
+use Rattle.lts.specs.Reading.{readTransitions, readLabelsWith}
+use Rattle.lts.specs.inner.Reading.{readLabels}
+use Rattle.lts.specs.inner.Lines.{LineAt, NoLineAt}
+use Rattle.table_text.specs.inner.Progress.{Refuses, numberRefused}
 use Rattle.lts.proofs.Lists.{and-true-of}
 use Rattle.table_text.specs.declared.TableReply.the-variants.{NotLaidOut, OutOfRange, NameRepeated, NotRising}
 

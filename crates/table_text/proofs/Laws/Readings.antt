@@ -6,14 +6,15 @@ use Prim.Native.Nat.{ℕ, suc, _+_, _-_, _<_, _≤_}
 use native.Mathlib.Omega.{arith}
 use lib.ListN.{length, drop, replicate, length-replicate, length-append, length-drop, drop-of-length-le}
 use Rattle.lts.specs.Sizes.{namesLength, transitionsLength}
-use Rattle.lts.specs.Lists.{every}
+use Rattle.lts.specs.inner.Lists.{every}
 use Rattle.lts.specs.Reply.{Reply, accepted, refusal}
 use Rattle.lts.specs.Steps.{Step, Table}
 use Rattle.lts.specs.Names.{isName}
-use Rattle.lts.specs.Reading.{Header, atEnd, readTransitions, readLabels, readLabelsWith}
-use Rattle.lts.specs.Slots.{nameBytes, stepBytes}
-use Rattle.table_lines.specs.LineReplies.{header}
-use Rattle.table_text.specs.Progress.{Refuses, NameRead, NamesRead, TransitionLineRead, StepsRead, TransitionProgress}
+use Rattle.lts.specs.Reading.{Header, atEnd, readTransitions, readLabelsWith}
+use Rattle.lts.specs.inner.Reading.{readLabels}
+use Rattle.lts.specs.inner.Slots.{nameBytes, stepBytes}
+use Rattle.table_lines.specs.inner.LineReplies.{header}
+use Rattle.table_text.specs.inner.Progress.{Refuses, NameRead, NamesRead, TransitionLineRead, StepsRead, TransitionProgress}
 use Rattle.table_lines.specs.declared.HeaderFields.{HeaderFields}
 use Rattle.table_text.specs.declared.Progress.the-variants.{Next}
 use Rattle.table_text.specs.declared.TableReply.{TableReply}

@@ -1,6 +1,6 @@
 -- `number_refused` answers `numberRefused`.
 use mathlib.Core.Path.{sym, ap}
-use Rattle.table_text.specs.Progress.{numberRefused}
+use Rattle.table_text.specs.inner.Progress.{numberRefused}
 use Rattle.table_text.proofs.number_refused.Statement.{statement}
 use Rattle.table_text.proofs.number_refused.Tie as tie
 

@@ -11,17 +11,17 @@ use Rattle.table_text.proofs.Laws.Progress.{label-refused, label-out-of
 use Rattle.lts.proofs.Laws.SlotBytes.{name-written, used-stored}
 use Rattle.lts.proofs.Laws.NameRuns.{name-short}
 use Rattle.lts.proofs.Lists.{and-true-of}
-use Rattle.lts.specs.Lists.{every}
-use Rattle.lts.specs.Slots.{counted, nameBytes}
-use Rattle.lts.specs.Lines.{Labelled}
-use Rattle.table_lines.specs.LineReplies.{LabelAnswer}
+use Rattle.lts.specs.inner.Lists.{every}
+use Rattle.lts.specs.inner.Slots.{counted, nameBytes}
+use Rattle.lts.specs.inner.Lines.{Labelled}
+use Rattle.table_lines.specs.inner.LineReplies.{LabelAnswer}
 use Rattle.lts.specs.Reading.{used}
 use Rattle.lts.specs.Text.{labelLine}
 use Rattle.lts.specs.Names.{isName}
-use Rattle.tables.specs.Access.{foundIn}
-use Rattle.lts.specs.Answers.{isSome}
+use Rattle.tables.specs.inner.Access.{foundIn}
+use Rattle.lts.specs.inner.Answers.{isSome}
 use Rattle.columns.specs.Columns.{valueAt}
-use Rattle.columns.specs.Write.{pasted}
+use Rattle.columns.specs.inner.Write.{pasted}
 use Rattle.columns.specs.Bytes.{sameBytes}
 use Rattle.table_text.proofs.read_label.Statement.{statement}
 use Rattle.table_text.proofs.read_label.Tie as tie

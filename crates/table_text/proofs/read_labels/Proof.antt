@@ -8,9 +8,9 @@ use native.Mathlib.Omega.{arith}
 use Rattle.lts.specs.Sizes.{namesLength}
 use Rattle.lts.specs.Reading.{Header}
 use Rattle.table_text.proofs.Laws.Readings.{NamesSoFar, names-start, names-refused, names-go-on, names-end}
-use Rattle.table_lines.specs.LineReplies.{header}
+use Rattle.table_lines.specs.inner.LineReplies.{header}
 use Rattle.table_text.specs.declared.Progress.{Progress}
-use Rattle.table_text.specs.Progress.{NameReads, LabelProgress, LabelsRead}
+use Rattle.table_text.specs.inner.Progress.{NameReads, LabelProgress, LabelsRead}
 use Rattle.table_text.proofs.read_labels.Statement.{statement}
 use Rattle.table_text.proofs.read_labels.Tie as tie
 

@@ -5,10 +5,10 @@ use mathlib.Core.Path.{refl, ap₂, _∙_, subst}
 use mathlib.Core.List.{List, _++_}
 use Rattle.table_text.proofs.Laws.Tables.{lines-refused, lines-accepted, table-bytes}
 use Rattle.table_text.proofs.Laws.Readings.{refuses-whole}
-use Rattle.lts.specs.Slots.{headBytes}
+use Rattle.lts.specs.inner.Slots.{headBytes}
 use Rattle.lts.specs.Reading.{Header}
-use Rattle.table_lines.specs.LineReplies.{header}
-use Rattle.table_text.specs.Progress.{LabelsRead, NamesRead, TransitionsRead}
+use Rattle.table_lines.specs.inner.LineReplies.{header}
+use Rattle.table_text.specs.inner.Progress.{LabelsRead, NamesRead, TransitionsRead}
 use Rattle.table_text.proofs.read_lines.Statement.{statement}
 use Rattle.table_text.proofs.read_lines.Tie as tie
 

@@ -8,8 +8,9 @@ use lib.ListN.{drop}
 use mathlib.Core.List.{List, []}
 use Rattle.table_text.proofs.Laws.Tables.{header-refused, header-out-of-range, header-accepted, HeaderBounds, header-bounds}
 use Rattle.table_text.proofs.Laws.Tables.{short-replies, refused-replies, unwritten-replies, written-replies}
-use Rattle.lts.specs.Reading.{Header, headerInRange, readLabels, readTable}
-use Rattle.table_lines.specs.LineReplies.{header, HeaderAnswer}
+use Rattle.lts.specs.Reading.{Header, headerInRange, readTable}
+use Rattle.lts.specs.inner.Reading.{readLabels}
+use Rattle.table_lines.specs.inner.LineReplies.{header, HeaderAnswer}
 use Rattle.table_lines.specs.declared.HeaderLine.the-variants.{Header as LaidHeader}
 use Rattle.table_text.proofs.read_table.Statement.{statement}
 use Rattle.table_text.proofs.read_table.Tie as tie

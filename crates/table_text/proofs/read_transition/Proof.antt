@@ -10,12 +10,12 @@ use native.Mathlib.Omega.{arith}
 use Rattle.lts.specs.Sizes.{transitionLength}
 use Rattle.table_text.proofs.Laws.Progress.{transition-refused, transition-number-refused, transition-not-rising, transition-accepted, in-range}
 use Rattle.lts.proofs.Laws.SlotBytes.{step-written, rises-stored}
-use Rattle.columns.specs.Write.{pasted}
-use Rattle.table_lines.specs.LineReplies.{TransitionAnswer, NumbersAt, header}
-use Rattle.tables.specs.Access.{stepIn}
-use Rattle.lts.specs.Lines.{LineAt}
+use Rattle.columns.specs.inner.Write.{pasted}
+use Rattle.table_lines.specs.inner.LineReplies.{TransitionAnswer, NumbersAt, header}
+use Rattle.tables.specs.inner.Access.{stepIn}
+use Rattle.lts.specs.inner.Lines.{LineAt}
 use Rattle.lts.specs.Reading.{stepInRange, stepOf, stepLaidOut, readTransitions}
-use Rattle.table_text.specs.Progress.{Refuses}
+use Rattle.table_text.specs.inner.Progress.{Refuses}
 use Rattle.lts.specs.Prepared.{transitionSlot}
 use Rattle.tables.specs.declared.prepared.Transition.{Transition}
 use Rattle.table_text.proofs.read_transition.Statement.{statement}

@@ -6,10 +6,10 @@ use lib.ListN.{length}
 use borrow.Author.Needs.{needs}
 use native.Mathlib.Omega.{arith}
 use Rattle.table_text.proofs.Laws.Readings.{steps-start, steps-refused, text-follows, steps-end, TransitionsSoFar, line-taken}
-use Rattle.table_lines.specs.LineReplies.{header}
+use Rattle.table_lines.specs.inner.LineReplies.{header}
 use Rattle.table_lines.specs.declared.HeaderFields.{HeaderFields}
 use Rattle.table_text.specs.declared.Progress.{Progress}
-use Rattle.table_text.specs.Progress.{TransitionProgress, TransitionsRead}
+use Rattle.table_text.specs.inner.Progress.{TransitionProgress, TransitionsRead}
 use Rattle.table_text.proofs.read_transitions.Statement.{statement}
 use Rattle.table_text.proofs.read_transitions.Tie as tie
 

@@ -9,10 +9,12 @@ use lib.Dec.{ltb}
 use lib.ListN.{length, getD}
 use lib.Seq.{slice}
 use borrow.Author.Tests.{ltb-true, ltb-false, eq-eqb, ne-eqb}
-use Rattle.lts.specs.Lists.{keep, orElse, Rising}
-use Rattle.lts.specs.Steps.{Step, Table, idleAt, leaves, stepsFrom}
-use Rattle.lts.specs.Range.{InRange, Below}
-use Rattle.tables.specs.StepArray.{exitsBelow}
+use Rattle.lts.specs.inner.Lists.{keep, orElse}
+use Rattle.lts.specs.Lists.{Rising}
+use Rattle.lts.specs.Steps.{Step, Table}
+use Rattle.lts.specs.inner.Steps.{idleAt, leaves, stepsFrom}
+use Rattle.lts.specs.inner.Range.{InRange, Below}
+use Rattle.tables.specs.inner.StepArray.{exitsBelow}
 use Rattle.lts.proofs.Lists.{keep-slice, getD-mem, rising-weaken}
 
 -- No step leaves a lower state than an earlier one.

@@ -8,11 +8,14 @@ use native.Mathlib.Decide.{decLt, ℕ-discrete}
 use native.Mathlib.Omega.{arith}
 use lib.ListN.{length, getD, set, take, length-set, length-map, length-append, List·getD-append}
 use lib.Seq.{slice, slice-cons, take-suc-set, length-slice, getD-set-same, getD-set-other, getD-append-add, getD-take}
-use Rattle.lts.specs.Sizes.{mostStates, mostSteps, firstsLength}
-use Rattle.lts.specs.Lists.{upFrom, orElse, bind}
-use Rattle.lts.specs.Steps.{Step, Table, Carried, idleAt, stepsFrom}
-use Rattle.lts.specs.Range.{InRange}
-use Rattle.tables.specs.StepArray.{stepCode, stepAt, stepsBetween, stepsIn, exitsBelow, PutBehind, StepsFit, StepsOf}
+use Rattle.lts.specs.Sizes.{mostStates}
+use Rattle.lts.specs.inner.Sizes.{mostSteps, firstsLength}
+use Rattle.lts.specs.inner.Lists.{upFrom, orElse}
+use Rattle.lts.specs.Lists.{bind}
+use Rattle.lts.specs.Steps.{Step, Table}
+use Rattle.lts.specs.inner.Steps.{Carried, idleAt, stepsFrom}
+use Rattle.lts.specs.inner.Range.{InRange}
+use Rattle.tables.specs.inner.StepArray.{stepCode, stepAt, stepsBetween, stepsIn, exitsBelow, PutBehind, StepsFit, StepsOf}
 use Rattle.lts.proofs.Lists.{upFrom-snoc, bind-append, map-append, getD-mem}
 use Rattle.lts.proofs.StepsFrom.{steps-are, step-below, step-carried}
 use Rattle.lts.proofs.Laws.Contents.{map-at}

@@ -12,23 +12,24 @@ use borrow.Author.Tests.{eq-eqb, ne-eqb}
 use lib.ListN.{length, getD, set, length-set, replicate}
 use lib.Seq.{getD-set-same, getD-set-other}
 use Rattle.actl.specs.Sizes.{mostNodes}
-use Rattle.automaton.specs.Sizes.{placeCount, columnCount, masksLength}
+use Rattle.automaton.specs.inner.Sizes.{placeCount, columnCount, masksLength}
 use Rattle.lts.specs.Sizes.{mostLabels}
-use Rattle.lts.specs.Steps.{idleLabel, Carried}
+use Rattle.lts.specs.Idle.{idleLabel}
+use Rattle.lts.specs.inner.Steps.{Carried}
 use Rattle.lts.proofs.Silence.{zero-silent, idle-silent}
 use Rattle.actl.specs.Formulas.{Formula, size, isT}
-use Rattle.actl.specs.Prepared.{slotAt, preparedFormula}
-use Rattle.formulas.specs.Access.{slotOfNode}
-use Rattle.actl.specs.Shaped.{shaped}
-use Rattle.formula_classes.specs.WalkReplies.{ShapeOf}
+use Rattle.actl.specs.inner.Prepared.{slotAt, preparedFormula}
+use Rattle.formulas.specs.inner.Access.{slotOfNode}
+use Rattle.actl.specs.inner.Shaped.{shaped}
+use Rattle.formula_classes.specs.inner.WalkReplies.{ShapeOf}
 use Rattle.formula_classes.specs.declared.Shape.{Shape}
 use Rattle.formulas.specs.declared.node.Node.{Node}
 use Rattle.actl.proofs.Subformulas.{at-node}
 use Rattle.formulas.proofs.NodeSlots.{T-by-kind}
 use Rattle.actl.proofs.Laws.Slots.{node-shaped}
 use Rattle.actl.proofs.Laws.Prepared.{prepared-few, prepared-count, prepared-slot}
-use Rattle.automaton.specs.Listing.{nodeAt, final}
-use Rattle.target_masks.specs.Masks.{columnOf, maskOn, targetMask, maskOfNode, finalOfNode, Spells, MasksFit, MasksOf, MasksOn, FinalsOf}
+use Rattle.automaton.specs.inner.Search.{nodeAt, final}
+use Rattle.target_masks.specs.inner.Masks.{columnOf, maskOn, targetMask, maskOfNode, finalOfNode, Spells, MasksFit, MasksOf, MasksOn, FinalsOf}
 use Rattle.target_masks.proofs.Laws.MasksFound.{masks-alike, mask-past, target-fits, node-mask-is, final-past, node-final-is}
 
 -- A prepared formula, with the shape that was found of it.

@@ -2,7 +2,7 @@
 use mathlib.Core.Path.{sym, ap, _∙_}
 use mathlib.Core.Bool.{cond, not}
 use Prim.Native.Nat.{_+_, _^_}
-use Rattle.target_masks.specs.Masks.{bitIf}
+use Rattle.target_masks.specs.inner.Masks.{bitIf}
 use borrow.Author.Needs.{needs}
 use Rattle.target_masks.proofs.all_steps.Statement.{statement}
 use Rattle.target_masks.proofs.all_steps.Tie as tie

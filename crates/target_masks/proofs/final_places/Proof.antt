@@ -5,9 +5,9 @@ use Prim.Native.Nat.{_-_, _≤_, _<_}
 use native.Mathlib.Omega.{arith}
 use lib.ListN.{getD, length-replicate, getD-replicate, replicate}
 use Rattle.actl.specs.Sizes.{mostNodes}
-use Rattle.automaton.specs.Sizes.{placeCount}
+use Rattle.automaton.specs.inner.Sizes.{placeCount}
 use Rattle.actl.specs.Formulas.{Formula}
-use Rattle.target_masks.specs.Masks.{Spells, FinalsOf}
+use Rattle.target_masks.specs.inner.Masks.{Spells, FinalsOf}
 use Rattle.target_masks.proofs.Laws.Places.{place-few, place-shaped, finals-from, finals-turn, finals-end}
 use borrow.Author.Needs.{needs}
 use Rattle.target_masks.proofs.final_places.Statement.{statement}

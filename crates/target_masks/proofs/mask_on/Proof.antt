@@ -3,7 +3,7 @@ use borrow.Author.Needs.{needs}
 use mathlib.Core.Path.{ap}
 use Prim.Native.Nat.{_+_, _*_}
 use lib.ListN.{getD}
-use Rattle.automaton.specs.Sizes.{columnCount}
+use Rattle.automaton.specs.inner.Sizes.{columnCount}
 use Rattle.target_masks.proofs.mask_on.Statement.{statement}
 use Rattle.target_masks.proofs.mask_on.Tie as tie
 

@@ -4,9 +4,9 @@ use mathlib.Core.Logic.{inl}
 use Prim.Native.Nat.{_-_, _≤_, _<_}
 use native.Mathlib.Omega.{arith}
 use Rattle.actl.specs.Sizes.{mostNodes}
-use Rattle.automaton.specs.Sizes.{placeCount}
+use Rattle.automaton.specs.inner.Sizes.{placeCount}
 use Rattle.actl.specs.Formulas.{Formula}
-use Rattle.target_masks.specs.Masks.{Spells, MasksOn}
+use Rattle.target_masks.specs.inner.Masks.{Spells, MasksOn}
 use Rattle.target_masks.proofs.Laws.Places.{place-few, place-shaped, masks-turn-at}
 use Rattle.target_masks.proofs.mask_place.Statement.{statement}
 use Rattle.target_masks.proofs.mask_place.Tie as tie

@@ -3,7 +3,7 @@ use mathlib.Core.Path.{ap, _∙_}
 use mathlib.Core.Bool.{cond, not}
 use Prim.Native.Nat.{_+_, _^_}
 use lib.Bits.{bitOr}
-use Rattle.target_masks.specs.Masks.{bitIf}
+use Rattle.target_masks.specs.inner.Masks.{bitIf}
 use borrow.Author.Needs.{needs}
 use Rattle.target_masks.proofs.node_mask.Statement.{statement}
 use Rattle.target_masks.proofs.node_mask.Tie as tie

@@ -1,6 +1,6 @@
 -- `stays` meets its contract: the step passes by its label.
 use mathlib.Core.Path.{ap, _∙_}
-use Rattle.target_masks.specs.Masks.{bitIf}
+use Rattle.target_masks.specs.inner.Masks.{bitIf}
 use borrow.Author.Needs.{needs}
 use Rattle.target_masks.proofs.stays.Statement.{statement}
 use Rattle.target_masks.proofs.stays.Tie as tie

@@ -1,5 +1,5 @@
 -- `target_masks` meets its contract: the masks from place k on are right.
-use Rattle.automaton.specs.Sizes.{masksLength}
+use Rattle.automaton.specs.inner.Sizes.{masksLength}
 use Rattle.target_masks.proofs.target_masks.Statement.{statement}
 use Rattle.target_masks.proofs.target_masks.Tie as tie
 use mathlib.Core.Path.{_≡_, sym, _∙_, subst}
@@ -7,7 +7,7 @@ use Prim.Native.Nat.{ℕ, _-_, _≤_, _<_}
 use native.Mathlib.Omega.{arith}
 use lib.ListN.{length, getD, length-replicate, replicate}
 use Rattle.actl.specs.Formulas.{Formula}
-use Rattle.target_masks.specs.Masks.{Spells, MasksFit, MasksOf}
+use Rattle.target_masks.specs.inner.Masks.{Spells, MasksFit, MasksOf}
 use Rattle.target_masks.proofs.Laws.Places.{zeros-at, masks-from, masks-next, masks-end}
 
 abbrev Inv-loop : tie.InvT-loop

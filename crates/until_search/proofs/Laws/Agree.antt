@@ -5,12 +5,14 @@ use mathlib.Core.Bool.{Bool, _&&_, _||_}
 use mathlib.Core.List.{List, [], _∷_, List·Memᴰ, List·Memᴰ·head, List·Memᴰ·tail}
 use Prim.Native.Nat.{ℕ, zero, suc, _<_}
 use native.Mathlib.Omega.{arith}
-use Rattle.lts.specs.Lists.{anyOf, every}
-use Rattle.lts.specs.Steps.{Step, Table, IsStep, stepsFrom}
-use Rattle.lts.specs.Range.{InRange}
+use Rattle.lts.specs.Lists.{anyOf}
+use Rattle.lts.specs.inner.Lists.{every}
+use Rattle.lts.specs.Steps.{Step, Table, IsStep}
+use Rattle.lts.specs.inner.Steps.{stepsFrom}
+use Rattle.lts.specs.inner.Range.{InRange}
 use Rattle.lts.proofs.StepsFrom.{steps-are}
 use Rattle.actl.specs.Actions.{Mask, passes}
-use Rattle.satisfaction.specs.Holds.{within, enters}
+use Rattle.satisfaction.specs.inner.Holds.{within, enters}
 
 module _ {A : Type 0} (p q : A → Bool) where
   pub some-same : (l : List A) → ((x : A) → List·Memᴰ x l → p x ≡ q x) → anyOf p l ≡ anyOf q l

@@ -8,11 +8,12 @@ use native.Mathlib.Omega.{arith}
 use lib.ListN.{set, replicate, length-set, length-replicate}
 use lib.Seq.{getD-set-same, getD-set-other}
 use Rattle.lts.specs.Sizes.{mostStates}
-use Rattle.lts.specs.Lists.{anyOf, every}
+use Rattle.lts.specs.Lists.{anyOf}
+use Rattle.lts.specs.inner.Lists.{every}
 use Rattle.lts.specs.Steps.{Step}
-use Rattle.tables.specs.StepArray.{stepAt, stepsBetween}
+use Rattle.tables.specs.inner.StepArray.{stepAt, stepsBetween}
 use Rattle.tables.proofs.Laws.StepArray.{between-next, between-over}
-use Rattle.until_search.specs.Flags.{asWanted, flagAt, Flags}
+use Rattle.until_search.specs.inner.Flags.{asWanted, flagAt, Flags}
 
 pub same-there : (wanted result m there : Bool) → result ≡ m → there ≡ true → Bool·beq result wanted ≡ asWanted wanted (m && there)
 same-there true true true true e d = refl

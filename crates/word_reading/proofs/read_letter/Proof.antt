@@ -6,10 +6,11 @@ use Prim.Native.Nat.{ℕ, _-_, _<_}
 use native.Mathlib.Omega.{arith}
 use lib.ListN.{getD}
 use borrow.Author.Needs.{needs}
-use Rattle.lts.specs.Steps.{Step, Carried}
-use Rattle.tables.specs.StepArray.{stepsIn}
-use Rattle.frontier.specs.Frontier.{hasState, emptied, through}
-use Rattle.frontier.specs.Reached.{placesRead, stateRead}
+use Rattle.lts.specs.Steps.{Step}
+use Rattle.lts.specs.inner.Steps.{Carried}
+use Rattle.tables.specs.inner.StepArray.{stepsIn}
+use Rattle.frontier.specs.inner.Frontier.{hasState, emptied, through}
+use Rattle.frontier.specs.inner.Reached.{placesRead, stateRead}
 use Rattle.frontier.proofs.Laws.Through.{left, left-over, left-skip, left-turn}
 use Rattle.word_reading.proofs.read_letter.Statement.{statement}
 use Rattle.word_reading.proofs.read_letter.Tie as tie

@@ -4,8 +4,8 @@ use mathlib.Core.Bool.{cond}
 use lib.Dec.{eqb}
 use borrow.Author.Needs.{needs}
 use borrow.Author.Tests.{eq-eqb, ne-eqb}
-use Rattle.tables.specs.StepArray.{stepsIn}
-use Rattle.frontier.specs.Reached.{stepsTaken}
+use Rattle.tables.specs.inner.StepArray.{stepsIn}
+use Rattle.frontier.specs.inner.Reached.{stepsTaken}
 use Rattle.word_reading.proofs.read_places.Statement.{statement}
 use Rattle.word_reading.proofs.read_places.Tie as tie
 

@@ -2,10 +2,10 @@
 use mathlib.Core.Path.{_≡_, sym, ap, _∙_}
 use Prim.Native.Nat.{ℕ, _≤_, _<_, _+_, _-_}
 use native.Mathlib.Omega.{arith}
-use Rattle.lts.specs.Sizes.{mostSteps}
-use Rattle.tables.specs.StepArray.{stepsBetween, stepsIn, spanOf}
+use Rattle.lts.specs.inner.Sizes.{mostSteps}
+use Rattle.tables.specs.inner.StepArray.{stepsBetween, stepsIn, spanOf}
 use Rattle.tables.specs.declared.steps.Span.{Span}
-use Rattle.frontier.specs.Reached.{stepsTaken}
+use Rattle.frontier.specs.inner.Reached.{stepsTaken}
 use Rattle.frontier.proofs.Laws.Left.{steps-next, steps-over}
 use Rattle.word_reading.proofs.take_steps.Statement.{statement}
 use Rattle.word_reading.proofs.take_steps.Tie as tie

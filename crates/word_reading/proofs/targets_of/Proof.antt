@@ -6,9 +6,9 @@ use Prim.Native.Nat.{ℕ, _+_, _*_, _-_, _<_}
 use native.Mathlib.Omega.{arith}
 use lib.Bits.{bitOr}
 use lib.ListN.{getD}
-use Rattle.automaton.specs.Sizes.{placeCount, columnCount}
-use Rattle.target_masks.specs.Masks.{bitAt, maskOn}
-use Rattle.frontier.specs.Reached.{targetsAdded, targetsOf}
+use Rattle.automaton.specs.inner.Sizes.{placeCount, columnCount}
+use Rattle.target_masks.specs.inner.Masks.{bitAt, maskOn}
+use Rattle.frontier.specs.inner.Reached.{targetsAdded, targetsOf}
 use Rattle.frontier.proofs.Laws.Bits.{BitsFrom, bits-all, bits-some, bits-first, bits-rest}
 use Rattle.frontier.proofs.Laws.Through.{left, left-over, left-skip, left-turn}
 use Rattle.word_reading.proofs.targets_of.Statement.{statement}

@@ -9,7 +9,7 @@ use Rattle.actl.specs.Formulas.{Formula}
 use Rattle.formula_check.proofs.Laws.Inputs.{Both, goes-on, inputs-refused, inputs-prepared, both-held}
 use Rattle.automaton.specs.WordAsked.{wordReplied, WordAnswered}
 use Rattle.automaton.proofs.WordsAccepted.{word-answered}
-use Rattle.words.specs.Answered.{wordAnswer}
+use Rattle.words.specs.inner.Answered.{wordAnswer}
 use Rattle.words.specs.Replies.{wordReply}
 use Rattle.words.specs.declared.WordReply.{WordReply}
 use Rattle.words.specs.declared.WordReply.the-variants.{Refused}

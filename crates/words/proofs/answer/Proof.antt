@@ -5,16 +5,16 @@ use mathlib.Core.Option.{Option}
 use Prim.Native.Nat.{ℕ}
 use Rattle.lts.specs.Reply.{accepted}
 use Rattle.lts.specs.Steps.{Table, labels}
-use Rattle.lts.specs.Prepared.{tableIn}
-use Rattle.tables.specs.Access.{foundIn}
+use Rattle.lts.specs.inner.Prepared.{tableIn}
+use Rattle.tables.specs.inner.Access.{foundIn}
 use Rattle.actl.specs.Formulas.{Formula}
 use Rattle.actl.specs.Reading.{unlessFound}
 use Rattle.automaton.specs.Bytes.{bitOf}
-use Rattle.automaton.specs.Words.{accepts}
+use Rattle.automaton.specs.inner.Words.{accepts}
 use Rattle.automaton.specs.WordAsked.{badLetter}
 use Rattle.frontier.proofs.Laws.Left.{letters-carried}
 use borrow.Author.Needs.{needs}
-use Rattle.words.specs.Answered.{wordAnswer}
+use Rattle.words.specs.inner.Answered.{wordAnswer}
 use Rattle.words.proofs.answer.Statement.{statement}
 use Rattle.words.proofs.answer.Tie as tie
 

@@ -1,13 +1,13 @@
 -- `is_accepted` meets its contract: what the word reaches has a final place exactly if the word is accepted.
 use mathlib.Core.Path.{_≡_, ap, _∙_}
 use borrow.Author.Needs.{needs}
-use Rattle.lts.specs.Steps.{stepsFrom}
-use Rattle.lts.specs.Prepared.{tableIn}
-use Rattle.tables.specs.StepArray.{stepsIn}
+use Rattle.lts.specs.inner.Steps.{stepsFrom}
+use Rattle.lts.specs.inner.Prepared.{tableIn}
+use Rattle.tables.specs.inner.StepArray.{stepsIn}
 use Rattle.labelling.proofs.Laws.Prepared.{formula-long}
 use Rattle.target_masks.proofs.Laws.Places.{spells}
-use Rattle.frontier.specs.Frontier.{nowhere, allPlaces}
-use Rattle.frontier.specs.Reached.{wordRead, rootReached, someFinal}
+use Rattle.frontier.specs.inner.Frontier.{nowhere, allPlaces}
+use Rattle.frontier.specs.inner.Reached.{wordRead, rootReached, someFinal}
 use Rattle.frontier.proofs.Laws.Accepting.{word-same, found-as-accepted}
 use Rattle.words.proofs.is_accepted.Statement.{statement}
 use Rattle.words.proofs.is_accepted.Tie as tie

@@ -5,7 +5,7 @@ use native.Mathlib.Omega.{arith}
 use lib.Dec.{eqb, ltb}
 use borrow.Author.Needs.{needs}
 use borrow.Author.Tests.{lt-ltb, le-ltb}
-use Rattle.lts.specs.Steps.{idleLabel}
+use Rattle.lts.specs.Idle.{idleLabel}
 use Rattle.lts.proofs.Silence.{idle-alone}
 use Rattle.words.proofs.is_bad.Statement.{statement}
 use Rattle.words.proofs.is_bad.Tie as tie

@@ -1,7 +1,7 @@
 -- `is_final` meets its contract, by whether k is among the places.
 use mathlib.Core.Path.{sym, ap, _∙_}
 use mathlib.Core.Bool.{_&&_}
-use Rattle.until_search.specs.Flags.{flagAt}
+use Rattle.until_search.specs.inner.Flags.{flagAt}
 use borrow.Author.Needs.{needs}
 use Rattle.words.proofs.is_final.Statement.{statement}
 use Rattle.words.proofs.is_final.Tie as tie

@@ -2,8 +2,8 @@
 use mathlib.Core.Path.{_≡_, sym, _∙_}
 use Prim.Native.Nat.{_≤_, _-_}
 use native.Mathlib.Omega.{arith}
-use Rattle.automaton.specs.Sizes.{placeCount}
-use Rattle.frontier.specs.Reached.{finalPlace, someFinal}
+use Rattle.automaton.specs.inner.Sizes.{placeCount}
+use Rattle.frontier.specs.inner.Reached.{finalPlace, someFinal}
 use Rattle.frontier.proofs.Laws.Left.{anyLeft, any-start, any-found, any-later, any-over}
 use Rattle.words.proofs.some_final.Statement.{statement}
 use Rattle.words.proofs.some_final.Tie as tie

@@ -5,7 +5,7 @@ use borrow.Author.Needs.{needs}
 use native.Mathlib.Omega.{arith}
 use lib.ListN.{length, length-drop}
 use Rattle.columns.specs.Columns.{column}
-use Rattle.columns.specs.Write.{pasted}
+use Rattle.columns.specs.inner.Write.{pasted}
 use Rattle.columns.proofs.Laws.Copying.{Copying, copying-none, copying-more, copying-length, copied}
 use Rattle.columns.proofs.write.write_column.Statement.{statement}
 use Rattle.columns.proofs.write.write_column.Tie as tie

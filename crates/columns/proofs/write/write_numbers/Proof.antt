@@ -5,8 +5,9 @@ use Prim.Native.Nat.{_+_, _*_, _-_, _≤_, _<_}
 use borrow.Author.Needs.{needs}
 use native.Mathlib.Omega.{arith}
 use lib.ListN.{length, getD, take, set, length-set}
-use Rattle.columns.specs.Columns.{column, numbersLine}
-use Rattle.columns.specs.Write.{pasted}
+use Rattle.columns.specs.Columns.{column}
+use Rattle.columns.specs.Lines.{numbersLine}
+use Rattle.columns.specs.inner.Write.{pasted}
 use Rattle.columns.proofs.Laws.Pasting.{Pasting, pasting-none, pasting-more, pasting-length, set-pasted, columns, columns-more, columns-line}
 use Rattle.columns.proofs.write.write_numbers.Statement.{statement}
 use Rattle.columns.proofs.write.write_numbers.Tie as tie

@@ -7,12 +7,12 @@ use Prim.Native.Nat.{ℕ}
 use borrow.Author.Tests.{not-true, not-false}
 use Rattle.lts.specs.Reply.{Reply, accepted}
 use Rattle.lts.specs.Steps.{Table, labels}
-use Rattle.lts.specs.Prepared.{tableIn, preparedTable}
-use Rattle.lts.specs.Answers.{isSome}
+use Rattle.lts.specs.inner.Prepared.{tableIn, preparedTable}
+use Rattle.lts.specs.inner.Answers.{isSome}
 use Rattle.lts.proofs.Laws.Prepared.{is-some-of}
 use Rattle.actl.specs.Formulas.{Formula}
-use Rattle.actl.specs.Prepared.{preparedFormula}
-use Rattle.actl.specs.Check.{isPrepared}
+use Rattle.actl.specs.inner.Prepared.{preparedFormula}
+use Rattle.actl.specs.inner.Check.{isPrepared}
 use Rattle.formula_check.proofs.Laws.Inputs.{table-short, formula-short, table-foreign, formula-foreign, both-prepared}
 use Rattle.formula_check.proofs.inputs.check_inputs.Statement.{statement}
 use Rattle.formula_check.proofs.inputs.check_inputs.Tie as tie

@@ -6,10 +6,10 @@ use Prim.Native.Nat.{ℕ, _+_, _*_, _≤_, _<_}
 use native.Mathlib.Omega.{arith}
 use borrow.Author.Tests.{not-true, not-false}
 use Rattle.actl.specs.Sizes.{nodeSlotLength}
-use Rattle.lts.specs.Answers.{Decides}
+use Rattle.lts.specs.inner.Answers.{Decides}
 use Rattle.lts.specs.Sizes.{mostLabels}
 use Rattle.actl.specs.Prepared.{FormOfSome}
-use Rattle.actl.specs.Check.{isPrepared, slotsFit, zerosFrom, SpelledClassed}
+use Rattle.actl.specs.inner.Check.{isPrepared, slotsFit, zerosFrom, SpelledClassed}
 use Rattle.actl.proofs.Laws.Prepared.{form-tested}
 use Rattle.formula_classes.proofs.Laws.Decided.{short-bytes, many-nodes, slots-foreign, not-zeros, decided}
 use borrow.Author.Needs.{needs}

@@ -3,9 +3,10 @@ use mathlib.Core.Path.{_≡_, sym, ap, _∙_}
 use mathlib.Core.Bool.{_&&_, _||_}
 use Prim.Native.Nat.{ℕ}
 use lib.Dec.{eqb}
-use Rattle.actl.specs.Shaped.{firstUsed, secondUsed}
-use Rattle.actl.specs.Prepared.{Slot, maskWithin, slotAt}
-use Rattle.actl.specs.Check.{slotFits}
+use Rattle.actl.specs.inner.Shaped.{firstUsed, secondUsed}
+use Rattle.actl.specs.Prepared.{Slot, maskWithin}
+use Rattle.actl.specs.inner.Prepared.{slotAt}
+use Rattle.actl.specs.inner.Check.{slotFits}
 use Rattle.actl.proofs.Laws.Checked.{kind-low, kind-high, masks-fit}
 use borrow.Author.Needs.{needs}
 use Rattle.formula_check.proofs.prepared.slot_fits.Statement.{statement}

@@ -3,8 +3,8 @@ use mathlib.Core.Path.{sym, _∙_}
 use Prim.Native.Nat.{_-_, _≤_}
 use native.Mathlib.Omega.{arith}
 use borrow.Author.Tests.{not-true, not-false}
-use Rattle.actl.specs.Prepared.{slotAt}
-use Rattle.actl.specs.Check.{slotFits}
+use Rattle.actl.specs.inner.Prepared.{slotAt}
+use Rattle.actl.specs.inner.Check.{slotFits}
 use Rattle.actl.proofs.Laws.Lists.{Passed, passed-more, passed-all, failed-one}
 use Rattle.formula_check.proofs.prepared.slots_fit.Statement.{statement}
 use Rattle.formula_check.proofs.prepared.slots_fit.Tie as tie

@@ -11,11 +11,11 @@ use native.Mathlib.Omega.{arith}
 use lib.Dec.{eqb}
 use lib.ListN.{getD}
 use borrow.Author.Tests.{eq-eqb, eqb-true}
-use Rattle.lts.specs.Answers.{Decides}
-use Rattle.lts.specs.Check.{ZerosFrom}
-use Rattle.lts.specs.Lists.{upFrom}
+use Rattle.lts.specs.inner.Answers.{Decides}
+use Rattle.lts.specs.inner.Check.{ZerosFrom}
+use Rattle.lts.specs.inner.Lists.{upFrom}
 use Rattle.lts.proofs.Lists.{every-of, upFrom-to}
-use Rattle.actl.specs.Check.{zerosFrom}
+use Rattle.actl.specs.inner.Check.{zerosFrom}
 use Rattle.actl.proofs.Laws.Lists.{passed-all}
 
 zeros-requires : tie.Need-zeros-requires

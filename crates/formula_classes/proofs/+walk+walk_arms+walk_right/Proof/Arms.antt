@@ -3,10 +3,10 @@ use mathlib.Core.Path.{_∙_, subst}
 use mathlib.Core.List.{List}
 use Prim.Native.Nat.{ℕ, _+_}
 use native.Mathlib.Omega.{arith}
-use Rattle.actl.specs.Walk.{Traversed}
+use Rattle.actl.specs.inner.Walk.{Traversed}
 use Rattle.actl.proofs.Laws.Unique.{no-arm}
-use Rattle.formula_classes.specs.WalkReplies.{Walks}
-use Rattle.formula_classes.specs.Phases.{Room, HasArm}
+use Rattle.formula_classes.specs.inner.WalkReplies.{Walks}
+use Rattle.formula_classes.specs.inner.Phases.{Room, HasArm}
 use Rattle.formula_classes.proofs.Laws.Phases.{room-kept, walked-on, walked-within, arm-in-table, walked-unary, walked-or}
 use Rattle.formula_classes.proofs.walk_arms.Reads as walk-arms
 use Rattle.formula_classes.proofs.+walk+walk_arms+walk_right.Lts-walk_arms as walk-arms-lts

@@ -2,9 +2,9 @@
 use mathlib.Core.Path.{_∙_, subst}
 use Prim.Native.Nat.{ℕ}
 use native.Mathlib.Omega.{arith}
-use Rattle.actl.specs.Walk.{Traversed}
-use Rattle.formula_classes.specs.WalkReplies.{Walks}
-use Rattle.formula_classes.specs.Phases.{Room}
+use Rattle.actl.specs.inner.Walk.{Traversed}
+use Rattle.formula_classes.specs.inner.WalkReplies.{Walks}
+use Rattle.formula_classes.specs.inner.Phases.{Room}
 use Rattle.formula_classes.proofs.Laws.Phases.{room-kept, walked-on, walked-within, arm-in-table, right-walked}
 use Rattle.formula_classes.proofs.walk_right.Reads as walk-right
 use Rattle.formula_classes.proofs.+walk+walk_arms+walk_right.Lts-walk_right as walk-right-lts

@@ -4,7 +4,7 @@ use Prim.Native.Nat.{ℕ}
 use native.Mathlib.Omega.{arith}
 use Rattle.actl.proofs.Laws.Unique.{no-kind}
 use Rattle.actl.proofs.Laws.Walks.{Known, known-kind}
-use Rattle.formula_classes.specs.Phases.{Room}
+use Rattle.formula_classes.specs.inner.Phases.{Room}
 use Rattle.formula_classes.proofs.Laws.Phases.{walked-T}
 use Rattle.formula_classes.proofs.walk.Reads as walk
 use Rattle.formula_classes.proofs.+walk+walk_arms+walk_right.Lts-walk as walk-lts

@@ -2,7 +2,7 @@
 use borrow.Author.Needs.{needs}
 use mathlib.Core.Path.{subst}
 use lib.ListN.{getD}
-use Rattle.formula_cursor.specs.CursorReplies.{MarkAnswer}
+use Rattle.formula_cursor.specs.inner.CursorReplies.{MarkAnswer}
 use Rattle.formula_cursor.proofs.ReadingPlaces.{two-marks}
 use Rattle.formula_cursor.proofs.Cursor.keyword.Statement.{statement}
 use Rattle.formula_cursor.proofs.Cursor.keyword.Tie as tie

@@ -2,8 +2,8 @@
 use borrow.Author.Needs.{needs}
 use mathlib.Core.Path.{subst}
 use native.Mathlib.Omega.{arith}
-use Rattle.actl.specs.Cursor.{Marked}
-use Rattle.formula_cursor.specs.CursorReplies.{MarkAnswer}
+use Rattle.actl.specs.inner.Cursor.{Marked}
+use Rattle.formula_cursor.specs.inner.CursorReplies.{MarkAnswer}
 use Rattle.formula_cursor.proofs.ReadingPlaces.{mark-skipped}
 use Rattle.formula_cursor.proofs.Cursor.token.Statement.{statement}
 use Rattle.formula_cursor.proofs.Cursor.token.Tie as tie

@@ -12,9 +12,9 @@ use Prim.Native.Nat.{ℕ}
 use native.Mathlib.Omega.{arith}
 use borrow.Author.Needs.{needs}
 use borrow.Fn.Kinds.{In}
-use Rattle.actl.specs.Readers.{namesIn, SetRead}
-use Rattle.formula_cursor.specs.CursorReplies.{MarkAnswer}
-use Rattle.formula_sets.specs.SetReplies.{SetAnswer}
+use Rattle.actl.specs.inner.Readers.{namesIn, SetRead}
+use Rattle.formula_cursor.specs.inner.CursorReplies.{MarkAnswer}
+use Rattle.formula_sets.specs.inner.SetReplies.{SetAnswer}
 use Rattle.formula_sets.proofs.ReaderCycles.{entered, called}
 use Rattle.formula_sets.proofs.+enclosed+operand+set.Proof.Measures.{μ-enclosed, μ-set}
 

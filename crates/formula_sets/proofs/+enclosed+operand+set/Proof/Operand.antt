@@ -13,11 +13,11 @@ use Prim.Native.Nat.{ℕ}
 use native.Mathlib.Omega.{arith}
 use borrow.Author.Needs.{needs}
 use borrow.Fn.Kinds.{In}
-use Rattle.actl.specs.Readers.{namesIn}
-use Rattle.formula_cursor.specs.CursorReplies.{TokenAnswer}
+use Rattle.actl.specs.inner.Readers.{namesIn}
+use Rattle.formula_cursor.specs.inner.CursorReplies.{TokenAnswer}
 use Rattle.formula_cursor.specs.declared.Match.{Match}
 use Rattle.formula_cursor.specs.declared.Match.the-variants.{Past}
-use Rattle.formula_sets.specs.SetReplies.{OperandAnswer}
+use Rattle.formula_sets.specs.inner.SetReplies.{OperandAnswer}
 use Rattle.formula_sets.proofs.ReaderCycles.{entered, called, token-falls, start-behind}
 use Rattle.formula_sets.proofs.ReadingSets.{except-within, except-says, group-says}
 use Rattle.formula_sets.proofs.+enclosed+operand+set.Proof.Measures.{μ-enclosed, μ-operand}

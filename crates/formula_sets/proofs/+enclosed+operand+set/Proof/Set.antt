@@ -13,10 +13,10 @@ use native.Mathlib.Omega.{arith}
 use borrow.Author.Needs.{needs}
 use borrow.Fn.Kinds.{In}
 use lib.ListN.{length}
-use Rattle.actl.specs.Cursor.{Skipped, Tokened}
-use Rattle.actl.specs.Readers.{namesIn, OperandRead}
-use Rattle.formula_cursor.specs.CursorReplies.{TokenAnswer}
-use Rattle.formula_sets.specs.SetReplies.{OperandAnswer}
+use Rattle.actl.specs.inner.Cursor.{Skipped, Tokened}
+use Rattle.actl.specs.inner.Readers.{namesIn, OperandRead}
+use Rattle.formula_cursor.specs.inner.CursorReplies.{TokenAnswer}
+use Rattle.formula_sets.specs.inner.SetReplies.{OperandAnswer}
 use Rattle.formula_sets.proofs.ReaderCycles.{entered, called}
 use Rattle.formula_sets.proofs.ReadingSets.{Pending, pending-first, set-fails, set-read, pending-more}
 use Rattle.formula_sets.proofs.+enclosed+operand+set.Proof.Measures.{μ-operand, μ-set}

@@ -12,11 +12,11 @@ use Prim.Native.Nat.{ℕ}
 use native.Mathlib.Omega.{arith}
 use borrow.Author.Needs.{needs}
 use borrow.Fn.Kinds.{In}
-use Rattle.actl.specs.Readers.{namesIn}
-use Rattle.formula_cursor.specs.CursorReplies.{MarkAnswer}
+use Rattle.actl.specs.inner.Readers.{namesIn}
+use Rattle.formula_cursor.specs.inner.CursorReplies.{MarkAnswer}
 use Rattle.formula_cursor.specs.declared.Match.{Match}
 use Rattle.formula_sets.proofs.ReaderCycles.{entered, called, unread-falls}
-use Rattle.formula_terms.specs.Prefixes.{PrefixAnswer}
+use Rattle.formula_terms.specs.inner.Prefixes.{PrefixAnswer}
 use Rattle.formula_terms.specs.declared.Nodes.{Nodes}
 use Rattle.formula_terms.specs.declared.Nodes.the-variants.{Read}
 use Rattle.formula_terms.proofs.ReadingTerms.{counted, term-true, behind-room, term-behind}

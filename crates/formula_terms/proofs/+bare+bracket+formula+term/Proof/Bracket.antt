@@ -12,10 +12,10 @@ use Prim.Native.Nat.{ℕ}
 use native.Mathlib.Omega.{arith}
 use borrow.Author.Needs.{needs}
 use borrow.Fn.Kinds.{In}
-use Rattle.actl.specs.Readers.{namesIn}
-use Rattle.formula_cursor.specs.CursorReplies.{MarkAnswer}
+use Rattle.actl.specs.inner.Readers.{namesIn}
+use Rattle.formula_cursor.specs.inner.CursorReplies.{MarkAnswer}
 use Rattle.formula_sets.proofs.ReaderCycles.{entered, called}
-use Rattle.formula_terms.specs.TermReplies.{FormulaAnswer}
+use Rattle.formula_terms.specs.inner.TermReplies.{FormulaAnswer}
 use Rattle.formula_terms.specs.declared.Chain.{Chain}
 use Rattle.formula_terms.proofs.+bare+bracket+formula+term.Proof.Measures.{μ-bracket, μ-formula}
 

@@ -16,12 +16,12 @@ use borrow.Author.Needs.{needs}
 use borrow.Fn.Kinds.{In}
 use lib.ListN.{length}
 use Rattle.actl.specs.Sizes.{longestText}
-use Rattle.actl.specs.Cursor.{Skipped, Tokened}
-use Rattle.actl.specs.NodeBytes.{mostCounted, NodeRoom}
-use Rattle.actl.specs.Readers.{namesIn, TermRead}
-use Rattle.formula_cursor.specs.CursorReplies.{TokenAnswer}
+use Rattle.actl.specs.inner.Cursor.{Skipped, Tokened}
+use Rattle.actl.specs.inner.NodeBytes.{mostCounted, NodeRoom}
+use Rattle.actl.specs.inner.Readers.{namesIn, TermRead}
+use Rattle.formula_cursor.specs.inner.CursorReplies.{TokenAnswer}
 use Rattle.formula_sets.proofs.ReaderCycles.{entered, called}
-use Rattle.formula_terms.specs.TermReplies.{TermAnswer}
+use Rattle.formula_terms.specs.inner.TermReplies.{TermAnswer}
 use Rattle.formula_terms.specs.declared.Nodes.{Nodes}
 use Rattle.formula_terms.proofs.ReadingChains.{Awaiting, awaiting-first, await-room, formula-fails, formula-read, join-room, join-above, join-fits, awaiting-or, awaiting-and}
 use Rattle.formula_terms.proofs.+bare+bracket+formula+term.Proof.Measures.{μ-formula, μ-term}

@@ -13,9 +13,9 @@ use Prim.Native.Nat.{ℕ}
 use native.Mathlib.Omega.{arith}
 use borrow.Author.Needs.{needs}
 use borrow.Fn.Kinds.{In}
-use Rattle.actl.specs.Cursor.{Tokened}
-use Rattle.actl.specs.Readers.{namesIn}
-use Rattle.formula_cursor.specs.CursorReplies.{TokenAnswer}
+use Rattle.actl.specs.inner.Cursor.{Tokened}
+use Rattle.actl.specs.inner.Readers.{namesIn}
+use Rattle.formula_cursor.specs.inner.CursorReplies.{TokenAnswer}
 use Rattle.formula_sets.proofs.ReaderCycles.{entered, called, token-falls, start-behind}
 use Rattle.formula_terms.proofs.ReadingTerms.{inner-room, term-paren}
 use Rattle.formula_terms.proofs.+bare+bracket+formula+term.Proof.Measures.{μ-bare, μ-bracket, μ-term}

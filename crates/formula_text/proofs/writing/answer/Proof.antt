@@ -1,7 +1,7 @@
 -- `answer` refuses 7, 8 and 9 in this order, and else leaves the prepared bytes.
 use borrow.Author.Needs.{needs}
 use mathlib.Core.Path.{sym, ap, _∙_}
-use Rattle.formula_classes.specs.WalkReplies.{classlessNode}
+use Rattle.formula_classes.specs.inner.WalkReplies.{classlessNode}
 use Rattle.formula_text.proofs.ReadingAnswers.{kinds-are, answer-unknown, answer-many, answer-classless, answer-accepted}
 use Rattle.formula_text.proofs.writing.answer.Statement.{statement}
 use Rattle.formula_text.proofs.writing.answer.Tie as tie

@@ -2,7 +2,7 @@
 use borrow.Author.Needs.{needs}
 use mathlib.Core.Path.{sym, ap, _∙_}
 use Rattle.actl.specs.Actions.{meets}
-use Rattle.formulas.specs.Access.{condIn}
+use Rattle.formulas.specs.inner.Access.{condIn}
 use Rattle.formulas.proofs.conditions.meets.Statement.{statement}
 use Rattle.formulas.proofs.conditions.meets.Tie as tie
 

@@ -2,7 +2,7 @@
 use mathlib.Core.Path.{sym, ap, _∙_}
 use native.Mathlib.Numerals.{add-one}
 use Rattle.actl.specs.Prepared.{slot, nextSlot}
-use Rattle.formulas.specs.Access.{condIn}
+use Rattle.formulas.specs.inner.Access.{condIn}
 use borrow.Author.Needs.{needs}
 use Rattle.formulas.proofs.node.next_slot.Statement.{statement}
 use Rattle.formulas.proofs.node.next_slot.Tie as tie

@@ -3,8 +3,9 @@ use native.Mathlib.Omega.{arith}
 use mathlib.Core.Path.{_≡_, refl, sym}
 use mathlib.Core.Bool.{false}
 use Prim.Native.Nat.{ℕ, _+_, _≤_}
-use Rattle.actl.specs.Prepared.{Slot, slot, slotAt}
-use Rattle.actl.specs.Shaped.{firstUsed, secondUsed}
+use Rattle.actl.specs.Prepared.{Slot, slot}
+use Rattle.actl.specs.inner.Prepared.{slotAt}
+use Rattle.actl.specs.inner.Shaped.{firstUsed, secondUsed}
 use Rattle.actl.proofs.Laws.Slots.{shape-of, slot-by-parts, slot-without-masks, slot-with-first}
 use borrow.Author.Needs.{needs}
 use Rattle.formulas.proofs.node.node_at.Statement.{statement}

@@ -3,7 +3,7 @@ use mathlib.Core.Path.{_≡_, refl, ap, _∙_}
 use Prim.Native.Nat.{ℕ, _+_, _*_}
 use native.Mathlib.Omega.{arith}
 use lib.ListN.{length, set, length-set}
-use Rattle.columns.specs.Write.{pasted}
+use Rattle.columns.specs.inner.Write.{pasted}
 use Rattle.actl.specs.Sizes.{nodeSlotLength}
 use Rattle.actl.specs.Prepared.{slotBytes}
 use Rattle.actl.proofs.ReadingBytes.{slot-pasted}

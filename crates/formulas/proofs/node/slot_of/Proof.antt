@@ -1,6 +1,6 @@
 -- `slot_of` gives each node the slot that it stands for.
 use mathlib.Core.Path.{sym, ap, _∙_}
-use Rattle.formulas.specs.Access.{slotOfNode}
+use Rattle.formulas.specs.inner.Access.{slotOfNode}
 use borrow.Author.Needs.{needs}
 use Rattle.formulas.proofs.node.slot_of.Statement.{statement}
 use Rattle.formulas.proofs.node.slot_of.Tie as tie

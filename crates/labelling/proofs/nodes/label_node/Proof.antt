@@ -5,11 +5,11 @@ use mathlib.Core.Bool.{Bool}
 use mathlib.Core.List.{List}
 use Prim.Native.Nat.{ℕ}
 use native.Mathlib.Omega.{arith}
-use Rattle.lts.specs.Steps.{stepsFrom}
-use Rattle.tables.specs.StepArray.{stepsIn}
-use Rattle.lts.specs.Prepared.{tableIn}
+use Rattle.lts.specs.inner.Steps.{stepsFrom}
+use Rattle.tables.specs.inner.StepArray.{stepsIn}
+use Rattle.lts.specs.inner.Prepared.{tableIn}
 use Rattle.formulas.specs.declared.node.Node.{Node}
-use Rattle.until_search.specs.Flags.{flagAt, atOnce, nodeHolds, Flags}
+use Rattle.until_search.specs.inner.Flags.{flagAt, atOnce, nodeHolds, Flags}
 use Rattle.until_search.proofs.Laws.Flags.{flags-same}
 use Rattle.labelling.proofs.Laws.Nodes.{until-flags}
 use Rattle.labelling.proofs.nodes.label_node.Statement.{statement}

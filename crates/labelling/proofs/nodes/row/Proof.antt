@@ -4,7 +4,7 @@ use Prim.Native.Nat.{_≤_, _<_, _+_, _-_, _*_}
 use native.Mathlib.Omega.{arith}
 use Rattle.actl.specs.Sizes.{mostNodes}
 use Rattle.lts.specs.Sizes.{mostStates}
-use Rattle.until_search.specs.Flags.{flagAt, Flags}
+use Rattle.until_search.specs.inner.Flags.{flagAt, Flags}
 use Rattle.until_search.proofs.Laws.Flags.{flags-none, flags-on}
 use Rattle.labelling.proofs.Laws.Rows.{row-none, row-all}
 use Rattle.labelling.proofs.nodes.row.Statement.{statement}

@@ -5,7 +5,7 @@ use native.Mathlib.Omega.{arith}
 use lib.ListN.{getD}
 use Rattle.actl.specs.Sizes.{mostNodes}
 use Rattle.lts.specs.Steps.{labels}
-use Rattle.lts.specs.Prepared.{tableIn}
+use Rattle.lts.specs.inner.Prepared.{tableIn}
 use Rattle.actl.specs.Formulas.{tru, size, nodes}
 use Rattle.actl.proofs.Laws.Prepared.{prepared-few, prepared-count, prepared-slot}
 use Rattle.labelling.proofs.Laws.Nodes.{node-row}

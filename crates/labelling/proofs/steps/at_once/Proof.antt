@@ -2,12 +2,12 @@
 use borrow.Author.Needs.{needs}
 use mathlib.Core.Path.{sym, ap, _∙_}
 use mathlib.Core.Bool.{Bool, not, _||_}
-use Rattle.tables.specs.StepArray.{stepsIn}
+use Rattle.tables.specs.inner.StepArray.{stepsIn}
 use Rattle.lts.proofs.Lists.{or-true-left}
 use Rattle.actl.specs.Actions.{meets}
-use Rattle.formulas.specs.Access.{condIn}
+use Rattle.formulas.specs.inner.Access.{condIn}
 use Rattle.formulas.specs.declared.node.Node.{Node}
-use Rattle.until_search.specs.Flags.{flagAt, leadsTo, atOnce}
+use Rattle.until_search.specs.inner.Flags.{flagAt, leadsTo, atOnce}
 use Rattle.until_search.proofs.Laws.Flags.{every-not-some}
 use Rattle.labelling.proofs.steps.at_once.Statement.{statement}
 use Rattle.labelling.proofs.steps.at_once.Tie as tie

@@ -2,8 +2,8 @@
 use Prim.Native.Nat.{_≤_, _<_, _-_}
 use native.Mathlib.Omega.{arith}
 use Rattle.lts.specs.Sizes.{mostStates}
-use Rattle.tables.specs.StepArray.{stepsIn}
-use Rattle.until_search.specs.Flags.{flagAt, atOnce, Flags}
+use Rattle.tables.specs.inner.StepArray.{stepsIn}
+use Rattle.until_search.specs.inner.Flags.{flagAt, atOnce, Flags}
 use Rattle.until_search.proofs.Laws.Flags.{flags-none, flags-on, flags-all}
 use Rattle.labelling.proofs.steps.label_at_once.Statement.{statement}
 use Rattle.labelling.proofs.steps.label_at_once.Tie as tie

@@ -2,7 +2,7 @@
 use borrow.Author.Needs.{needs}
 use Rattle.until_search.proofs.Laws.Flags.{same-there, same-nowhere}
 use Rattle.actl.specs.Actions.{meets}
-use Rattle.formulas.specs.Access.{condIn}
+use Rattle.formulas.specs.inner.Access.{condIn}
 use Rattle.labelling.proofs.steps.leads.Statement.{statement}
 use Rattle.labelling.proofs.steps.leads.Tie as tie
 

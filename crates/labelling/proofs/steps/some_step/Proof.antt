@@ -3,13 +3,14 @@ use mathlib.Core.Path.{_≡_, sym, ap, _∙_, subst}
 use mathlib.Core.Bool.{Bool}
 use Prim.Native.Nat.{_≤_, _<_, _-_}
 use native.Mathlib.Omega.{arith}
-use Rattle.lts.specs.Sizes.{mostSteps}
+use Rattle.lts.specs.inner.Sizes.{mostSteps}
 use Rattle.lts.specs.Lists.{anyOf}
-use Rattle.lts.specs.Steps.{Step, Carried}
-use Rattle.tables.specs.StepArray.{stepAt, stepsBetween, stepsIn, spanOf}
+use Rattle.lts.specs.Steps.{Step}
+use Rattle.lts.specs.inner.Steps.{Carried}
+use Rattle.tables.specs.inner.StepArray.{stepAt, stepsBetween, stepsIn, spanOf}
 use Rattle.tables.specs.declared.steps.Span.{Span}
-use Rattle.formulas.specs.Access.{condIn}
-use Rattle.until_search.specs.Flags.{flagAt, leadsAsWanted, someStep}
+use Rattle.formulas.specs.inner.Access.{condIn}
+use Rattle.until_search.specs.inner.Flags.{flagAt, leadsAsWanted, someStep}
 use Rattle.until_search.proofs.Laws.Flags.{some-found, some-later, some-none}
 use Rattle.labelling.proofs.steps.some_step.Statement.{statement}
 use Rattle.labelling.proofs.steps.some_step.Tie as tie

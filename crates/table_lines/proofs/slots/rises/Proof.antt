@@ -4,8 +4,8 @@ use mathlib.Core.Path.{_≡_, sym, ap, _∙_}
 use Prim.Native.Nat.{suc, _+_, _-_, _*_}
 use native.Mathlib.Omega.{arith}
 use Rattle.lts.specs.Sizes.{transitionLength}
-use Rattle.lts.specs.Slots.{risesAfter}
-use Rattle.tables.specs.Access.{stepIn}
+use Rattle.lts.specs.inner.Slots.{risesAfter}
+use Rattle.tables.specs.inner.Access.{stepIn}
 use Rattle.table_lines.proofs.slots.rises.Statement.{statement}
 use Rattle.table_lines.proofs.slots.rises.Tie as tie
 

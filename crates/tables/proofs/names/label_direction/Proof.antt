@@ -6,8 +6,8 @@ use mathlib.Core.List.{[]}
 use lib.ListN.{getD}
 use Rattle.lts.specs.Names.{isName}
 use Rattle.lts.specs.Directions.{directionOf}
-use Rattle.lts.specs.NameEnds.{nameDirection}
-use Rattle.lts.specs.Prepared.{tableIn, nameAt}
+use Rattle.lts.specs.inner.NameEnds.{nameDirection}
+use Rattle.lts.specs.inner.Prepared.{tableIn, nameAt}
 use Rattle.lts.proofs.Lists.{getD-mem}
 use Rattle.lts.proofs.Laws.Contents.{name-in}
 use Rattle.lts.proofs.Laws.NameRuns.{whole-direction}

@@ -4,8 +4,9 @@ use mathlib.Core.Path.{_≡_, refl, ap}
 use Prim.Native.Nat.{_+_, _-_, _*_}
 use native.Mathlib.Omega.{arith}
 use lib.ListN.{take, drop}
-use Rattle.lts.specs.Sizes.{headLength, nameSlotLength}
-use Rattle.lts.specs.Prepared.{byteAt}
+use Rattle.lts.specs.inner.Sizes.{headLength}
+use Rattle.lts.specs.Sizes.{nameSlotLength}
+use Rattle.lts.specs.inner.Prepared.{byteAt}
 use Rattle.tables.proofs.names.name_span.Statement.{statement}
 use Rattle.tables.proofs.names.name_span.Tie as tie
 

@@ -4,7 +4,7 @@ use Prim.Native.Nat.{_+_, _-_, _*_}
 use native.Mathlib.Omega.{arith}
 use lib.ListN.{length, getD}
 use Rattle.lts.specs.Sizes.{nameSlotLength}
-use Rattle.lts.specs.Slots.{storedName}
+use Rattle.lts.specs.inner.Slots.{storedName}
 use Rattle.lts.proofs.Laws.Compare.{SameFrom, same-starts, same-stops, same-goes-on, same-ends}
 use Rattle.lts.proofs.Laws.Names.{stored-differs, stored-length, stored-byte}
 use Rattle.tables.proofs.names.same_name.Statement.{statement}

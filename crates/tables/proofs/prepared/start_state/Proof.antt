@@ -1,5 +1,5 @@
 -- `start_state` meets its contract.
-use Rattle.lts.specs.Prepared.{tableIn}
+use Rattle.lts.specs.inner.Prepared.{tableIn}
 use borrow.Author.Needs.{needs}
 use Rattle.tables.proofs.prepared.start_state.Statement.{statement}
 use Rattle.tables.proofs.prepared.start_state.Tie as tie

@@ -1,5 +1,5 @@
 -- `state_count` meets its contract.
-use Rattle.lts.specs.Prepared.{tableIn}
+use Rattle.lts.specs.inner.Prepared.{tableIn}
 use borrow.Author.Needs.{needs}
 use Rattle.tables.proofs.prepared.state_count.Statement.{statement}
 use Rattle.tables.proofs.prepared.state_count.Tie as tie

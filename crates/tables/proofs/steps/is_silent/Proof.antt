@@ -3,7 +3,8 @@ use mathlib.Core.Path.{_≡_, refl, sym, ap, subst}
 use mathlib.Core.Bool.{_||_}
 use lib.Dec.{eqb}
 use borrow.Author.Tests.{ne-eqb}
-use Rattle.lts.specs.Steps.{idleLabel, silent}
+use Rattle.lts.specs.Idle.{idleLabel}
+use Rattle.lts.specs.Steps.{silent}
 use Rattle.tables.proofs.steps.is_silent.Statement.{statement}
 use Rattle.tables.proofs.steps.is_silent.Tie as tie
 

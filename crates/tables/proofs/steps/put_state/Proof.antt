@@ -7,10 +7,10 @@ use native.Mathlib.Omega.{arith}
 use lib.ListN.{length}
 use lib.Seq.{slice}
 use borrow.Author.Needs.{needs}
-use Rattle.lts.specs.Sizes.{mostSteps}
-use Rattle.lts.specs.Steps.{idleAt}
-use Rattle.lts.specs.Prepared.{tableIn}
-use Rattle.tables.specs.StepArray.{stepCode, exitsBelow}
+use Rattle.lts.specs.inner.Sizes.{mostSteps}
+use Rattle.lts.specs.inner.Steps.{idleAt}
+use Rattle.lts.specs.inner.Prepared.{tableIn}
+use Rattle.tables.specs.inner.StepArray.{stepCode, exitsBelow}
 use Rattle.tables.proofs.Laws.Exits.{exits-at-most}
 use Rattle.tables.proofs.Laws.StepArray.{put-start, put-more, put-done, put-as, steps-leave, steps-idle}
 use Rattle.tables.proofs.steps.put_state.Statement.{statement}

@@ -5,10 +5,10 @@ use Prim.Native.Nat.{_+_, _-_, _≤_, _<_}
 use native.Mathlib.Omega.{arith}
 use lib.ListN.{length, length-set}
 use lib.Seq.{slice}
-use Rattle.lts.specs.Sizes.{mostSteps}
-use Rattle.lts.specs.Prepared.{tableIn}
-use Rattle.tables.specs.Access.{stepIn}
-use Rattle.tables.specs.StepArray.{stepCode}
+use Rattle.lts.specs.inner.Sizes.{mostSteps}
+use Rattle.lts.specs.inner.Prepared.{tableIn}
+use Rattle.tables.specs.inner.Access.{stepIn}
+use Rattle.tables.specs.inner.StepArray.{stepCode}
 use Rattle.lts.proofs.Laws.Contents.{transition-in}
 use Rattle.tables.proofs.Laws.StepArray.{PutSoFar, put-start, put-more, put-rest, put-done, codes-next, codes-over}
 use Rattle.tables.proofs.steps.put_transitions.Statement.{statement}

@@ -5,9 +5,10 @@ use Prim.Native.Nat.{ℕ, suc, _+_, _-_, _≤_, _<_}
 use native.Mathlib.Numerals.{add-one}
 use native.Mathlib.Omega.{arith}
 use lib.ListN.{length, length-replicate}
-use Rattle.lts.specs.Sizes.{mostStates, mostSteps, firstsLength}
-use Rattle.lts.specs.Prepared.{tableIn}
-use Rattle.tables.specs.StepArray.{exitsBelow}
+use Rattle.lts.specs.Sizes.{mostStates}
+use Rattle.lts.specs.inner.Sizes.{mostSteps, firstsLength}
+use Rattle.lts.specs.inner.Prepared.{tableIn}
+use Rattle.tables.specs.inner.StepArray.{exitsBelow}
 use Rattle.tables.proofs.Laws.Exits.{exits-none, exits-grow, exits-all}
 use Rattle.tables.proofs.Laws.StepArray.{BelowDone, below-none, below-fits, below-more, below-all}
 use Rattle.tables.proofs.steps.steps_of.Statement.{statement}

@@ -6,7 +6,7 @@ use Prim.Native.Nat.{ℕ, _-_, _<_}
 use native.Mathlib.Omega.{arith}
 use lib.Bits.{bitOr}
 use lib.ListN.{getD}
-use Rattle.frontier.specs.Frontier.{hasState, placesAdded, allPlaces}
+use Rattle.frontier.specs.inner.Frontier.{hasState, placesAdded, allPlaces}
 use Rattle.frontier.proofs.Laws.Through.{left, left-over, left-skip, left-turn}
 use Rattle.word_reading.proofs.frontiers.all_places.Statement.{statement}
 use Rattle.word_reading.proofs.frontiers.all_places.Tie as tie

@@ -4,7 +4,7 @@ use mathlib.Core.Bool.{cond}
 use Prim.Native.Nat.{_+_, _/_, _%_, _^_}
 use lib.Bits.{bitOr}
 use lib.ListN.{getD, set}
-use Rattle.frontier.specs.Frontier.{marksAt, placesAt, brought}
+use Rattle.frontier.specs.inner.Frontier.{marksAt, placesAt, brought}
 use borrow.Author.Needs.{needs}
 use Rattle.word_reading.proofs.frontiers.bring.Statement.{statement}
 use Rattle.word_reading.proofs.frontiers.bring.Tie as tie

@@ -3,7 +3,7 @@ use mathlib.Core.Path.{_≡_}
 use mathlib.Core.Bool.{false}
 use Prim.Native.Nat.{ℕ, _-_, _≤_, _<_}
 use native.Mathlib.Omega.{arith}
-use Rattle.frontier.specs.Frontier.{hasState}
+use Rattle.frontier.specs.inner.Frontier.{hasState}
 use Rattle.frontier.proofs.Laws.Frontiers.{state-found, state-later}
 use Rattle.word_reading.proofs.frontiers.next_state.Statement.{statement}
 use Rattle.word_reading.proofs.frontiers.next_state.Tie as tie

@@ -1,0 +1,13 @@
+pub mod Check
+pub mod Cursor
+pub mod HoldsFormula
+pub mod Meaning
+pub mod NodeBytes
+pub mod Prepared
+pub mod Reader
+pub mod Readers
+pub mod Reading
+pub mod Shaped
+pub mod Sizes
+pub mod Walk
+pub mod Writing

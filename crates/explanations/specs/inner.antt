@@ -1,0 +1,4 @@
+pub mod BothTexts
+pub mod Positions
+pub mod Printed
+pub mod Sizes

@@ -1,0 +1,4 @@
+pub mod Files
+pub mod Replied
+pub mod Scan
+pub mod Writing

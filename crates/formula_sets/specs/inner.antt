@@ -1,0 +1,2 @@
+pub mod OperandPhases
+pub mod SetReplies

@@ -1,0 +1,3 @@
+pub mod Frontier
+pub mod Reached
+pub mod Sizes

@@ -1,0 +1,13 @@
+pub mod Answers
+pub mod Check
+pub mod HoldsTable
+pub mod Lines
+pub mod Lists
+pub mod NameEnds
+pub mod Prepared
+pub mod Range
+pub mod Reading
+pub mod Sizes
+pub mod Slots
+pub mod Steps
+pub mod Text

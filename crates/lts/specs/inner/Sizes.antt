@@ -1,0 +1,27 @@
+-- Sizes that code needs beside those of ../Sizes.antt: all steps, the longest text of a table, the longest name.
+use Prim.Native.Nat.{ℕ, suc, _+_, _*_}
+use Rattle.lts.specs.Sizes.{mostLabels, mostStates, mostTransitions, namesLength}
+
+-- All steps, idle steps included; and where those of each state begin, and the last ones end.
+abbrev pub mostSteps : ℕ
+mostSteps = mostTransitions + mostStates
+
+abbrev pub firstsLength : ℕ
+firstsLength = suc mostStates
+
+-- The longest text of a table: its lines with their LFs. One byte more gets the same answer as any longer text.
+abbrev pub longestTableText : ℕ
+longestTableText = 25 + (mostLabels * 21 + mostTransitions * 19)
+
+abbrev pub enoughTableText : ℕ
+enoughTableText = suc longestTableText
+
+abbrev pub longestName : ℕ
+longestName = 13
+
+-- A prepared table: counts and start, name slots, transition slots.
+abbrev pub headLength : ℕ
+headLength = 6
+
+abbrev pub transitionsAt : ℕ
+transitionsAt = headLength + namesLength
