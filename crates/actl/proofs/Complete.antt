@@ -10,7 +10,7 @@ use lib.Dec.{eqb}
 use borrow.Author.Tests.{ne-eqb}
 use Rattle.lts.specs.Names.{isLower, isNameByte, atMost, isName}
 use Rattle.lts.specs.Marks.{marked, isMark}
-use Rattle.lts.proofs.Lists.{and-true-of}
+use Rattle.lts.proofs.Booleans.{and-true-of}
 use Rattle.lts.proofs.Laws.NameBytes.{name-more, name-ends}
 use Rattle.actl.specs.Grammar.{Name, Set, operand, union, Operand, name, any, received, sent, except, group, Condition, dot, set, Quantifier, existential, universal, Head, next, until, untilThen, reach, labelled, Disjunction, conjunction, or, Conjunction, term, and, Term, tru, not, modal, paren, gap, showS, showO, showC, showQ, showR, showL, showH, showF, showA, showT}
 use Rattle.actl.specs.inner.Reader.{InDisjunction, fTop, fParen, InTerm, tFirst, tOr, tAnd, tNot, tModal, InSet, sParen, sNext, sUntil, sThen, sLabelled, InOperand, oFirst, oOr, oNot, State, termAt, afterE, afterA, afterLabelled, afterNext, afterUntil, bracketAt, operandAt, afterDot, naming, afterSet, afterDisjunction, ReaderStep, go, stop, on, andLast, plugT, plugO, named, leaveO, readByte, finish, finishDisjunction, proceed, run, start, read, Result, whole, refused}

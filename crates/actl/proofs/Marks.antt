@@ -2,7 +2,7 @@
 use mathlib.Core.Path.{_≡_, refl}
 use mathlib.Core.Bool.{true}
 use Rattle.lts.specs.Marks.{marked}
-use Rattle.lts.proofs.Lists.{and-true-to}
+use Rattle.lts.proofs.Booleans.{and-true-to}
 use Rattle.actl.specs.Grammar.{Set, operand, union, Operand, name, any, received, sent, except, group, Condition, dot, set, Head, next, until, untilThen, reach, labelled, Disjunction, conjunction, or, Conjunction, term, and, Term, tru, not, modal, paren}
 use Rattle.actl.specs.Marks.{fitsS, fitsO, fitsC, fitsH, fitsF, fitsA, fitsT}
 

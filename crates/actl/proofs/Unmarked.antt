@@ -8,7 +8,7 @@ use lib.ListN.{length, take}
 use Rattle.lts.specs.Reply.{Reply}
 use Rattle.lts.specs.Marks.{Marks, unmarked, marked}
 use Rattle.lts.specs.Directions.{Plain}
-use Rattle.lts.proofs.Lists.{and-true-to}
+use Rattle.lts.proofs.Booleans.{and-true-to}
 use Rattle.lts.proofs.Laws.Unmarked.{plain-behind, plain-append, plain-take, plain-stem}
 use Rattle.actl.specs.Formulas.{Formula}
 use Rattle.actl.specs.Grammar.{Name, Set, operand, union, Operand, name, any, received, sent, except, group, Condition, dot, set, Quantifier, existential, universal, Head, next, until, untilThen, reach, labelled, Disjunction, conjunction, or, Conjunction, term, and, Term, tru, not, modal, paren, gap, showS, showO, showC, showQ, showR, showL, showH, showF, showA, showT}

@@ -9,7 +9,7 @@ use native.Mathlib.Decide.{decLt}
 use native.Mathlib.Omega.{arith}
 use lib.Dec.{eqb}
 use Rattle.lts.specs.Steps.{Step, Table, IsStep}
-use Rattle.lts.proofs.Lists.{not-true, not-false}
+use Rattle.lts.proofs.Booleans.{not-true, not-false}
 use Rattle.actl.specs.Formulas.{Formula, tru, size, classOf, At, root}
 use Rattle.actl.proofs.Subformulas.{at-node, node-at, node-past}
 use Rattle.actl.proofs.Classes.{class-types, HasClass, class-of-node}

@@ -10,7 +10,8 @@ use Rattle.lts.specs.Lists.{anyOf}
 use Rattle.lts.specs.Steps.{Step, Table, IsStep}
 use Rattle.lts.specs.inner.Steps.{stepsFrom}
 use Rattle.lts.specs.inner.Range.{InRange}
-use Rattle.lts.proofs.Lists.{and-true-of, and-true-to, some-of, some-to}
+use Rattle.lts.proofs.Booleans.{and-true-of, and-true-to}
+use Rattle.lts.proofs.Lists.{some-of, some-to}
 use Rattle.lts.proofs.StepsFrom.{steps-are}
 use Rattle.actl.specs.Formulas.{Formula, size, classOf}
 use Rattle.actl.proofs.Classes.{HasClass}

@@ -8,7 +8,7 @@ use lib.ListN.{length}
 use Rattle.lts.specs.inner.Lists.{every}
 use Rattle.lts.specs.Steps.{Step, Table}
 use Rattle.lts.specs.inner.Steps.{stepsFrom}
-use Rattle.lts.proofs.Lists.{or-true-of, or-true-left, or-true-right, not-true, not-false}
+use Rattle.lts.proofs.Booleans.{or-true-of, or-true-left, or-true-right, not-true, not-false}
 use Rattle.lts.proofs.StepsFrom.{From, steps-are}
 use Rattle.actl.specs.Actions.{Mask, inSet, Cond, meets, passes}
 use Rattle.actl.specs.Formulas.{Formula, tru, not, or, ex, ax, eu, euThen, isT}

@@ -18,7 +18,8 @@ use Rattle.lts.specs.Steps.{Table, silent}
 use Rattle.lts.specs.inner.Steps.{stepsFrom}
 use Rattle.lts.specs.Reading.{readTable, readTableWith, readLabelsWith, readTransitions}
 use Rattle.lts.specs.inner.Reading.{readLabels}
-use Rattle.lts.proofs.Lists.{and-true-of, or-true-of, every-of}
+use Rattle.lts.proofs.Booleans.{and-true-of, or-true-of}
+use Rattle.lts.proofs.Lists.{every-of}
 use Rattle.lts.proofs.Laws.Texts.{text-of-read}
 use Rattle.actl.specs.Actions.{inSet, maskOf, meets, passes}
 use Rattle.actl.specs.Formulas.{Formula, classOf, highestWithoutClass}

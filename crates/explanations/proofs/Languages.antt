@@ -11,7 +11,8 @@ use borrow.Author.Tests.{eqb-true, ltb-true, eq-eqb, lt-ltb}
 use Rattle.columns.specs.Bytes.{sameBytes}
 use Rattle.lts.specs.inner.Lists.{consIf, keep, every}
 use Rattle.lts.specs.Lists.{anyOf, bind}
-use Rattle.lts.proofs.Lists.{and-true-of, and-true-to, or-true-of, or-true-left, or-true-right, keep-of, keep-to, some-of, some-to, every-of, map-of, map-to}
+use Rattle.lts.proofs.Booleans.{and-true-of, and-true-to, or-true-of, or-true-left, or-true-right}
+use Rattle.lts.proofs.Lists.{keep-of, keep-to, some-of, some-to, every-of, map-of, map-to}
 use Rattle.automaton.specs.Listing.{Listing, Edge}
 use Rattle.automaton.specs.Listed.{IsRow, rowAt}
 use Rattle.automaton.specs.inner.Words.{Reads, ends, reads, Accepts}

@@ -13,10 +13,11 @@ use lib.Seq.{drop-cons}
 use Rattle.lts.specs.Names.{isLower, isNameByte, isName}
 use Rattle.lts.specs.Marks.{isMark}
 use Rattle.lts.specs.inner.NameEnds.{stemRun, stemLength, stemEnd, markLength, nameLength, nameEnd}
-use Rattle.lts.proofs.Lists.{and-true-of, and-true-to}
+use Rattle.lts.proofs.Booleans.{and-true-of, and-true-to}
 use Rattle.lts.proofs.Laws.Stems.{isStem}
 use Rattle.lts.proofs.Laws.NameBytes.{stem-grows, name-ends, name-full, mark-ends}
-use Rattle.lts.proofs.Laws.NameRuns.{IsStem, stem-marked, stem-named, stem-below, nothing-read, bare-read, mark-read, no-mark-at-end}
+use Rattle.lts.proofs.Laws.NameRuns.{IsStem, stem-marked, stem-named, stem-below, no-mark-at-end}
+use Rattle.lts.proofs.Laws.NameDirections.{nothing-read, bare-read, mark-read}
 use Rattle.actl.specs.Grammar.{Name, name}
 use Rattle.actl.specs.inner.Reader.{InOperand, operandAt, naming, leaveO, plugO, proceed, run, refused}
 use Rattle.actl.specs.inner.Cursor.{peek, Named}

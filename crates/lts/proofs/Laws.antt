@@ -11,6 +11,7 @@ pub mod Layout
 pub mod Lines
 pub mod LinesRead
 pub mod NameBytes
+pub mod NameDirections
 pub mod NameRuns
 pub mod Names
 pub mod Pasted

@@ -1,3 +1,4 @@
+pub mod Booleans
 pub mod Examples
 pub mod Laws
 pub mod Lists

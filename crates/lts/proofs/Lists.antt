@@ -1,44 +1,16 @@
--- Laws of tests and lists: members, order, members by number.
+-- Laws of lists: members, order, members by number.
 use mathlib.Core.Path.{_≡_, refl, sym, ap, _∙_, subst}
 use mathlib.Core.Logic.{_⊎_, inl, inr}
-use mathlib.Core.Bool.{Bool, true, false, true≢false, false≢true, not, _&&_, _||_}
-use mathlib.Core.List.{List, [], _∷_, _++_, map, append-assoc, append-nil, List·Memᴰ, List·Memᴰ·head, List·Memᴰ·tail, List·Memᴰ·not-nil, List·Memᴰ·cases-cons, List·Memᴰ·append-cases, Memᴰ·cast, Memᴰ·append-left, Memᴰ·append-right}
+use mathlib.Core.Bool.{Bool, true, false, false≢true}
+use mathlib.Core.List.{List, [], _∷_, _++_, map, append-assoc, List·Memᴰ, List·Memᴰ·head, List·Memᴰ·tail, List·Memᴰ·not-nil, List·Memᴰ·cases-cons, List·Memᴰ·append-cases, Memᴰ·append-left, Memᴰ·append-right}
 use Prim.Native.Nat.{ℕ, zero, suc, _+_, _-_, _<_, _≤_}
 use native.Mathlib.Nat.{add-zero, add-suc, suc-add, zero-add}
 use native.Mathlib.Omega.{arith}
-use lib.ListN.{length, getD, take, drop}
+use lib.ListN.{length, getD}
 use lib.Seq.{slice}
-use Rattle.lts.specs.inner.Lists.{upFrom, consIf, keep, every, orElse}
+use Rattle.lts.specs.inner.Lists.{upFrom, consIf, keep, every}
 use Rattle.lts.specs.Lists.{anyOf, Rising, bind}
-
--- Booleans.
-pub and-true-of : (a b : Bool) → (a && b) ≡ true → (a ≡ true) × (b ≡ true)
-and-true-of true b e = (refl, e)
-and-true-of false b e = absurd (false≢true e)
-
-pub and-true-to : (a b : Bool) → a ≡ true → b ≡ true → (a && b) ≡ true
-and-true-to true b e d = d
-and-true-to false b e d = absurd (false≢true e)
-
-pub or-true-of : (a b : Bool) → (a || b) ≡ true → (a ≡ true) ⊎ (b ≡ true)
-or-true-of true b e = inl refl
-or-true-of false b e = inr e
-
-pub or-true-left : (a b : Bool) → a ≡ true → (a || b) ≡ true
-or-true-left true b e = refl
-or-true-left false b e = absurd (false≢true e)
-
-pub or-true-right : (a b : Bool) → b ≡ true → (a || b) ≡ true
-or-true-right true b e = refl
-or-true-right false b e = e
-
-pub not-true : (a : Bool) → a ≡ false → not a ≡ true
-not-true true e = absurd (true≢false e)
-not-true false e = refl
-
-pub not-false : (a : Bool) → not a ≡ true → a ≡ false
-not-false true e = absurd (false≢true e)
-not-false false e = refl
+use Rattle.lts.proofs.Booleans.{and-true-of, and-true-to, or-true-left, or-true-of, or-true-right}
 
 -- The numbers from k.
 pub upFrom-of : (k n : ℕ) {x : ℕ} → List·Memᴰ x (upFrom k n) → (k ≤ x) × (x < k + n)

@@ -10,7 +10,7 @@ use Rattle.lts.specs.Sizes.{mostLabels}
 use Rattle.lts.specs.Idle.{idleLabel}
 use Rattle.lts.specs.Steps.{silent}
 use Rattle.lts.specs.inner.Steps.{Carried}
-use Rattle.lts.proofs.Lists.{or-true-of}
+use Rattle.lts.proofs.Booleans.{or-true-of}
 
 pub zero-silent : silent 0 ≡ true
 unfolding silent

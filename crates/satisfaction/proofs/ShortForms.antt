@@ -12,7 +12,7 @@ use Rattle.lts.specs.Steps.{Step, Table, labels, silent, IsStep}
 use Rattle.lts.specs.Idle.{idleLabel}
 use Rattle.lts.specs.inner.Range.{InRange}
 use Rattle.lts.specs.Reading.{readTable}
-use Rattle.lts.proofs.Lists.{or-true-left, or-true-right}
+use Rattle.lts.proofs.Booleans.{or-true-left, or-true-right}
 use Rattle.lts.proofs.StepsFrom.{step-labelled}
 use Rattle.lts.proofs.Laws.Texts.{text-of-read}
 use Rattle.actl.specs.Actions.{Action, Mask, meets, passes}

@@ -13,7 +13,7 @@ use borrow.Author.Tests.{leb-true, lt-ltb}
 use Rattle.actl.specs.Sizes.{mostNodes, longestText}
 use Rattle.lts.specs.Directions.{labelDirection}
 use Rattle.lts.specs.Reply.{Reply, accepted, refusal, unless}
-use Rattle.lts.proofs.Lists.{and-true-to}
+use Rattle.lts.proofs.Booleans.{and-true-to}
 use Rattle.actl.specs.Actions.{Mask, Cond, silent, labels, maskOf}
 use Rattle.actl.specs.Formulas.{Formula, size, nodes, highestWithoutClass}
 use Rattle.actl.specs.Grammar.{Set, Condition, dot, set, Quantifier, existential, universal}

@@ -13,7 +13,8 @@ use lib.Seq.{take-suc-set}
 use borrow.Author.Tests.{eqb-true, eq-eqb}
 use Rattle.columns.specs.Bytes.{sameBytes}
 use Rattle.lts.specs.inner.Lists.{upFrom, every}
-use Rattle.lts.proofs.Lists.{and-true-of, and-true-to, upFrom-of, upFrom-to, upFrom-snoc, map-append, every-of, every-to}
+use Rattle.lts.proofs.Booleans.{and-true-of, and-true-to}
+use Rattle.lts.proofs.Lists.{upFrom-of, upFrom-to, upFrom-snoc, map-append, every-of, every-to}
 
 pub length-upFrom : (k n : ℕ) → length (upFrom k n) ≡ n
 length-upFrom k zero = refl

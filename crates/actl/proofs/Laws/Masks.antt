@@ -11,7 +11,7 @@ use borrow.Author.Tests.{eq-eqb, ne-eqb, lt-ltb, eqb-true, ltb-true}
 use Rattle.lts.specs.Sizes.{mostLabels}
 use Rattle.lts.specs.Steps.{silent as isSilent}
 use Rattle.lts.specs.Directions.{Direction}
-use Rattle.lts.proofs.Lists.{and-true-of, and-true-to}
+use Rattle.lts.proofs.Booleans.{and-true-of, and-true-to}
 use Rattle.lts.proofs.Silence.{heard}
 use Rattle.actl.specs.Actions.{Action, satisfies, Mask, inSet, maskOf, Cond, silent, labels, meets, passes}
 use Rattle.actl.specs.Prepared.{maskWithin}

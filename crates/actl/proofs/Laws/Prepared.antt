@@ -19,7 +19,8 @@ use Rattle.columns.specs.Bytes.{sameBytes}
 use Rattle.lts.specs.inner.Lists.{upFrom, every}
 use Rattle.lts.specs.Lists.{bind}
 use Rattle.lts.proofs.Laws.Prepared.{is-some-of}
-use Rattle.lts.proofs.Lists.{and-true-of, and-true-to, every-of, every-to, getD-mem}
+use Rattle.lts.proofs.Booleans.{and-true-of, and-true-to}
+use Rattle.lts.proofs.Lists.{every-of, every-to, getD-mem}
 use Rattle.actl.specs.Actions.{Mask}
 use Rattle.actl.specs.Formulas.{Formula, tru, size, nodes, classOf}
 use Rattle.actl.specs.Prepared.{Slot, slot, slotOf, formulaBytes, maskWithin, slotWithin, IsForm, FormOfSome}

@@ -12,7 +12,8 @@ use borrow.Author.Tests.{eq-eqb}
 use Rattle.actl.specs.Sizes.{mostNodes, nodeSlotLength, formulaLength}
 use Rattle.lts.specs.inner.Lists.{upFrom}
 use Rattle.lts.specs.inner.Answers.{isSome, Decides}
-use Rattle.lts.proofs.Lists.{upFrom-of, every-of, every-to, and-true-of, and-true-to, getD-mem, map-of, map-to}
+use Rattle.lts.proofs.Lists.{upFrom-of, every-of, every-to, getD-mem, map-of, map-to}
+use Rattle.lts.proofs.Booleans.{and-true-of, and-true-to}
 use Rattle.actl.specs.Formulas.{Formula, tru, size, nodes}
 use Rattle.actl.specs.Prepared.{Slot, slotOf, slotWithin, IsForm}
 use Rattle.actl.specs.inner.Prepared.{slotAt, formed, preparedFormula}

@@ -13,7 +13,8 @@ use Rattle.lts.specs.inner.Lists.{upFrom}
 use Rattle.lts.specs.Steps.{Step, Table}
 use Rattle.lts.specs.inner.Steps.{Carried, stepsFrom}
 use Rattle.lts.specs.inner.Range.{InRange}
-use Rattle.lts.proofs.Lists.{some-of, some-to, and-true-of, and-true-to, upFrom-of, upFrom-to}
+use Rattle.lts.proofs.Lists.{some-of, some-to, upFrom-of, upFrom-to}
+use Rattle.lts.proofs.Booleans.{and-true-of, and-true-to}
 use Rattle.actl.specs.Formulas.{Formula, size}
 use Rattle.until_search.specs.inner.Flags.{flagAt}
 use Rattle.automaton.specs.Places.{Final}

@@ -11,7 +11,7 @@ use lib.ListN.{length, getD, set, length-set}
 use lib.Seq.{getD-set-same, getD-set-other}
 use borrow.Author.Tests.{eq-eqb, ne-eqb}
 use Rattle.frontier.specs.inner.Sizes.{frontierLength}
-use Rattle.lts.proofs.Lists.{or-true-right}
+use Rattle.lts.proofs.Booleans.{or-true-right}
 use Rattle.target_masks.specs.inner.Masks.{bitAt}
 use Rattle.target_masks.proofs.Laws.MasksFound.{bit-or, bit-zero, bit-pow}
 use Rattle.target_masks.proofs.Laws.Places.{zeros-at}

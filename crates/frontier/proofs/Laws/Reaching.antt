@@ -16,7 +16,8 @@ use Rattle.lts.specs.Lists.{anyOf}
 use Rattle.lts.specs.Steps.{Step, Table, IsStep}
 use Rattle.lts.specs.inner.Steps.{Carried, stepsFrom}
 use Rattle.lts.specs.inner.Range.{InRange}
-use Rattle.lts.proofs.Lists.{some-of, some-to, and-true-of, and-true-to, upFrom-of, upFrom-to}
+use Rattle.lts.proofs.Lists.{some-of, some-to, upFrom-of, upFrom-to}
+use Rattle.lts.proofs.Booleans.{and-true-of, and-true-to}
 use Rattle.lts.proofs.StepsFrom.{steps-are}
 use Rattle.actl.specs.Formulas.{Formula, size}
 use Rattle.automaton.specs.inner.Search.{leads, onLabel}

@@ -20,7 +20,7 @@ use Rattle.lts.specs.Names.{isName}
 use Rattle.lts.specs.Text.{headerLine, labelLine, transitionLine}
 use Rattle.lts.specs.Reading.{Line, missing, line, longer, firstLine, onLine, Header, headerOf, headerLaidOut, headerInRange, used, stepOf, stepLaidOut, stepInRange, above, atEnd, readTransitions, readLabelsWith, readTable, readTableWith}
 use Rattle.lts.specs.inner.Reading.{labelLaidOut, readLabels}
-use Rattle.lts.proofs.Lists.{and-true-of}
+use Rattle.lts.proofs.Booleans.{and-true-of}
 use Rattle.lts.proofs.Laws.Tests.{name-shape, counts-of}
 use Rattle.lts.proofs.Laws.LinesRead.{column-peeled}
 

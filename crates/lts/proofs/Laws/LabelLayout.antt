@@ -16,7 +16,7 @@ use Rattle.lts.specs.Text.{labelLine}
 use Rattle.lts.specs.Reading.{firstLine}
 use Rattle.lts.specs.inner.Reading.{labelLaidOut}
 use Rattle.lts.specs.inner.Lines.{NoLineAt, Labelled}
-use Rattle.lts.proofs.Lists.{and-true-of, and-true-to}
+use Rattle.lts.proofs.Booleans.{and-true-of, and-true-to}
 use Rattle.lts.proofs.Laws.LinesRead.{NoEnd, line-here, line-parts, drop-further, column-front, column-back, byte-within, byte-front, byte-back, column-peeled}
 use Rattle.lts.proofs.Laws.NameRuns.{High, name-high, name-short, run-is-name, name-is-run}
 use Rattle.lts.proofs.Laws.Layout.{no-end, never, value-first, drop-later}

@@ -18,7 +18,7 @@ use Rattle.lts.specs.Names.{isName}
 use Rattle.lts.specs.Text.{ended, headerLine, labelLine, transitionLine}
 use Rattle.lts.specs.Reading.{Line, missing, line, longer, firstLine, Header, headerOf, headerLaidOut, stepOf, stepLaidOut}
 use Rattle.lts.specs.inner.Reading.{labelLaidOut}
-use Rattle.lts.proofs.Lists.{and-true-to}
+use Rattle.lts.proofs.Booleans.{and-true-to}
 use Rattle.lts.proofs.Laws.Tests.{NameShape}
 
 -- No LF in it.

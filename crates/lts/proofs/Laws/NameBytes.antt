@@ -8,7 +8,7 @@ use native.Mathlib.Omega.{arith}
 use lib.ListN.{length}
 use Rattle.lts.specs.Names.{isLower, isNameByte, atMost, isName}
 use Rattle.lts.specs.Marks.{unmarked, marked, isMark, isLastMark}
-use Rattle.lts.proofs.Lists.{and-true-of, and-true-to, or-true-of, or-true-left, or-true-right}
+use Rattle.lts.proofs.Booleans.{and-true-of, and-true-to, or-true-of, or-true-left, or-true-right}
 use Rattle.lts.proofs.Laws.Stems.{isStem}
 use Rattle.lts.proofs.Laws.NameRuns.{mark-foreign}
 

@@ -18,7 +18,8 @@ use Rattle.lts.specs.Directions.{Direction, markOf}
 use Rattle.lts.specs.Reading.{used}
 use Rattle.lts.specs.inner.Slots.{storedName, storedNames}
 use Rattle.lts.specs.inner.Answers.{isSome}
-use Rattle.lts.proofs.Laws.NameRuns.{IsStem, three-names}
+use Rattle.lts.proofs.Laws.NameRuns.{IsStem}
+use Rattle.lts.proofs.Laws.NameDirections.{three-names}
 
 -- The name in slot k, and one of another length or of the same.
 module _ (b : List ℕ) (k : ℕ) (name : List ℕ) (inside : k * nameSlotLength + nameSlotLength ≤ length b) (short : length name ≤ longestName) where

@@ -17,7 +17,7 @@ use Rattle.lts.specs.Text.{ended, labelLine}
 use Rattle.lts.specs.inner.Text.{labelLines}
 use Rattle.lts.specs.Reading.{Line, line, firstLine, onLine, Header, used, readTransitions, readLabelsWith}
 use Rattle.lts.specs.inner.Reading.{labelLaidOut, readLabels}
-use Rattle.lts.proofs.Lists.{and-true-of}
+use Rattle.lts.proofs.Booleans.{and-true-of}
 use Rattle.lts.proofs.Laws.Tests.{name-shape}
 use Rattle.lts.proofs.Laws.Lines.{first-line-of, first-line-to, label-number, label-name, label-laid-out, label-unbroken}
 use Rattle.lts.proofs.Laws.Reading.{Named, unless-to, unless-of, on-line-of}

@@ -17,7 +17,8 @@ use Rattle.lts.specs.Names.{isName, lookup}
 use Rattle.lts.specs.Reading.{used, stepBelow, above}
 use Rattle.lts.specs.Prepared.{nameSlot, transitionSlot}
 use Rattle.lts.specs.inner.Slots.{counted, storedName, storedNames, storedStep, risesAfter, nameBytes, stepBytes}
-use Rattle.lts.proofs.Lists.{and-true-of, and-true-to, bind-append}
+use Rattle.lts.proofs.Booleans.{and-true-of, and-true-to}
+use Rattle.lts.proofs.Lists.{bind-append}
 use Rattle.lts.specs.inner.Answers.{isSome}
 use Rattle.lts.proofs.Laws.NameRuns.{name-short}
 use Rattle.lts.proofs.Laws.Names.{used-looked-up}

@@ -14,7 +14,7 @@ use Rattle.columns.proofs.Laws.Compared.{Each}
 use Rattle.lts.specs.Names.{isLower, isNameByte, atMost, isNameWith}
 use Rattle.lts.specs.Marks.{unmarked}
 use Rattle.lts.specs.inner.NameEnds.{stemRun, stemLength, stemEnd}
-use Rattle.lts.proofs.Lists.{and-true-of, or-true-of}
+use Rattle.lts.proofs.Booleans.{and-true-of, or-true-of}
 
 abbrev pub isStem : List ℕ → Bool
 isStem l = isNameWith unmarked l

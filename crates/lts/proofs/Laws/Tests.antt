@@ -17,7 +17,8 @@ use Rattle.lts.specs.Marks.{marked, isMark, isLastMark}
 use Rattle.lts.specs.Steps.{Step, labels}
 use Rattle.lts.specs.inner.Range.{Below, Differ}
 use Rattle.lts.specs.Reading.{Header, headerInRange, used, stepInRange, stepBelow, above}
-use Rattle.lts.proofs.Lists.{and-true-of, and-true-to, or-true-of, or-true-left, or-true-right, not-false, some-of, some-to}
+use Rattle.lts.proofs.Booleans.{and-true-of, and-true-to, or-true-of, or-true-left, or-true-right, not-false}
+use Rattle.lts.proofs.Lists.{some-of, some-to}
 
 -- Order of transitions.
 pub below-of : (a b : Step) → stepBelow a b ≡ true → Below a b

@@ -17,7 +17,7 @@ use Rattle.lts.specs.Names.{isNameWith, isName}
 use Rattle.lts.specs.Directions.{Plain}
 use Rattle.lts.specs.Text.{labelLine}
 use Rattle.lts.specs.Reading.{Line, missing, line, longer, firstLine, onLine, Header, headerOf, headerLaidOut, headerInRange, labelLaidOutWith, used, readTransitions, readLabelsWith, readTableWith}
-use Rattle.lts.proofs.Lists.{and-true-of, and-true-to, not-false}
+use Rattle.lts.proofs.Booleans.{and-true-of, and-true-to, not-false}
 use Rattle.lts.proofs.Laws.NameRuns.{IsStem, MarkedBy, name-parts, stem-named}
 
 -- Parts of a text without marks have none.

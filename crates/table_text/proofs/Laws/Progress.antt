@@ -16,7 +16,7 @@ use Rattle.lts.specs.Reading.{readTransitions, readLabelsWith}
 use Rattle.lts.specs.inner.Reading.{readLabels}
 use Rattle.lts.specs.inner.Lines.{LineAt, NoLineAt}
 use Rattle.table_text.specs.inner.Progress.{Refuses, numberRefused}
-use Rattle.lts.proofs.Lists.{and-true-of}
+use Rattle.lts.proofs.Booleans.{and-true-of}
 use Rattle.table_text.specs.declared.TableReply.the-variants.{NotLaidOut, OutOfRange, NameRepeated, NotRising}
 
 -- A line that is not laid out, and one that is.

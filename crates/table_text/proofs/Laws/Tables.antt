@@ -20,7 +20,7 @@ use Rattle.lts.specs.inner.Lines.{LineAt, NoLineAt}
 use Rattle.table_text.specs.inner.Progress.{Refuses, LinesRead, isAccepted}
 use Rattle.table_text.specs.declared.TableReply.{TableReply}
 use Rattle.table_text.specs.declared.TableReply.the-variants.{Accepted, NotLaidOut, OutOfRange}
-use Rattle.lts.proofs.Lists.{and-true-of}
+use Rattle.lts.proofs.Booleans.{and-true-of}
 use Rattle.table_text.proofs.Laws.Progress.{no-line, a-line, passed, failed}
 
 -- Line 1.

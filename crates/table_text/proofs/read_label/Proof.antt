@@ -10,7 +10,7 @@ use Rattle.lts.specs.Sizes.{nameSlotLength}
 use Rattle.table_text.proofs.Laws.Progress.{label-refused, label-out-of-order, label-repeated, label-accepted}
 use Rattle.lts.proofs.Laws.SlotBytes.{name-written, used-stored}
 use Rattle.lts.proofs.Laws.NameRuns.{name-short}
-use Rattle.lts.proofs.Lists.{and-true-of}
+use Rattle.lts.proofs.Booleans.{and-true-of}
 use Rattle.lts.specs.inner.Lists.{every}
 use Rattle.lts.specs.inner.Slots.{counted, nameBytes}
 use Rattle.lts.specs.inner.Lines.{Labelled}

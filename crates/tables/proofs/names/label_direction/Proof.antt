@@ -10,7 +10,7 @@ use Rattle.lts.specs.inner.NameEnds.{nameDirection}
 use Rattle.lts.specs.inner.Prepared.{tableIn, nameAt}
 use Rattle.lts.proofs.Lists.{getD-mem}
 use Rattle.lts.proofs.Laws.Contents.{name-in}
-use Rattle.lts.proofs.Laws.NameRuns.{whole-direction}
+use Rattle.lts.proofs.Laws.NameDirections.{whole-direction}
 use Rattle.tables.proofs.names.label_direction.Statement.{statement}
 use Rattle.tables.proofs.names.label_direction.Tie as tie
 

@@ -2,7 +2,8 @@
 use borrow.Author.Needs.{needs}
 use mathlib.Core.Path.{refl}
 use native.Mathlib.Omega.{arith}
-use Rattle.lts.proofs.Laws.NameRuns.{nothing-read, bare-read, mark-read, no-mark-at-end, no-mark-here}
+use Rattle.lts.proofs.Laws.NameDirections.{nothing-read, bare-read, mark-read}
+use Rattle.lts.proofs.Laws.NameRuns.{no-mark-at-end, no-mark-here}
 use Rattle.tables.proofs.names.read_name.Statement.{statement}
 use Rattle.tables.proofs.names.read_name.Tie as tie
 
