@@ -2,10 +2,14 @@
 -- with a class has a class.
 use mathlib.Core.Path.{_≡_, refl, sym, _∙_}
 use mathlib.Core.Logic.{_⊎_, inl, inr}
-use mathlib.Core.Bool.{Bool, true, false, true≢false, false≢true}
+use mathlib.Core.Bool.{Bool, true, false, cond, _&&_, _||_, true≢false, false≢true}
 use Prim.Native.Nat.{ℕ, zero, suc}
 use native.Mathlib.Omega.{arith}
-use Rattle.actl.specs.Formulas.{Formula, tru, not, or, ex, ax, eu, euThen, isT, classOf, classOfNot, classOfOr, classOfSome, classOfAll, At, root, in-not, in-left, in-right, in-ex, in-ax, in-eu, in-euThen}
+use lib.Dec.{eqb}
+use borrow.Author.Tests.{eqb-true}
+use Rattle.lts.proofs.Booleans.{and-true-of, or-true-of}
+use Rattle.actl.specs.Formulas.{Formula, tru, not, or, ex, ax, eu, euThen, isT, classOf, classOfNot, classOfOr, classOfSome, classOfAll, At, root, in-not, in-left}
+use Rattle.actl.specs.Formulas.{in-right, in-ex, in-ax, in-eu, in-euThen}
 
 abbrev mutual
   pub Witnessable : Formula → Type 0
@@ -30,56 +34,48 @@ pub arm-refutable : (f : Formula) → isT f ≡ false → (isT f ≡ true) ⊎ R
 arm-refutable f e (inl d) = absurd (true≢false (sym d ∙ e))
 arm-refutable f e (inr t) = t
 
--- From the number to the type.
+-- From the number to the type, by the tests that the table makes.
+first-test : (a b : Bool) → _≡_ {A = ℕ} (cond a 2 (cond b 1 0)) 2 → a ≡ true
+first-test true b e = refl
+first-test false true e = absurd (omega arith)
+first-test false false e = absurd (omega arith)
+
+second-test : (a b : Bool) → _≡_ {A = ℕ} (cond a 2 (cond b 1 0)) 1 → b ≡ true
+second-test true b e = absurd (omega arith)
+second-test false true e = refl
+second-test false false e = absurd (omega arith)
+
+passed : (k : ℕ) (a : Bool) → cond a (suc k) 0 ≡ suc k → a ≡ true
+passed k true e = refl
+passed k false e = absurd (omega arith)
+
+other-class : (k n : ℕ) → (suc k ≡ suc n → ⊥) → (a : Bool) → cond a (suc k) 0 ≡ suc n → ⊥
+other-class k n d true e = d e
+other-class k n d false e = omega arith
+
 not-one : (n : ℕ) → classOfNot n ≡ 1 → n ≡ 2
-not-one zero e = omega arith
-not-one (suc zero) e = omega arith
-not-one (suc (suc zero)) e = refl
-not-one (suc (suc (suc n))) e = omega arith
+not-one n e = eqb-true n 2 (second-test (eqb n 1) (eqb n 2) e)
 
 not-two : (n : ℕ) → classOfNot n ≡ 2 → n ≡ 1
-not-two zero e = omega arith
-not-two (suc zero) e = refl
-not-two (suc (suc zero)) e = omega arith
-not-two (suc (suc (suc n))) e = omega arith
+not-two n e = eqb-true n 1 (first-test (eqb n 1) (eqb n 2) e)
 
 or-one : (m n : ℕ) → classOfOr m n ≡ 1 → (m ≡ 1) × (n ≡ 1)
-or-one zero n e = omega arith
-or-one (suc zero) zero e = omega arith
-or-one (suc zero) (suc zero) e = (refl, refl)
-or-one (suc zero) (suc (suc n)) e = omega arith
-or-one (suc (suc m)) n e = omega arith
+or-one m n e = let h = and-true-of (eqb m 1) (eqb n 1) (passed 0 (eqb m 1 && eqb n 1) e) in (eqb-true m 1 (h .0), eqb-true n 1 (h .1))
 
 or-two : (m n : ℕ) → classOfOr m n ≡ 2 → ⊥
-or-two zero n e = omega arith
-or-two (suc zero) zero e = omega arith
-or-two (suc zero) (suc zero) e = omega arith
-or-two (suc zero) (suc (suc n)) e = omega arith
-or-two (suc (suc m)) n e = omega arith
+or-two m n e = other-class 0 1 (λ z. omega arith) (eqb m 1 && eqb n 1) e
 
 some-one : (n : ℕ) → classOfSome n ≡ 1 → n ≡ 1
-some-one zero e = omega arith
-some-one (suc zero) e = refl
-some-one (suc (suc n)) e = omega arith
+some-one n e = eqb-true n 1 (passed 0 (eqb n 1) e)
 
 some-two : (n : ℕ) → classOfSome n ≡ 2 → ⊥
-some-two zero e = omega arith
-some-two (suc zero) e = omega arith
-some-two (suc (suc n)) e = omega arith
+some-two n e = other-class 0 1 (λ z. omega arith) (eqb n 1) e
 
 all-one : (b : Bool) (n : ℕ) → classOfAll b n ≡ 1 → ⊥
-all-one true n e = omega arith
-all-one false zero e = omega arith
-all-one false (suc zero) e = omega arith
-all-one false (suc (suc zero)) e = omega arith
-all-one false (suc (suc (suc n))) e = omega arith
+all-one b n e = other-class 1 0 (λ z. omega arith) (b || eqb n 2) e
 
 all-two : (b : Bool) (n : ℕ) → classOfAll b n ≡ 2 → (b ≡ true) ⊎ (n ≡ 2)
-all-two true n e = inl refl
-all-two false zero e = absurd (omega arith)
-all-two false (suc zero) e = absurd (omega arith)
-all-two false (suc (suc zero)) e = inr refl
-all-two false (suc (suc (suc n))) e = absurd (omega arith)
+all-two b n e = elim (or-true-of b (eqb n 2) (passed 1 (b || eqb n 2) e)) [ inl h ↦ inl h | inr h ↦ inr (eqb-true n 2 h) ]
 
 pub class-types : (f : Formula) → (classOf f ≡ 1 → Witnessable f) × (classOf f ≡ 2 → Refutable f)
 unfolding classOf
@@ -153,37 +149,25 @@ class-of-node {F} c {f} h = back (at-classed (start c) h)
 abbrev Small : ℕ → Type 0
 Small n = (n ≡ 0 → ⊥) → (n ≡ 1) ⊎ (n ≡ 2)
 
-not-small : (n : ℕ) → Small (classOfNot n)
-not-small zero h = absurd (h refl)
-not-small (suc zero) h = inr refl
-not-small (suc (suc zero)) h = inl refl
-not-small (suc (suc (suc n))) h = absurd (h refl)
+pair-small : (a b : Bool) → Small (cond a 2 (cond b 1 0))
+pair-small true b h = inr refl
+pair-small false true h = inl refl
+pair-small false false h = absurd (h refl)
 
-or-small : (m n : ℕ) → Small (classOfOr m n)
-or-small zero n h = absurd (h refl)
-or-small (suc zero) zero h = absurd (h refl)
-or-small (suc zero) (suc zero) h = inl refl
-or-small (suc zero) (suc (suc n)) h = absurd (h refl)
-or-small (suc (suc m)) n h = absurd (h refl)
+one-small : (a : Bool) → Small (cond a 1 0)
+one-small true h = inl refl
+one-small false h = absurd (h refl)
 
-some-small : (n : ℕ) → Small (classOfSome n)
-some-small zero h = absurd (h refl)
-some-small (suc zero) h = inl refl
-some-small (suc (suc n)) h = absurd (h refl)
-
-all-small : (b : Bool) (n : ℕ) → Small (classOfAll b n)
-all-small true n h = inr refl
-all-small false zero h = absurd (h refl)
-all-small false (suc zero) h = absurd (h refl)
-all-small false (suc (suc zero)) h = inr refl
-all-small false (suc (suc (suc n))) h = absurd (h refl)
+two-small : (a : Bool) → Small (cond a 2 0)
+two-small true h = inr refl
+two-small false h = absurd (h refl)
 
 pub has-class : (f : Formula) → (classOf f ≡ 0 → ⊥) → HasClass f
 unfolding classOf
 has-class tru h = inl refl
-has-class (not f) h = not-small (classOf f) h
-has-class (or f g) h = or-small (classOf f) (classOf g) h
-has-class (ex c f) h = some-small (classOf f) h
-has-class (ax c f) h = all-small (isT f) (classOf f) h
-has-class (eu a f) h = some-small (classOf f) h
-has-class (euThen a b f) h = some-small (classOf f) h
+has-class (not f) h = pair-small (eqb (classOf f) 1) (eqb (classOf f) 2) h
+has-class (or f g) h = one-small (eqb (classOf f) 1 && eqb (classOf g) 1) h
+has-class (ex c f) h = one-small (eqb (classOf f) 1) h
+has-class (ax c f) h = two-small (isT f || eqb (classOf f) 2) h
+has-class (eu a f) h = one-small (eqb (classOf f) 1) h
+has-class (euThen a b f) h = one-small (eqb (classOf f) 1) h

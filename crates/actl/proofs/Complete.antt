@@ -4,7 +4,7 @@ use mathlib.Core.Bool.{Bool, true, false, cond, Bool-set, true≢false, _&&_, _|
 use mathlib.Core.HLevel.{isProp→PathP}
 use mathlib.Core.List.{List, [], _∷_, _++_, append-assoc, append-nil}
 use Prim.Native.Nat.{ℕ, zero, suc, _+_}
-use native.Mathlib.Nat.{add-zero, add-suc}
+use native.Mathlib.Nat.{add-zero}
 use native.Mathlib.Omega.{arith}
 use lib.Dec.{eqb}
 use borrow.Author.Tests.{ne-eqb}
@@ -12,8 +12,14 @@ use Rattle.lts.specs.Names.{isLower, isNameByte, atMost, isName}
 use Rattle.lts.specs.Marks.{marked, isMark}
 use Rattle.lts.proofs.Booleans.{and-true-of}
 use Rattle.lts.proofs.Laws.NameBytes.{name-more, name-ends}
-use Rattle.actl.specs.Grammar.{Name, Set, operand, union, Operand, name, any, received, sent, except, group, Condition, dot, set, Quantifier, existential, universal, Head, next, until, untilThen, reach, labelled, Disjunction, conjunction, or, Conjunction, term, and, Term, tru, not, modal, paren, gap, showS, showO, showC, showQ, showR, showL, showH, showF, showA, showT}
-use Rattle.actl.specs.inner.Reader.{InDisjunction, fTop, fParen, InTerm, tFirst, tOr, tAnd, tNot, tModal, InSet, sParen, sNext, sUntil, sThen, sLabelled, InOperand, oFirst, oOr, oNot, State, termAt, afterE, afterA, afterLabelled, afterNext, afterUntil, bracketAt, operandAt, afterDot, naming, afterSet, afterDisjunction, ReaderStep, go, stop, on, andLast, plugT, plugO, named, leaveO, readByte, finish, finishDisjunction, proceed, run, start, read, Result, whole, refused}
+use Rattle.actl.specs.Grammar.{Name, Set, operand, union, Operand, name, any, received, sent, except, group, Condition, dot, set, Quantifier, existential}
+use Rattle.actl.specs.Grammar.{universal, Head, next, until, untilThen, reach, labelled, Disjunction, conjunction, or, Conjunction, term, and, Term, tru, not}
+use Rattle.actl.specs.Grammar.{modal, paren}
+use Rattle.actl.specs.inner.Show.{gap, showS, showO, showC, showQ, showL, showH, showF, showA, showT}
+use Rattle.actl.specs.inner.Reader.{InDisjunction, fTop, fParen, InTerm, tFirst, tOr, tAnd, tNot, tModal, InSet, sParen, sNext, sUntil, sThen, sLabelled, InOperand}
+use Rattle.actl.specs.inner.Reader.{oFirst, oOr, oNot, State, termAt, afterE, afterA, afterLabelled, afterNext, afterUntil, bracketAt, operandAt, afterDot, naming}
+use Rattle.actl.specs.inner.Reader.{afterSet, afterDisjunction, ReaderStep, go, stop, on, plugT, plugO, named, leaveO, readByte, finish, finishDisjunction}
+use Rattle.actl.specs.inner.Reader.{proceed, run, start, read, Result, whole, refused}
 use Rattle.actl.proofs.Sound.{leave-step}
 
 -- Blanks, where they count up.
@@ -84,7 +90,8 @@ on-not b m y z p q = ap (λ t. cond t y z) (lower-not b m p q)
 pub name-start : (b : ℕ) (k : InOperand) (h : isName (b ∷ []) ≡ true) → readByte (operandAt k) b ≡ go (naming (record { bytes = b ∷ []; fits = h }) k)
 name-start b k h =
     let l = and-true-of (isLower b) true h .0 in
-    on-not b 32 _ _ l refl ∙ (on-not b 42 _ _ l refl ∙ (on-not b 63 _ _ l refl ∙ (on-not b 33 _ _ l refl ∙ (on-not b 126 _ _ l refl ∙ (on-not b 40 _ _ l refl ∙ named-yes (b ∷ []) k (isName (b ∷ [])) refl _ h)))))
+    on-not b 32 _ _ l refl ∙ (on-not b 42 _ _ l refl ∙ (on-not b 63 _ _ l refl
+    ∙ (on-not b 33 _ _ l refl ∙ (on-not b 126 _ _ l refl ∙ (on-not b 40 _ _ l refl ∙ named-yes (b ∷ []) k (isName (b ∷ [])) refl _ h)))))
 
 spelled : (l : List ℕ) (h : isName l ≡ true) (k : InOperand) (s : List ℕ) → run (l ++ s) (operandAt k) ≡ run s (naming (record { bytes = l; fits = h }) k)
 spelled [] h k s = absurd (true≢false (sym h))

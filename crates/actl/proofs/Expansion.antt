@@ -1,35 +1,31 @@
 -- A line's expansion is a text of the base notation, with the same names and the same answer. A text of the base notation is its own expansion.
-use mathlib.Core.Path.{_≡_, refl, sym, ap, ap₂, _∙_}
+use mathlib.Core.Path.{_≡_, refl, sym, ap, ap₂, _∙_, subst}
 use mathlib.Core.Logic.{⊎-elim}
-use mathlib.Core.Bool.{true, _&&_}
-use mathlib.Core.List.{List, [], _∷_, _++_, map, map-append, append-nil, nil≢cons, cons≢nil, head-eq-of-cons-eq, tail-eq-of-cons-eq, List·Memᴰ·head, List·Memᴰ·tail, List·Memᴰ·not-nil, List·Memᴰ·cases-cons}
+use mathlib.Core.Bool.{Bool, true, false, cond, not as negate, _&&_, _||_}
+use mathlib.Core.List.{List, [], _∷_, _++_, map, append-nil, head-eq-of-cons-eq, tail-eq-of-cons-eq, nil≢cons, List·Memᴰ, List·Memᴰ·head, List·Memᴰ·tail}
+use mathlib.Core.List.{List·Memᴰ·not-nil, List·Memᴰ·cases-cons}
 use mathlib.Core.Option.{Option, none, some}
-use Prim.Native.Nat.{ℕ, suc}
-use Rattle.lts.specs.Marks.{Marks}
+use Prim.Native.Nat.{ℕ, zero, suc, _+_}
+use native.Mathlib.Omega.{arith}
+use lib.ListN.{length, length-append}
+use Rattle.columns.specs.Ascii.{ascii}
+use Rattle.lts.specs.Lists.{every, bind}
+use Rattle.lts.specs.Marks.{Marks, unmarked, marked, isMark}
+use Rattle.lts.specs.Directions.{Plain}
 use Rattle.lts.specs.Names.{lookup}
-use Rattle.actl.specs.Grammar.{Name, Set, operand, union, Operand, name, any, received, sent, except, group, Condition, dot, set, existential, universal, next, until, untilThen, reach, labelled, Disjunction, conjunction, or, Conjunction, term, and, Term, tru, not, modal, paren, gap, showH, showT, showF}
-use Rattle.actl.specs.Marks.{fitsS, fitsH, fitsF, fitsA, fitsT}
-use Rattle.actl.specs.Grammatical.{Text}
-use Rattle.actl.specs.Base.{BaseHead, Base, BaseTerm, typedHead, typed, typedTerm, showB, showBT, fitsB, fitsBT, BaseText}
+use Rattle.lts.proofs.Booleans.{and-true-of, not-false}
+use Rattle.actl.specs.Grammar.{Name, Set, operand, union, Operand, name, any, received, sent, except, group, Condition, dot, set, Quantifier}
+use Rattle.actl.specs.Grammar.{existential, universal, next, until, untilThen, reach, labelled, Disjunction, conjunction, or, Conjunction, term, and}
+use Rattle.actl.specs.Grammar.{Term, tru, not, modal, paren, Piece, byte, named, textOf, blanks, piecesS, piecesO, piecesC, piecesQ, piecesF, piecesA}
+use Rattle.actl.specs.Grammar.{piecesT}
+use Rattle.actl.specs.Marks.{allows, fitsPiece}
+use Rattle.actl.specs.Base.{BaseHead, Base, BaseTerm, typed, typedTerm, BaseText}
 use Rattle.actl.specs.WrittenOut.{writtenOut, writtenOutConjunction, writtenOutTerm}
-use Rattle.actl.specs.Mentions.{Mention, namesS, namesO, namesC, namesF, namesA, namesT, offset}
 use Rattle.actl.specs.Meaning.{formulaOf}
-use Rattle.actl.specs.Reading.{unlessFound, unknownAt, firstUnknown, withClasses, onTree}
-use Rattle.actl.specs.Expansion.{expansion, Known, FirstLacking, SameAnswer, same, lacking, Expands}
+use Rattle.actl.specs.Reading.{unlessFound, unknownAt, unknownFrom, withClasses, onTree}
+use Rattle.actl.specs.Expansion.{expansion, namesAmong, Known, FirstLacking, SameAnswer, same, lacking, Expands}
 
--- A base tree has the same text among the trees of the grammar.
-mutual
-  pub typed-shows : (g : Base) (s : List ℕ) → showF (typed g) s ≡ showB g s
-  typed-shows (Base.term t) s = typed-term-shows t s
-  typed-shows (Base.or f a b t) s = typed-shows f (gap a (124 ∷ gap b (showT (typedTerm t) s))) ∙ ap (λ u. showB f (gap a (124 ∷ gap b u))) (typed-term-shows t s)
-
-  pub typed-term-shows : (t : BaseTerm) (s : List ℕ) → showT (typedTerm t) s ≡ showBT t s
-  typed-term-shows BaseTerm.tru s = refl
-  typed-term-shows (BaseTerm.not a t) s = ap (λ u. 126 ∷ gap a u) (typed-term-shows t s)
-  typed-term-shows (BaseTerm.modal h a t) s = ap (λ u. showH (typedHead h) (gap a u)) (typed-term-shows t s)
-  typed-term-shows (BaseTerm.paren a f b) s = ap (λ u. 40 ∷ gap a u) (typed-shows f (gap b (41 ∷ s)))
-
--- It is its own tree written out.
+-- A tree of the base notation is its own tree written out.
 mutual
   pub typed-written : (g : Base) → writtenOut (typed g) ≡ g
   typed-written (Base.term t) = ap (λ u. Base.term u) (typed-term-written t)
@@ -43,157 +39,232 @@ mutual
   typed-term-written (BaseTerm.modal (BaseHead.untilThen b c x d e y g) a t) = ap (λ u. BaseTerm.modal (BaseHead.untilThen b c x d e y g) a u) (typed-term-written t)
   typed-term-written (BaseTerm.paren a f b) = ap (λ g. BaseTerm.paren a g b) (typed-written f)
 
--- A tree and the tree written out are trees of the same grammars, with marks or without.
-module _ (m : Marks) where
-  mutual
-    written-alike : (f : Disjunction) → fitsB m (writtenOut f) ≡ fitsF m f
-    written-alike (conjunction c) = conjunction-alike c
-    written-alike (or f a b c) = ap₂ _&&_ (written-alike f) (conjunction-alike c)
+-- The names and marks among pieces. `Alike`: both have the same.
+abbrev telling : Piece → List Piece
+telling (byte b) = cond (isMark b) (byte b ∷ []) []
+telling (named n) = named n ∷ []
 
-    conjunction-alike : (c : Conjunction) → fitsBT m (writtenOutConjunction c) ≡ fitsA m c
-    conjunction-alike (term t) = term-alike t
-    conjunction-alike (and c a b t) = ap₂ _&&_ (conjunction-alike c) (term-alike t)
+record Alike (k l : List Piece) : Type 0 where
+  told : bind telling k ≡ bind telling l
 
-    term-alike : (t : Term) → fitsBT m (writtenOutTerm t) ≡ fitsT m t
-    term-alike tru = refl
-    term-alike (not a t) = term-alike t
-    term-alike (modal (next q b c x d) a t) = ap (λ r. fitsH m (next q b c x d) && r) (term-alike t)
-    term-alike (modal (until b c x d) a t) = ap (λ r. fitsS m x && r) (term-alike t)
-    term-alike (modal (untilThen b c x d e y g) a t) = ap (λ r. fitsH m (untilThen b c x d e y g) && r) (term-alike t)
-    term-alike (modal (reach existential) a t) = term-alike t
-    term-alike (modal (reach universal) a t) = term-alike t
-    term-alike (modal (labelled existential b c x d) a t) = ap (λ r. fitsS m x && r) (term-alike t)
-    term-alike (modal (labelled universal b c x d) a t) = ap (λ r. fitsS m x && r) (term-alike t)
-    term-alike (paren a f b) = written-alike f
+-- Before both: the same piece, and blanks. Before one: bytes that are no marks.
+same-piece : (p : Piece) {k l : List Piece} → Alike k l → Alike (p ∷ k) (p ∷ l)
+same-piece p h = record { told = ap (λ r. telling p ++ r) (h .told) }
 
-  pub written-fits : (f : Disjunction) → fitsF m f ≡ true → fitsB m (writtenOut f) ≡ true
-  written-fits f h = written-alike f ∙ h
+same-blanks : (a : ℕ) {k l : List Piece} → Alike k l → Alike (blanks a k) (blanks a l)
+same-blanks zero h = h
+same-blanks (suc a) h = same-piece (byte 32) (same-blanks a h)
 
-  pub typed-fits : (g : Base) → fitsF m (typed g) ≡ fitsB m g
-  typed-fits g = sym (written-alike (typed g)) ∙ ap (fitsB m) (typed-written g)
+no-marks-told : (p : List ℕ) → Plain p → (l : List Piece) → bind telling (map byte p ++ l) ≡ bind telling l
+no-marks-told [] h l = refl
+no-marks-told (b ∷ p) h l =
+    let (first, rest) = and-true-of (negate (isMark b)) (every (λ c. negate (isMark c)) p) h in
+    ap (λ t. cond t (byte b ∷ []) [] ++ bind telling (map byte p ++ l)) (not-false (isMark b) first) ∙ no-marks-told p rest l
 
--- The same names, at whatever places.
-abbrev bare : List Mention → List Name
-bare l = map (λ (m : Mention). m .name) l
+written-bytes : (p : List ℕ) → Plain p → {k l : List Piece} → Alike k l → Alike (map byte p ++ k) l
+written-bytes p e {k} h = record { told = no-marks-told p e k ∙ h .told }
 
-record SameNames (k l : List Mention) : Type 0 where
-  bared : bare k ≡ bare l
+typed-bytes : (p : List ℕ) → Plain p → {k l : List Piece} → Alike k l → Alike k (map byte p ++ l)
+typed-bytes p e {l = l} h = record { told = h .told ∙ sym (no-marks-told p e l) }
 
-joins : {a b c d : List Mention} → SameNames a c → SameNames b d → SameNames (a ++ b) (c ++ d)
-joins {a} {b} {c} {d} e h = record { bared = map-append (λ (m : Mention). m .name) a b ∙ (ap₂ _++_ (e .bared) (h .bared) ∙ sym (map-append (λ (m : Mention). m .name) c d)) }
-
--- What stands behind does not change the names of a set.
 mutual
-  set-names : (x : Set) (s t : List ℕ) → SameNames (namesS x s) (namesS x t)
-  set-names (operand o) s t = operand-names o s t
-  set-names (union x a b o) s t = joins (set-names x _ _) (operand-names o s t)
+  set-alike : (x : Set) {k l : List Piece} → Alike k l → Alike (piecesS x k) (piecesS x l)
+  set-alike (operand o) h = operand-alike o h
+  set-alike (union x a b o) h = set-alike x (same-blanks a (same-piece (byte 124) (same-blanks b (operand-alike o h))))
 
-  operand-names : (o : Operand) (s t : List ℕ) → SameNames (namesO o s) (namesO o t)
-  operand-names (name n) s t = record { bared = refl }
-  operand-names any s t = record { bared = refl }
-  operand-names received s t = record { bared = refl }
-  operand-names sent s t = record { bared = refl }
-  operand-names (except a o) s t = operand-names o s t
-  operand-names (group a x b) s t = set-names x _ _
+  operand-alike : (o : Operand) {k l : List Piece} → Alike k l → Alike (piecesO o k) (piecesO o l)
+  operand-alike (name n) h = same-piece (named n) h
+  operand-alike any h = same-piece (byte 42) h
+  operand-alike received h = same-piece (byte 63) h
+  operand-alike sent h = same-piece (byte 33) h
+  operand-alike (except a o) h = same-piece (byte 126) (same-blanks a (operand-alike o h))
+  operand-alike (group a x b) h = same-piece (byte 40) (same-blanks a (set-alike x (same-blanks b (same-piece (byte 41) h))))
 
-condition-names : (c : Condition) (s t : List ℕ) → SameNames (namesC c s) (namesC c t)
-condition-names dot s t = record { bared = refl }
-condition-names (set x) s t = set-names x s t
+condition-alike : (c : Condition) {k l : List Piece} → Alike k l → Alike (piecesC c k) (piecesC c l)
+condition-alike dot h = same-piece (byte 46) h
+condition-alike (set x) h = set-alike x h
 
--- A tree written out has the names of the tree.
+quantifier-alike : (q : Quantifier) {k l : List Piece} → Alike k l → Alike (piecesQ q k) (piecesQ q l)
+quantifier-alike existential h = same-piece (byte 69) (same-piece (byte 88) h)
+quantifier-alike universal h = same-piece (byte 65) (same-piece (byte 88) h)
+
+-- What stands before and behind the contents of a square bracket.
+opened : (b c : ℕ) {k l : List Piece} → Alike k l → Alike (blanks b (byte 91 ∷ blanks c k)) (blanks b (byte 91 ∷ blanks c l))
+opened b c h = same-blanks b (same-piece (byte 91) (same-blanks c h))
+
+shut : (d : ℕ) {k l : List Piece} → Alike k l → Alike (blanks d (byte 93 ∷ k)) (blanks d (byte 93 ∷ l))
+shut d h = same-blanks d (same-piece (byte 93) h)
+
+-- A tree written out has the names and the marks of the tree.
 mutual
-  written-names : (f : Disjunction) (s t : List ℕ) → SameNames (namesF (typed (writtenOut f)) s) (namesF f t)
-  written-names (conjunction c) s t = conjunction-names c s t
-  written-names (or f a b c) s t = joins (written-names f _ _) (conjunction-names c s t)
+  written-alike : (f : Disjunction) {k l : List Piece} → Alike k l → Alike (piecesF (typed (writtenOut f)) k) (piecesF f l)
+  written-alike (conjunction c) h = conjunction-alike c h
+  written-alike (or f a b c) h = written-alike f (same-blanks a (same-piece (byte 124) (same-blanks b (conjunction-alike c h))))
 
-  conjunction-names : (c : Conjunction) (s t : List ℕ) → SameNames (namesT (typedTerm (writtenOutConjunction c)) s) (namesA c t)
-  conjunction-names (term u) s t = term-names u s t
-  conjunction-names (and c a b u) s t = joins (conjunction-names c _ _) (term-names u _ t)
+  conjunction-alike : (c : Conjunction) {k l : List Piece} → Alike k l → Alike (piecesT (typedTerm (writtenOutConjunction c)) k) (piecesA c l)
+  conjunction-alike (term u) h = term-alike u h
+  conjunction-alike (and c a b u) h =
+      let second = written-bytes (ascii "~") refl (term-alike u (written-bytes (ascii "))") refl h)) in
+      written-bytes (ascii "(~(~") refl (conjunction-alike c (same-blanks a (written-bytes (ascii "|") refl (typed-bytes (ascii "&") refl (same-blanks b second)))))
 
-  term-names : (u : Term) (s t : List ℕ) → SameNames (namesT (typedTerm (writtenOutTerm u)) s) (namesT u t)
-  term-names tru s t = record { bared = refl }
-  term-names (not a u) s t = term-names u s t
-  term-names (modal (next q b c x d) a u) s t = joins (condition-names x _ _) (term-names u s t)
-  term-names (modal (until b c x d) a u) s t = joins (set-names x _ _) (term-names u s t)
-  term-names (modal (untilThen b c x d e y g) a u) s t = joins (joins (set-names x _ _) (set-names y _ _)) (term-names u s t)
-  term-names (modal (reach existential) a u) s t = term-names u _ t
-  term-names (modal (reach universal) a u) s t = term-names u _ t
-  term-names (modal (labelled existential b c x d) a u) s t = joins (set-names x _ _) (term-names u _ t)
-  term-names (modal (labelled universal b c x d) a u) s t = joins (set-names x _ _) (term-names u _ t)
-  term-names (paren a f b) s t = written-names f _ _
+  term-alike : (u : Term) {k l : List Piece} → Alike k l → Alike (piecesT (typedTerm (writtenOutTerm u)) k) (piecesT u l)
+  term-alike tru h = same-piece (byte 84) h
+  term-alike (not a u) h = same-piece (byte 126) (same-blanks a (term-alike u h))
+  term-alike (modal (next q b c x d) a u) h = quantifier-alike q (opened b c (condition-alike x (shut d (same-blanks a (term-alike u h)))))
+  term-alike (modal (until b c x d) a u) h = same-piece (byte 69) (same-piece (byte 85) (opened b c (set-alike x (shut d (same-blanks a (term-alike u h))))))
+  term-alike (modal (untilThen b c x d e y g) a u) h =
+      let second = set-alike y (shut g (same-blanks a (term-alike u h))) in
+      same-piece (byte 69) (same-piece (byte 85) (opened b c (set-alike x (same-blanks d (same-piece (byte 59) (same-blanks e second))))))
+  term-alike (modal (reach existential) a u) h = written-bytes (ascii "(EU[*]") refl (typed-bytes (ascii "EF") refl (same-blanks a (term-alike u (written-bytes (ascii ")") refl h))))
+  term-alike (modal (reach universal) a u) h = written-bytes (ascii "(~EU[*]~") refl (typed-bytes (ascii "AG") refl (same-blanks a (term-alike u (written-bytes (ascii ")") refl h))))
+  term-alike (modal (labelled existential b c x d) a u) h =
+      let under = same-blanks a (term-alike u (written-bytes (ascii ")") refl h)) in
+      written-bytes (ascii "(EX") refl (typed-bytes (ascii "DIA") refl (opened b c (set-alike x (shut d under))))
+  term-alike (modal (labelled universal b c x d) a u) h =
+      let under = written-bytes (ascii "~") refl (same-blanks a (term-alike u (written-bytes (ascii ")") refl h))) in
+      written-bytes (ascii "(~EX") refl (typed-bytes (ascii "BOX") refl (opened b c (set-alike x (shut d under))))
+  term-alike (paren a f b) h = same-piece (byte 40) (same-blanks a (written-alike f (same-blanks b (same-piece (byte 41) h))))
 
--- A tree's names are the same written out.
-abbrev mentioned : Disjunction → List Name
-mentioned f = bare (namesF f [])
+written-told : (f : Disjunction) → bind telling (piecesF (typed (writtenOut f)) []) ≡ bind telling (piecesF f [])
+written-told f = written-alike f (record { told = refl }) .told
 
-names-kept : (f : Disjunction) → mentioned (typed (writtenOut f)) ≡ mentioned f
-names-kept f = written-names f [] [] .bared
+-- They alone decide whether pieces fit, and which names they have.
+no-mark-fits : (m : Marks) → (allows m || true) ≡ true
+no-mark-fits unmarked = refl
+no-mark-fits marked = refl
 
--- Two lists with the same names: the table has all of both, or lacks the same first one of both.
-data Compared (names : List (List ℕ)) (l k : List Mention) : Type 0 where
-  both-known : Known names l → Known names k → Compared names l k
-  both-lack : (m n : Mention) (before : ℕ) → m .name ≡ n .name → FirstLacking names l m before → FirstLacking names k n before → Compared names l k
+fits-told : (m : Marks) (l : List Piece) → every (fitsPiece m) (bind telling l) ≡ every (fitsPiece m) l
+fits-told m [] = refl
+fits-told m (named n ∷ l) = ap (λ r. fitsPiece m (named n) && r) (fits-told m l)
+fits-told m (byte b ∷ l) = case (isMark b) refl (fits-told m l)
+  where
+    case : (t : Bool) → isMark b ≡ t → every (fitsPiece m) (bind telling l) ≡ every (fitsPiece m) l
+        → every (fitsPiece m) (cond t (byte b ∷ []) [] ++ bind telling l) ≡ fitsPiece m (byte b) && every (fitsPiece m) l
+    case true e h = ap (λ r. fitsPiece m (byte b) && r) h
+    case false e h = h ∙ sym (ap (λ t. (allows m || negate t) && every (fitsPiece m) l) e ∙ ap (λ t. t && every (fitsPiece m) l) (no-mark-fits m))
+
+names-told : (l : List Piece) → namesAmong (bind telling l) ≡ namesAmong l
+names-told [] = refl
+names-told (named n ∷ l) = ap (λ r. n ∷ r) (names-told l)
+names-told (byte b ∷ l) = case (isMark b) (names-told l)
+  where
+    case : (t : Bool) → namesAmong (bind telling l) ≡ namesAmong l → namesAmong (cond t (byte b ∷ []) [] ++ bind telling l) ≡ namesAmong l
+    case true h = h
+    case false h = h
+
+pub written-fits : (m : Marks) (f : Disjunction) → every (fitsPiece m) (piecesF (typed (writtenOut f)) []) ≡ every (fitsPiece m) (piecesF f [])
+written-fits m f = sym (fits-told m (piecesF (typed (writtenOut f)) [])) ∙ (ap (every (fitsPiece m)) (written-told f) ∙ fits-told m (piecesF f []))
+
+pub written-names : (f : Disjunction) → namesAmong (piecesF (typed (writtenOut f)) []) ≡ namesAmong (piecesF f [])
+written-names f = sym (names-told (piecesF (typed (writtenOut f)) [])) ∙ (ap namesAmong (written-told f) ∙ names-told (piecesF f []))
 
 module _ (names : List (List ℕ)) where
-  abbrev found : Mention → Option ℕ
-  found m = lookup names (m .name .bytes)
+  -- The table has all of some names, or lacks a first one of them.
+  abbrev Has : List Name → Type 0
+  Has l = (n : Name) → List·Memᴰ n l → (a : ℕ) × (lookup names (n .bytes) ≡ some a)
 
-  no-names : Known names []
-  no-names m d = absurd (List·Memᴰ·not-nil d)
+  data Sought (l : List Name) : Type 0 where
+    has : Has l → Sought l
+    lacks-one : (front : List Name) (n : Name) (later : List Name) → l ≡ front ++ (n ∷ later) → Has front → lookup names (n .bytes) ≡ none → Sought l
 
-  one-more : (m : Mention) (a : ℕ) {l : List Mention} → found m ≡ some a → Known names l → Known names (m ∷ l)
-  one-more m a e h k d = ⊎-elim (λ i. (a, ap found i ∙ e)) (h k) (List·Memᴰ·cases-cons d)
+  has-none : Has []
+  has-none n d = absurd (List·Memᴰ·not-nil d)
 
-  lacks-first : (m : Mention) (l : List Mention) → found m ≡ none → FirstLacking names (m ∷ l) m 0
-  lacks-first m l e = record { front = []; later = l; splits = refl; counts = refl; known = no-names; lacks = e }
+  has-more : (n : Name) (a : ℕ) {l : List Name} → lookup names (n .bytes) ≡ some a → Has l → Has (n ∷ l)
+  has-more n a e h k d = ⊎-elim (λ i. (a, ap (λ (v : Name). lookup names (v .bytes)) i ∙ e)) (h k) (List·Memᴰ·cases-cons d)
 
-  lacks-later : (k : Mention) (a : ℕ) {l : List Mention} {m : Mention} {before : ℕ} → found k ≡ some a → FirstLacking names l m before → FirstLacking names (k ∷ l) m (suc before)
-  lacks-later k a e h = record { front = k ∷ h .front; later = h .later; splits = ap (λ r. k ∷ r) (h .splits); counts = ap suc (h .counts); known = one-more k a e (h .known); lacks = h .lacks }
-
-  compare : (l k : List Mention) → bare l ≡ bare k → Compared names l k
-  compare [] [] e = both-known no-names no-names
-  compare [] (n ∷ k) e = absurd (nil≢cons e)
-  compare (m ∷ l) [] e = absurd (cons≢nil e)
-  compare (m ∷ l) (n ∷ k) e = case (found m) refl (ap (λ (i : Name). lookup names (i .bytes)) (sym (head-eq-of-cons-eq e))) (compare l k (tail-eq-of-cons-eq e))
+  seek : (l : List Name) → Sought l
+  seek [] = has has-none
+  seek (n ∷ l) = case (lookup names (n .bytes)) refl (seek l)
     where
-      case : (o : Option ℕ) → found m ≡ o → found n ≡ found m → Compared names l k → Compared names (m ∷ l) (n ∷ k)
-      case none d i c = both-lack m n 0 (head-eq-of-cons-eq e) (lacks-first m l d) (lacks-first n k (i ∙ d))
-      case (some a) d i (both-known p q) = both-known (one-more m a d p) (one-more n a (i ∙ d) q)
-      case (some a) d i (both-lack x y before h p q) = both-lack x y (suc before) h (lacks-later m a d p) (lacks-later n a (i ∙ d) q)
+      case : (o : Option ℕ) → lookup names (n .bytes) ≡ o → Sought l → Sought (n ∷ l)
+      case none e s = lacks-one [] n l refl has-none e
+      case (some a) e (has h) = has (has-more n a e h)
+      case (some a) e (lacks-one front k later d h z) = lacks-one (n ∷ front) k later (ap (λ r. n ∷ r) d) (has-more n a e h) z
 
-  -- What 7 finds in them.
-  past-known : (f : Disjunction) (front l : List Mention) → Known names front → firstUnknown names f (front ++ l) ≡ firstUnknown names f l
-  past-known f [] l h = refl
-  past-known f (m ∷ front) l h = let (a, e) = h m (List·Memᴰ·head refl) in
-      ap (λ o. unknownAt o (offset f m) (firstUnknown names f (front ++ l))) e ∙ past-known f front l (λ k d. h k (List·Memᴰ·tail d))
+  -- Where pieces have the first name that is lacking: at once, behind a byte, or behind a name.
+  lacks-first : (n : Name) (l : List Piece) → lookup names (n .bytes) ≡ none → FirstLacking names (named n ∷ l) n 0 0
+  lacks-first n l e = record { front = []; later = l; splits = refl; counts = refl; stands = refl; known = has-none; lacks = e }
 
-  none-unknown : (f : Disjunction) (l : List Mention) → Known names l → firstUnknown names f l ≡ none
-  none-unknown f l h = ap (firstUnknown names f) (sym (append-nil l)) ∙ past-known f l [] h
+  past-byte : (b : ℕ) {l : List Piece} {n : Name} {before at : ℕ} → FirstLacking names l n before at → FirstLacking names (byte b ∷ l) n before (suc at)
+  past-byte b h = record {
+    front = byte b ∷ h .front;
+    later = h .later;
+    splits = ap (λ k. byte b ∷ k) (h .splits);
+    counts = h .counts;
+    stands = ap suc (h .stands);
+    known = h .known;
+    lacks = h .lacks;
+  }
 
-  first-unknown : (f : Disjunction) {l : List Mention} {m : Mention} {before : ℕ} → FirstLacking names l m before → firstUnknown names f l ≡ some (offset f m)
-  first-unknown f {l} {m} h = ap (firstUnknown names f) (h .splits) ∙ (past-known f (h .front) (m ∷ h .later) (h .known)
-      ∙ ap (λ o. unknownAt o (offset f m) (firstUnknown names f (h .later))) (h .lacks))
+  past-name : (x : Name) (a : ℕ) {l : List Piece} {n : Name} {before at : ℕ} → lookup names (x .bytes) ≡ some a → FirstLacking names l n before at
+      → FirstLacking names (named x ∷ l) n (suc before) (length (x .bytes) + at)
+  past-name x a e h = record {
+    front = named x ∷ h .front;
+    later = h .later;
+    splits = ap (λ k. named x ∷ k) (h .splits);
+    counts = ap suc (h .counts);
+    stands = length-append (x .bytes) (textOf (h .front)) ∙ ap (λ k. length (x .bytes) + k) (h .stands);
+    known = has-more x a e (h .known);
+    lacks = h .lacks;
+  }
+
+  lacking-at : (l : List Piece) (front : List Name) (n : Name) (later : List Name) → namesAmong l ≡ front ++ (n ∷ later) → Has front → lookup names (n .bytes) ≡ none
+      → (at : ℕ) × FirstLacking names l n (length front) at
+  lacking-at [] [] n later e h z = absurd (nil≢cons e)
+  lacking-at [] (x ∷ front) n later e h z = absurd (nil≢cons e)
+  lacking-at (byte b ∷ l) front n later e h z = let (at, r) = lacking-at l front n later e h z in (suc at, past-byte b r)
+  lacking-at (named x ∷ l) [] n later e h z = (0, subst (λ (v : Name). FirstLacking names (named v ∷ l) n 0 0) (sym (head-eq-of-cons-eq e)) (lacks-first n l z))
+  lacking-at (named x ∷ l) (y ∷ front) n later e h z =
+      let (at, r) = lacking-at l front n later (tail-eq-of-cons-eq e) (λ k d. h k (List·Memᴰ·tail d)) z in
+      let (a, d) = h x (List·Memᴰ·head (head-eq-of-cons-eq e)) in
+      (length (x .bytes) + at, past-name x a d r)
+
+  -- What 7 finds in pieces.
+  past-known : (i : ℕ) (front l : List Piece) → Known names front → unknownFrom names i (front ++ l) ≡ unknownFrom names (i + length (textOf front)) l
+  past-known i [] l h = ap (λ k. unknownFrom names k l) (let e : i ≡ i + 0 = omega arith in e)
+  past-known i (byte b ∷ front) l h =
+      let e : suc i + length (textOf front) ≡ i + suc (length (textOf front)) = omega arith in
+      past-known (suc i) front l h ∙ ap (λ k. unknownFrom names k l) e
+  past-known i (named n ∷ front) l h =
+      let (a, d) = h n (List·Memᴰ·head refl) in
+      let j = i + length (n .bytes) in
+      let e : j + length (textOf front) ≡ i + length (n .bytes ++ textOf front) = omega (arith, length-append (n .bytes) (textOf front)) in
+      ap (λ o. unknownAt o i (unknownFrom names j (front ++ l))) d ∙ (past-known j front l (λ k m. h k (List·Memᴰ·tail m)) ∙ ap (λ k. unknownFrom names k l) e)
+
+  none-unknown : (l : List Piece) → Known names l → unknownFrom names 0 l ≡ none
+  none-unknown l h = ap (unknownFrom names 0) (sym (append-nil l)) ∙ past-known 0 l [] h
+
+  first-unknown : {l : List Piece} {n : Name} {before at : ℕ} → FirstLacking names l n before at → unknownFrom names 0 l ≡ some at
+  first-unknown {l} {n} {at = at} h =
+      let e : 0 + length (textOf (h .front)) ≡ at = omega (arith, h .stands) in
+      ap (unknownFrom names 0) (h .splits) ∙ (past-known 0 (h .front) (named n ∷ h .later) (h .known)
+      ∙ (λ i. unknownAt (h .lacks i) (e i) (unknownFrom names (0 + length (textOf (h .front)) + length (n .bytes)) (h .later))))
 
   -- Trees that have the same names, and are the same written out, have the same answer.
-  same-answer : (f g : Disjunction) → mentioned g ≡ mentioned f → writtenOut g ≡ writtenOut f → SameAnswer names f g
-  same-answer f g e d = case (compare (namesF f []) (namesF g []) (sym e))
+  same-answer : (f g : Disjunction) → namesAmong (piecesF g []) ≡ namesAmong (piecesF f []) → writtenOut g ≡ writtenOut f → SameAnswer names f g
+  same-answer f g e d = case (seek (namesAmong (piecesF f [])))
     where
-      goes : (f : Disjunction) {o : Option ℕ} → firstUnknown names f (namesF f []) ≡ o → onTree names f ≡ unlessFound o 7 (withClasses (formulaOf names (writtenOut f)))
+      goes : (f : Disjunction) {o : Option ℕ} → unknownFrom names 0 (piecesF f []) ≡ o → onTree names f ≡ unlessFound o 7 (withClasses (formulaOf names (writtenOut f)))
       goes f h = ap (λ o. unlessFound o 7 (withClasses (formulaOf names (writtenOut f)))) h
 
-      case : Compared names (namesF f []) (namesF g []) → SameAnswer names f g
-      case (both-known p q) = same p q
-          (goes f (none-unknown f (namesF f []) p) ∙ (ap (λ b. withClasses (formulaOf names b)) (sym d) ∙ sym (goes g (none-unknown g (namesF g []) q))))
-      case (both-lack m k before h p q) = lacking m k before h p q (goes f (first-unknown f p)) (goes g (first-unknown g q))
+      case : Sought (namesAmong (piecesF f [])) → SameAnswer names f g
+      case (has p) =
+          let q : Known names (piecesF g []) = subst Has (sym e) p in
+          let r = ap (λ b. withClasses (formulaOf names b)) (sym d) in
+          same p q (goes f (none-unknown (piecesF f []) p) ∙ (r ∙ sym (goes g (none-unknown (piecesF g []) q))))
+      case (lacks-one front n later s h z) =
+          let (i, p) = lacking-at (piecesF f []) front n later s h z in
+          let (j, q) = lacking-at (piecesF g []) front n later (e ∙ s) h z in
+          lacking n (length front) i j p q (goes f (first-unknown p)) (goes g (first-unknown q))
 
 -- Every tree expands. 02: "Node numbers, the limit of 40 and classes are those of the written-out text."
-pub expands : (m : Marks) (names : List (List ℕ)) (f : Disjunction) → fitsF m f ≡ true → Expands m names f
+pub expands : (m : Marks) (names : List (List ℕ)) (f : Disjunction) → every (fitsPiece m) (piecesF f []) ≡ true → Expands m names f
 expands m names f h = record {
-  base = record { fits = written-fits m f h; shows = refl };
-  tree = record { fits = typed-fits m (writtenOut f) ∙ written-fits m f h; shows = typed-shows (writtenOut f) [] };
-  answer = same-answer names f (typed (writtenOut f)) (names-kept f) (typed-written (writtenOut f));
+  base = record { fits = written-fits m f ∙ h; shows = refl };
+  answer = same-answer names f (typed (writtenOut f)) (written-names f) (typed-written (writtenOut f));
 }
 
 -- A text of the base notation is its own expansion.
-pub own-expansion : (m : Marks) (s : List ℕ) (g : Base) → BaseText m s g → Text m s (typed g) × (writtenOut (typed g) ≡ g) × (expansion (typed g) ≡ s)
-own-expansion m s g h = (record { fits = typed-fits m g ∙ h .fits; shows = typed-shows g [] ∙ h .shows }, typed-written g, ap (λ b. showB b []) (typed-written g) ∙ h .shows)
+pub own-expansion : (m : Marks) (s : List ℕ) (g : Base) → BaseText m s g → (writtenOut (typed g) ≡ g) × (expansion (typed g) ≡ s)
+own-expansion m s g h = (typed-written g, ap (λ b. textOf (piecesF (typed b) [])) (typed-written g) ∙ h .shows)

@@ -1,20 +1,22 @@
 -- The reader answers with a text's only tree, or with the length of the longest beginning that some grammatical text has.
 use mathlib.Core.Path.{_≡_, refl, sym, ap, _∙_, subst}
 use mathlib.Core.Logic.{_⊎_, inl, inr, _↔_}
-use mathlib.Core.Bool.{Bool, true, false}
-use mathlib.Core.List.{List, [], _∷_, _++_, append-assoc, append-nil}
-use Prim.Native.Nat.{ℕ, zero, suc, _+_, _-_, _≤_, _<_}
+use mathlib.Core.List.{List, [], _∷_, _++_, append-assoc}
+use Prim.Native.Nat.{ℕ, zero, suc, _+_, _-_, _≤_}
 use native.Mathlib.Decide.{decLe}
 use native.Mathlib.Omega.{arith}
-use lib.ListN.{length, take, drop, length-append, take-append-drop}
-use lib.Seq.{take-append-seam, take-append-add, take-append-le}
+use lib.ListN.{length, take, length-append}
+use lib.Seq.{take-append-seam, take-append-add}
 use Rattle.lts.specs.Marks.{Marks, marked}
-use Rattle.actl.specs.Grammar.{Disjunction, showF, gap}
+use Rattle.actl.specs.Grammar.{Disjunction}
 use Rattle.actl.specs.Grammatical.{Text, Viable, Longest}
-use Rattle.actl.specs.inner.Reader.{InDisjunction, fTop, fParen, State, termAt, afterE, afterA, afterFirst, afterSecond, afterLabelled, afterNext, afterUntil, bracketAt, operandAt, afterDot, naming, afterSet, afterDisjunction, ReaderStep, go, stop, readByte, finish, finishDisjunction, proceed, run, start, read, Result, whole, refused}
+use Rattle.actl.specs.inner.Show.{showF}
+use Rattle.actl.specs.inner.Reader.{fTop, fParen, State, termAt, afterE, afterA, afterFirst, afterSecond, afterLabelled, afterNext, afterUntil}
+use Rattle.actl.specs.inner.Reader.{bracketAt, operandAt, afterDot, naming, afterSet, afterDisjunction, ReaderStep, go, stop, readByte, finish}
+use Rattle.actl.specs.inner.Reader.{proceed, run, start, read, whole, refused}
 use Rattle.actl.proofs.Sound.{shown, Reads, goes, stops, step-reads, completes}
 use Rattle.actl.proofs.Complete.{formula-read}
-use Rattle.actl.proofs.Marks.{formula-fits}
+use Rattle.actl.proofs.Pieces.{text-shown, shown-text}
 
 pub not-both : {A : Type 0} {r : List ℕ} {f : Disjunction} → refused r ≡ whole f → A
 not-both e = absurd (let z : _≡_ {A = ℕ} 0 1 = cc in omega arith)
@@ -25,48 +27,30 @@ same-rest e = cc
 same-tree : {f g : Disjunction} → whole f ≡ whole g → f ≡ g
 same-tree e = cc
 
--- The end of the text.
-finish-disjunction-whole : (g : Disjunction) (k : InDisjunction) (n : ℕ) (f : Disjunction) → finishDisjunction g k n ≡ whole f → shown (afterDisjunction g k n) [] ≡ showF f []
-finish-disjunction-whole g fTop zero f e = ap (λ h. showF h []) (same-tree e)
-finish-disjunction-whole g fTop (suc n) f e = not-both e
-finish-disjunction-whole g (fParen k a) n f e = not-both e
+-- The end of the text: it stands behind a whole formula, or a byte is missing.
+finished : (x : State) → (finish x ≡ refused []) ⊎ ((f : Disjunction) × (finish x ≡ whole f) × (shown x [] ≡ showF f []))
+finished (termAt k) = inl refl
+finished (afterE k) = inl refl
+finished (afterA k) = inl refl
+finished (afterFirst q k) = inl refl
+finished (afterSecond q k) = inl refl
+finished (afterLabelled q k g) = inl refl
+finished (afterNext q k g) = inl refl
+finished (afterUntil k g) = inl refl
+finished (bracketAt q a k g) = inl refl
+finished (operandAt k) = inl refl
+finished (afterDot q a c k g) = inl refl
+finished (naming n k) = inl refl
+finished (afterSet x k g) = inl refl
+finished (afterDisjunction f fTop zero) = inr (f, refl, refl)
+finished (afterDisjunction f fTop (suc n)) = inl refl
+finished (afterDisjunction f (fParen k a) n) = inl refl
 
 finish-whole : (x : State) (f : Disjunction) → finish x ≡ whole f → shown x [] ≡ showF f []
-finish-whole (termAt k) f e = not-both e
-finish-whole (afterE k) f e = not-both e
-finish-whole (afterA k) f e = not-both e
-finish-whole (afterFirst q k) f e = not-both e
-finish-whole (afterSecond q k) f e = not-both e
-finish-whole (afterLabelled q k g) f e = not-both e
-finish-whole (afterNext q k g) f e = not-both e
-finish-whole (afterUntil k g) f e = not-both e
-finish-whole (bracketAt q a k g) f e = not-both e
-finish-whole (operandAt k) f e = not-both e
-finish-whole (afterDot q a c k g) f e = not-both e
-finish-whole (naming n k) f e = not-both e
-finish-whole (afterSet x k g) f e = not-both e
-finish-whole (afterDisjunction g k n) f e = finish-disjunction-whole g k n f e
-
-finish-disjunction-refused : (g : Disjunction) (k : InDisjunction) (n : ℕ) (r : List ℕ) → finishDisjunction g k n ≡ refused r → [] ≡ r
-finish-disjunction-refused g fTop zero r e = not-both (sym e)
-finish-disjunction-refused g fTop (suc n) r e = same-rest e
-finish-disjunction-refused g (fParen k a) n r e = same-rest e
+finish-whole x f e = elim (finished x) [ inl d ↦ not-both (sym d ∙ e) | inr d ↦ d .2 ∙ ap (λ g. showF g []) (same-tree (sym (d .1) ∙ e)) ]
 
 finish-refused : (x : State) (r : List ℕ) → finish x ≡ refused r → [] ≡ r
-finish-refused (termAt k) r e = same-rest e
-finish-refused (afterE k) r e = same-rest e
-finish-refused (afterA k) r e = same-rest e
-finish-refused (afterFirst q k) r e = same-rest e
-finish-refused (afterSecond q k) r e = same-rest e
-finish-refused (afterLabelled q k g) r e = same-rest e
-finish-refused (afterNext q k g) r e = same-rest e
-finish-refused (afterUntil k g) r e = same-rest e
-finish-refused (bracketAt q a k g) r e = same-rest e
-finish-refused (operandAt k) r e = same-rest e
-finish-refused (afterDot q a c k g) r e = same-rest e
-finish-refused (naming n k) r e = same-rest e
-finish-refused (afterSet x k g) r e = same-rest e
-finish-refused (afterDisjunction g k n) r e = finish-disjunction-refused g k n r e
+finish-refused x r e = elim (finished x) [ inl d ↦ same-rest (sym d ∙ e) | inr d ↦ not-both (sym e ∙ d .1) ]
 
 -- A text that is read whole is the tree's.
 run-whole : (s : List ℕ) (x : State) (f : Disjunction) → run s x ≡ whole f → shown x s ≡ showF f []
@@ -116,10 +100,10 @@ shown-read : (s : List ℕ) (f : Disjunction) → showF f [] ≡ s → read s �
 shown-read s f e = ap read (sym e) ∙ formula-read f fTop []
 
 pub read-text : (s : List ℕ) (f : Disjunction) → (read s ≡ whole f) ↔ Text marked s f
-read-text s f = (λ e. record { fits = formula-fits f; shows = sym (run-whole s start f e) }, λ e. shown-read s f (e .shows))
+read-text s f = (λ e. shown-text f (sym (run-whole s start f e)), λ e. shown-read s f (text-shown f e))
 
 pub one-tree : (m : Marks) (s : List ℕ) (f g : Disjunction) → Text m s f → Text m s g → f ≡ g
-one-tree m s f g p q = same-tree (sym (shown-read s f (p .shows)) ∙ shown-read s g (q .shows))
+one-tree m s f g p q = same-tree (sym (shown-read s f (text-shown f p)) ∙ shown-read s g (text-shown g q))
 
 pub refused-text : (s r : List ℕ) (f : Disjunction) → read s ≡ refused r → showF f [] ≡ s → ⊥
 refused-text s r f e p = not-both (sym e ∙ shown-read s f p)
@@ -128,12 +112,12 @@ module _ (p : List ℕ) (x : State) (reached : (t : List ℕ) → p ++ t ≡ sho
   beyond : (r : List ℕ) (j : ℕ) → ((b : ℕ) (l : List ℕ) → r ≡ b ∷ l → (t : List ℕ) → read (p ++ b ∷ t) ≡ refused (b ∷ t))
       → suc j ≤ length r → Viable marked (p ++ take (suc j) r) → ⊥
   beyond [] j dead h v = omega arith
-  beyond (b ∷ r) j dead h (t, (f, e)) = refused-text (p ++ b ∷ (take j r ++ t)) _ f (dead b r refl (take j r ++ t)) (e .shows ∙ append-assoc p (b ∷ take j r) t)
+  beyond (b ∷ r) j dead h (t, (f, e)) = refused-text (p ++ b ∷ (take j r ++ t)) _ f (dead b r refl (take j r ++ t)) (text-shown f e ∙ append-assoc p (b ∷ take j r) t)
 
   longest : (r : List ℕ) → ((b : ℕ) (l : List ℕ) → r ≡ b ∷ l → (t : List ℕ) → read (p ++ b ∷ t) ≡ refused (b ∷ t)) → Longest marked (p ++ r) (length p)
   longest r dead = record {
     within = simp length-append (omega arith);
-    begins = rw take-append-seam (let (f, t, e, _) = completes x in (t, (f, record { fits = formula-fits f; shows = sym (reached t ∙ e) })));
+    begins = rw take-append-seam (let (f, t, e, _) = completes x in (t, (f, shown-text f (sym (reached t ∙ e)))));
     most = λ m h v. case m h v (decLe m (length p));
   }
     where

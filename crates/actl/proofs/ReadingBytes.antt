@@ -42,7 +42,8 @@ pasted-over at l j e x p h w =
     let k : at + length j ≡ length u + (length j - length l) = omega arith in
     let v : at + length l + (length j - length l) ≡ at + length j = omega arith in
     let g : drop (at + length j) x ≡ drop (at + length j) e =
-    ap (λ n. drop n x) k ∙ (ap (drop (length u + (length j - length l))) c ∙ (drop-append-add u d (length j - length l) ∙ (drop-drop (length j - length l) (at + length l) e ∙ ap (λ n. drop n e) v))) in
+    ap (λ n. drop n x) k ∙ (ap (drop (length u + (length j - length l))) c
+        ∙ (drop-append-add u d (length j - length l) ∙ (drop-drop (length j - length l) (at + length l) e ∙ ap (λ n. drop n e) v))) in
     λ i. f i ++ (j ++ g i)
 
 -- One byte more.
@@ -82,7 +83,8 @@ module _ {mask at : ℕ} {e : List ℕ} {i rest : ℕ} {x : List ℕ} (fits : at
       m .made ∙ ap (λ l. pasted e at l) (sym (append-nil (m .bytes)) ∙ (ap (λ n. m .bytes ++ lowFirst n rest) (sym z) ∙ m .left))
 
 -- A slot: its kind and its masks.
-pub slot-pasted : (at i j k f g : ℕ) (e x y z : List ℕ) → at + 17 ≤ length e → i ≡ at + 1 → j ≡ at + 9 → x ≡ set e at k → y ≡ pasted x i (lowFirst 8 f) → z ≡ pasted y j (lowFirst 8 g) → z ≡ pasted e at (slotBytes (slot k f g))
+pub slot-pasted : (at i j k f g : ℕ) (e x y z : List ℕ) → at + 17 ≤ length e → i ≡ at + 1 → j ≡ at + 9 → x ≡ set e at k → y ≡ pasted x i (lowFirst 8 f)
+    → z ≡ pasted y j (lowFirst 8 g) → z ≡ pasted e at (slotBytes (slot k f g))
 slot-pasted at i j k f g e x y z h u v p q r =
     let a : x ≡ pasted e at (k ∷ []) = p ∙ set-pasted e at k (omega arith) in
     let b : y ≡ pasted e at (k ∷ lowFirst 8 f) = pasted-then at i (k ∷ []) (lowFirst 8 f) e x y a u (omega arith) q in

@@ -14,10 +14,11 @@ use Rattle.columns.specs.Bytes.{sameBytes}
 use Rattle.lts.specs.Names.{findFrom, lookup}
 use Rattle.lts.specs.Directions.{Direction, labelDirection}
 use Rattle.actl.specs.Actions.{Action, maskOf}
-use Rattle.actl.specs.Grammar.{Disjunction, name, showF}
+use Rattle.actl.specs.Grammar.{Disjunction, name}
 use Rattle.actl.specs.Meaning.{labelNumber, labelsOf}
-use Rattle.actl.specs.Mentions.{Mention}
-use Rattle.actl.specs.Reading.{unknownAt, firstUnknown}
+use Rattle.actl.specs.Reading.{unknownAt}
+use Rattle.actl.specs.inner.Show.{showF}
+use Rattle.actl.specs.inner.Mentions.{Mention, firstUnknown}
 use Rattle.actl.specs.inner.Cursor.{Named}
 use Rattle.actl.specs.inner.Readers.{unknownIn, earlier, OperandRead}
 use Rattle.actl.proofs.ReadingMasks.{mask-any, mask-none, mask-label}

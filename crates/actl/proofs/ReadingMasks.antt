@@ -62,7 +62,8 @@ module _ (d : ℕ → Direction) where
   mask-complement zero x = refl
   mask-complement (suc n) x = case (satisfies d (suc n) x) (mask-complement n x)
     where
-      case : (t : Bool) → maskOf d n (Action.not x) + maskOf d n x ≡ maskOf d n Action.any → maskOf d n (Action.not x) + cond (not t) (2 ^ suc n) 0 + (maskOf d n x + cond t (2 ^ suc n) 0) ≡ maskOf d n Action.any + 2 ^ suc n
+      case : (t : Bool) → maskOf d n (Action.not x) + maskOf d n x ≡ maskOf d n Action.any
+          → maskOf d n (Action.not x) + cond (not t) (2 ^ suc n) 0 + (maskOf d n x + cond t (2 ^ suc n) 0) ≡ maskOf d n Action.any + 2 ^ suc n
       case true h = omega arith
       case false h = omega arith
 

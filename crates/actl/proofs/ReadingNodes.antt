@@ -22,7 +22,8 @@ abbrev pub moved : ℕ → ℕ → ℕ → List ℕ → List ℕ
 moved w top i e = take (i + w) e ++ (drop i (take top e) ++ drop (top + w) e)
 
 pub moved-none : (w top : ℕ) (e : List ℕ) → e ≡ moved w top top e
-moved-none w top e = sym (take-append-drop (top + w) e) ∙ ap (λ l. take (top + w) e ++ (l ++ drop (top + w) e)) (sym (drop-of-length-le (take top e) (let z : length (take top e) ≤ top = rw length-take (omega arith) in z)))
+moved-none w top e = sym (take-append-drop (top + w) e) ∙ ap (λ l. take (top + w) e ++ (l ++ drop (top + w) e))
+    (sym (drop-of-length-le (take top e) (let z : length (take top e) ≤ top = rw length-take (omega arith) in z)))
 
 module _ (w top k : ℕ) (e : List ℕ) (room : top + w ≤ length e) (h : k < top) where
   moved-read : getD (moved w top (k + 1) e) k 0 ≡ getD e k 0
@@ -101,7 +102,8 @@ module _ {e : List ℕ} (long : length e ≡ formulaLength) where
             let r : x ≡ pasted f i l = p .made (omega arith) ∙ sym (pasted-then o i a l e f (pasted f i l) refl z (omega (arith, p .ends)) refl) in
             let u = length-take-le i f (omega (arith, p .ends)) in
             let t : length (take i f ++ l) ≡ top = length-append (take i f) l ∙ omega (arith, p .ends) in
-            let d : drop i (take top x) ≡ l = ap (drop i) (ap (take top) (r ∙ sym (append-assoc (take i f) l (drop (i + length l) f))) ∙ take-at (take i f ++ l) (drop (i + length l) f) top t) ∙ drop-at (take i f) l i u in
+            let d : drop i (take top x) ≡ l = ap (drop i) (ap (take top) (r ∙ sym (append-assoc (take i f) l (drop (i + length l) f)))
+                    ∙ take-at (take i f ++ l) (drop (i + length l) f) top t) ∙ drop-at (take i f) l i u in
             q .made h
             ∙ (ap (λ k. pasted x i (before ++ (k ++ behind))) d
             ∙ (pasted-over i l c f x r (omega arith) (omega (arith, p .ends))

@@ -7,8 +7,15 @@ use lib.Dec.{eqb}
 use borrow.Author.Tests.{eqb-true}
 use Rattle.lts.specs.Names.{isName}
 use Rattle.lts.specs.Directions.{Plain}
-use Rattle.actl.specs.Grammar.{Name, Set, operand, union, Operand, name, any, received, sent, except, group, Condition, dot, set, Quantifier, existential, universal, Head, next, until, untilThen, reach, labelled, Disjunction, conjunction, or, Conjunction, term, and, Term, tru, not, modal, paren, gap, showS, showO, showC, showQ, showR, showL, showH, showF, showA, showT}
-use Rattle.actl.specs.inner.Reader.{InDisjunction, fTop, fParen, InTerm, tFirst, tOr, tAnd, tNot, tModal, InSet, sParen, sNext, sUntil, sThen, sLabelled, InOperand, oFirst, oOr, oNot, State, termAt, afterE, afterA, afterFirst, afterSecond, afterLabelled, afterNext, afterUntil, bracketAt, operandAt, afterDot, naming, afterSet, afterDisjunction, ReaderStep, go, stop, on, andLast, plugT, plugO, blankF, blankT, blankS, blankO, termStep, named, operandStep, closeStep, setStep, leaveO, parenStep, second, third, readByte, finish, finishDisjunction, proceed, run, start, read, Result, whole, refused}
+use Rattle.actl.specs.Grammar.{Name, Set, operand, union, Operand, name, any, received, sent, except, group, Condition, dot, set, Quantifier, existential}
+use Rattle.actl.specs.Grammar.{universal, Head, next, until, untilThen, reach, labelled, Disjunction, conjunction, or, Conjunction, term, and, Term, tru, not}
+use Rattle.actl.specs.Grammar.{modal, paren}
+use Rattle.actl.specs.inner.Show.{gap, showS, showO, showQ, showL, showH, showF, showT}
+use Rattle.actl.specs.inner.Reader.{InDisjunction, fTop, fParen, InTerm, tFirst, tOr, tAnd, tNot, tModal, InSet, sParen, sNext, sUntil, sThen, sLabelled, InOperand}
+use Rattle.actl.specs.inner.Reader.{oFirst, oOr, oNot, State, termAt, afterE, afterA, afterFirst, afterSecond, afterLabelled, afterNext, afterUntil, bracketAt}
+use Rattle.actl.specs.inner.Reader.{operandAt, afterDot, naming, afterSet, afterDisjunction, ReaderStep, go, stop, on, andLast, plugT, plugO, blankF, blankT}
+use Rattle.actl.specs.inner.Reader.{blankS, blankO, termStep, named, operandStep, closeStep, setStep, leaveO, parenStep, second, third, readByte, finish}
+use Rattle.actl.specs.inner.Reader.{finishDisjunction, proceed, run, start, read, Result, whole, refused}
 
 abbrev mutual
   pub preF : InDisjunction → List ℕ → List ℕ
@@ -170,7 +177,8 @@ step-reads (operandAt k) b = on-reads b 32 (goes (blankO-reads k)) (operand-read
 step-reads (afterDot q a c k g) b = on-reads b 32 (goes (λ s. ap (λ l. preT k (showQ q (gap a (91 ∷ gap c (46 ∷ l))))) (gap-more g s))) (on-reads b 93 (goes (λ s. refl)) stops)
 step-reads (naming n k) b = named-reads b (n .bytes ++ (b ∷ [])) k (isName (n .bytes ++ (b ∷ []))) refl (λ s. ap (preO k) (sym (append-assoc (n .bytes) (b ∷ []) s))) (leave-reads (name n) k b)
 step-reads (afterSet x k g) b = set-reads x k g b
-step-reads (afterDisjunction f k g) b = on-reads b 32 (goes (λ s. ap (λ l. preF k (showF f l)) (gap-more g s))) (on-reads b 38 (goes (λ s. refl)) (on-reads b 124 (goes (λ s. refl)) (paren-reads f k g b)))
+step-reads (afterDisjunction f k g) b = on-reads b 32 (goes (λ s. ap (λ l. preF k (showF f l)) (gap-more g s)))
+    (on-reads b 38 (goes (λ s. refl)) (on-reads b 124 (goes (λ s. refl)) (paren-reads f k g b)))
 
 -- What was read can be completed: some text that starts with it is a formula's, and no mark is needed for that.
 abbrev pub Completes : (List ℕ → List ℕ) → Type 0

@@ -40,7 +40,8 @@ module _ {F : Formula} where
   at-below (or f g) k h zero l = renumbered (omega arith) (or f g, h)
   at-below (or f g) k h (suc j) l = pick (decLt j (size f)) (at-below f (suc k) (in-left h) j) (at-below g (suc (k + size f)) (in-right h) (j - size f))
     where
-      pick : Dec (j < size f) → (j < size f → (x : Formula) × At F (suc k + j) x) → (j - size f < size g → (x : Formula) × At F (suc (k + size f) + (j - size f)) x) → (x : Formula) × At F (k + suc j) x
+      pick : Dec (j < size f) → (j < size f → (x : Formula) × At F (suc k + j) x) → (j - size f < size g → (x : Formula) × At F (suc (k + size f) + (j - size f)) x)
+          → (x : Formula) × At F (k + suc j) x
       pick (yes m) a b = renumbered (omega arith) (a m)
       pick (no m) a b = renumbered (omega arith) (b (omega arith))
   at-below (ex c f) k h zero l = renumbered (omega arith) (ex c f, h)

@@ -1,12 +1,10 @@
--- The base notation, 01's, which has no `&` and no EF, AG, DIA or BOX: its trees, with their blanks and brackets, and the text of each. They are
--- trees of Grammar.antt (`typed`).
-use mathlib.Core.Path.{_≡_}
-use mathlib.Core.Bool.{Bool, true, _&&_}
-use mathlib.Core.List.{List, [], _∷_}
+-- The base notation, 01's, which has no `&` and no EF, AG, DIA or BOX: its trees, with their blanks and brackets. They are trees of Grammar.antt
+-- (`typed`), and have the texts of those.
+use mathlib.Core.List.{List}
 use Prim.Native.Nat.{ℕ}
 use Rattle.lts.specs.Marks.{Marks}
-use Rattle.actl.specs.Grammar.{Set, Condition, Quantifier, Head, Disjunction, Conjunction, Term, gap, showH}
-use Rattle.actl.specs.Marks.{fitsH}
+use Rattle.actl.specs.Grammar.{Set, Condition, Quantifier, Head, Disjunction, Conjunction, Term}
+use Rattle.actl.specs.Grammatical.{Text}
 
 -- 01: "a keyword with its square bracket"
 pub data BaseHead : Type 0 where
@@ -44,29 +42,6 @@ abbrev mutual
   typedTerm (modal h a t) = Term.modal (typedHead h) a (typedTerm t)
   typedTerm (paren a f b) = Term.paren a (typed f) b
 
-abbrev mutual
-  pub showB : Base → List ℕ → List ℕ
-  showB (term t) s = showBT t s
-  showB (or f a b t) s = showB f (gap a (124 ∷ gap b (showBT t s)))
-
-  pub showBT : BaseTerm → List ℕ → List ℕ
-  showBT tru s = 84 ∷ s
-  showBT (not a t) s = 126 ∷ gap a (showBT t s)
-  showBT (modal h a t) s = showH (typedHead h) (gap a (showBT t s))
-  showBT (paren a f b) s = 40 ∷ gap a (showB f (gap b (41 ∷ s)))
-
-abbrev mutual
-  pub fitsB : Marks → Base → Bool
-  fitsB m (term t) = fitsBT m t
-  fitsB m (or f a b t) = fitsB m f && fitsBT m t
-
-  pub fitsBT : Marks → BaseTerm → Bool
-  fitsBT m tru = true
-  fitsBT m (not a t) = fitsBT m t
-  fitsBT m (modal h a t) = fitsH m (typedHead h) && fitsBT m t
-  fitsBT m (paren a f b) = fitsB m f
-
 -- f is the tree of the text s in the base notation.
-pub record BaseText (m : Marks) (s : List ℕ) (f : Base) : Type 0 where
-  pub fits : fitsB m f ≡ true
-  pub shows : showB f [] ≡ s
+abbrev pub BaseText : Marks → List ℕ → Base → Type 0
+BaseText m s f = Text m s (typed f)

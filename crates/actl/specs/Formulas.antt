@@ -1,6 +1,6 @@
 -- Definition 3 of document 000, the syntax, within 01's fragment; node numbers; classes.
 use mathlib.Core.Path.{_≡_}
-use mathlib.Core.Bool.{Bool, true, false, cond}
+use mathlib.Core.Bool.{Bool, true, false, cond, _&&_, _||_}
 use mathlib.Core.List.{List, [], _∷_, _++_}
 use mathlib.Core.Option.{Option, none, some}
 use Prim.Native.Nat.{ℕ, zero, suc, _+_}
@@ -60,32 +60,19 @@ isT (euThen a b f) = false
 -- 01: "The class of a node follows from this table". 0 is no class.
 -- ~ with an arm of class 1 / class 2: 2 / 1
 abbrev pub classOfNot : ℕ → ℕ
-classOfNot zero = 0
-classOfNot (suc zero) = 2
-classOfNot (suc (suc zero)) = 1
-classOfNot (suc (suc (suc n))) = 0
+classOfNot arm = cond (eqb arm 1) 2 (cond (eqb arm 2) 1 0)
 
 -- | with both arms of class 1: 1
 abbrev pub classOfOr : ℕ → ℕ → ℕ
-classOfOr zero n = 0
-classOfOr (suc zero) zero = 0
-classOfOr (suc zero) (suc zero) = 1
-classOfOr (suc zero) (suc (suc n)) = 0
-classOfOr (suc (suc m)) n = 0
+classOfOr left right = cond (eqb left 1 && eqb right 1) 1 0
 
 -- EX and EU with an arm of class 1: 1
 abbrev pub classOfSome : ℕ → ℕ
-classOfSome zero = 0
-classOfSome (suc zero) = 1
-classOfSome (suc (suc n)) = 0
+classOfSome arm = cond (eqb arm 1) 1 0
 
 -- AX with an arm of class 2, or the node T: 2
 abbrev pub classOfAll : Bool → ℕ → ℕ
-classOfAll true n = 2
-classOfAll false zero = 0
-classOfAll false (suc zero) = 0
-classOfAll false (suc (suc zero)) = 2
-classOfAll false (suc (suc (suc n))) = 0
+classOfAll node-T arm = cond (node-T || eqb arm 2) 2 0
 
 unfoldable pub classOf : Formula → ℕ
 classOf tru = 1

@@ -1,9 +1,10 @@
--- 01, "The formula as text", with 02's marks and short forms: trees that keep their blanks and brackets, and the text of each. `showX x s` is
--- x's text with s behind it. WrittenOut.antt says what the short forms stand for.
+-- 01, "The formula as text", with 02's marks and short forms: trees that keep their blanks and brackets, and the pieces that the text of each is
+-- made of. `piecesX x l` are x's pieces with l behind them. WrittenOut.antt says what the short forms stand for.
 use mathlib.Core.Path.{_≡_}
 use mathlib.Core.Bool.{true}
-use mathlib.Core.List.{List, _∷_, _++_}
+use mathlib.Core.List.{List, [], _∷_}
 use Prim.Native.Nat.{ℕ, zero, suc}
+use Rattle.lts.specs.Lists.{bind}
 use Rattle.lts.specs.Names.{isName}
 
 pub record Name : Type 0 where
@@ -58,59 +59,71 @@ mutual
     modal : Head → ℕ → Term → Term
     paren : ℕ → Disjunction → ℕ → Term
 
-abbrev pub gap : ℕ → List ℕ → List ℕ
-gap zero s = s
-gap (suc n) s = 32 ∷ gap n s
+-- The text of a tree is made of names and of other bytes.
+pub data Piece : Type 0 where
+  byte : ℕ → Piece
+  named : Name → Piece
+
+abbrev pub bytesOf : Piece → List ℕ
+bytesOf (byte b) = b ∷ []
+bytesOf (named n) = n .bytes
+
+abbrev pub textOf : List Piece → List ℕ
+textOf l = bind bytesOf l
+
+abbrev pub blanks : ℕ → List Piece → List Piece
+blanks zero l = l
+blanks (suc n) l = byte 32 ∷ blanks n l
 
 abbrev mutual
-  pub showS : Set → List ℕ → List ℕ
-  showS (operand o) s = showO o s
-  showS (union x a b o) s = showS x (gap a (124 ∷ gap b (showO o s)))
+  pub piecesS : Set → List Piece → List Piece
+  piecesS (operand o) l = piecesO o l
+  piecesS (union x a b o) l = piecesS x (blanks a (byte 124 ∷ blanks b (piecesO o l)))
 
-  pub showO : Operand → List ℕ → List ℕ
-  showO (name n) s = n .bytes ++ s
-  showO any s = 42 ∷ s
-  showO received s = 63 ∷ s
-  showO sent s = 33 ∷ s
-  showO (except a o) s = 126 ∷ gap a (showO o s)
-  showO (group a x b) s = 40 ∷ gap a (showS x (gap b (41 ∷ s)))
+  pub piecesO : Operand → List Piece → List Piece
+  piecesO (name n) l = named n ∷ l
+  piecesO any l = byte 42 ∷ l
+  piecesO received l = byte 63 ∷ l
+  piecesO sent l = byte 33 ∷ l
+  piecesO (except a o) l = byte 126 ∷ blanks a (piecesO o l)
+  piecesO (group a x b) l = byte 40 ∷ blanks a (piecesS x (blanks b (byte 41 ∷ l)))
 
-abbrev pub showC : Condition → List ℕ → List ℕ
-showC dot s = 46 ∷ s
-showC (set x) s = showS x s
+abbrev pub piecesC : Condition → List Piece → List Piece
+piecesC dot l = byte 46 ∷ l
+piecesC (set x) l = piecesS x l
 
 -- 01: "Tokens are the keywords EX, AX and EU"
-abbrev pub showQ : Quantifier → List ℕ → List ℕ
-showQ existential s = 69 ∷ 88 ∷ s
-showQ universal s = 65 ∷ 88 ∷ s
+abbrev pub piecesQ : Quantifier → List Piece → List Piece
+piecesQ existential l = byte 69 ∷ byte 88 ∷ l
+piecesQ universal l = byte 65 ∷ byte 88 ∷ l
 
 -- 02: EF and AG, DIA and BOX
-abbrev pub showR : Quantifier → List ℕ → List ℕ
-showR existential s = 69 ∷ 70 ∷ s
-showR universal s = 65 ∷ 71 ∷ s
+abbrev pub piecesR : Quantifier → List Piece → List Piece
+piecesR existential l = byte 69 ∷ byte 70 ∷ l
+piecesR universal l = byte 65 ∷ byte 71 ∷ l
 
-abbrev pub showL : Quantifier → List ℕ → List ℕ
-showL existential s = 68 ∷ 73 ∷ 65 ∷ s
-showL universal s = 66 ∷ 79 ∷ 88 ∷ s
+abbrev pub piecesL : Quantifier → List Piece → List Piece
+piecesL existential l = byte 68 ∷ byte 73 ∷ byte 65 ∷ l
+piecesL universal l = byte 66 ∷ byte 79 ∷ byte 88 ∷ l
 
-abbrev pub showH : Head → List ℕ → List ℕ
-showH (next q a b c d) s = showQ q (gap a (91 ∷ gap b (showC c (gap d (93 ∷ s)))))
-showH (until a b x d) s = 69 ∷ 85 ∷ gap a (91 ∷ gap b (showS x (gap d (93 ∷ s))))
-showH (untilThen a b x c d y e) s = 69 ∷ 85 ∷ gap a (91 ∷ gap b (showS x (gap c (59 ∷ gap d (showS y (gap e (93 ∷ s)))))))
-showH (reach q) s = showR q s
-showH (labelled q a b x d) s = showL q (gap a (91 ∷ gap b (showS x (gap d (93 ∷ s)))))
+abbrev pub piecesH : Head → List Piece → List Piece
+piecesH (next q a b c d) l = piecesQ q (blanks a (byte 91 ∷ blanks b (piecesC c (blanks d (byte 93 ∷ l)))))
+piecesH (until a b x d) l = byte 69 ∷ byte 85 ∷ blanks a (byte 91 ∷ blanks b (piecesS x (blanks d (byte 93 ∷ l))))
+piecesH (untilThen a b x c d y e) l = byte 69 ∷ byte 85 ∷ blanks a (byte 91 ∷ blanks b (piecesS x (blanks c (byte 59 ∷ blanks d (piecesS y (blanks e (byte 93 ∷ l)))))))
+piecesH (reach q) l = piecesR q l
+piecesH (labelled q a b x d) l = piecesL q (blanks a (byte 91 ∷ blanks b (piecesS x (blanks d (byte 93 ∷ l)))))
 
 abbrev mutual
-  pub showF : Disjunction → List ℕ → List ℕ
-  showF (conjunction c) s = showA c s
-  showF (or f a b c) s = showF f (gap a (124 ∷ gap b (showA c s)))
+  pub piecesF : Disjunction → List Piece → List Piece
+  piecesF (conjunction c) l = piecesA c l
+  piecesF (or f a b c) l = piecesF f (blanks a (byte 124 ∷ blanks b (piecesA c l)))
 
-  pub showA : Conjunction → List ℕ → List ℕ
-  showA (term t) s = showT t s
-  showA (and c a b t) s = showA c (gap a (38 ∷ gap b (showT t s)))
+  pub piecesA : Conjunction → List Piece → List Piece
+  piecesA (term t) l = piecesT t l
+  piecesA (and c a b t) l = piecesA c (blanks a (byte 38 ∷ blanks b (piecesT t l)))
 
-  pub showT : Term → List ℕ → List ℕ
-  showT tru s = 84 ∷ s
-  showT (not a t) s = 126 ∷ gap a (showT t s)
-  showT (modal h a t) s = showH h (gap a (showT t s))
-  showT (paren a f b) s = 40 ∷ gap a (showF f (gap b (41 ∷ s)))
+  pub piecesT : Term → List Piece → List Piece
+  piecesT tru l = byte 84 ∷ l
+  piecesT (not a t) l = byte 126 ∷ blanks a (piecesT t l)
+  piecesT (modal h a t) l = piecesH h (blanks a (piecesT t l))
+  piecesT (paren a f b) l = byte 40 ∷ blanks a (piecesF f (blanks b (byte 41 ∷ l)))

@@ -4,14 +4,15 @@ use mathlib.Core.Bool.{true}
 use mathlib.Core.List.{List, [], _++_}
 use Prim.Native.Nat.{ℕ, _≤_}
 use lib.ListN.{length, take}
+use Rattle.lts.specs.Lists.{every}
 use Rattle.lts.specs.Marks.{Marks}
-use Rattle.actl.specs.Marks.{fitsF}
-use Rattle.actl.specs.Grammar.{Disjunction, showF}
+use Rattle.actl.specs.Grammar.{Disjunction, piecesF, textOf}
+use Rattle.actl.specs.Marks.{fitsPiece}
 
 -- f is the tree of the text s.
 pub record Text (m : Marks) (s : List ℕ) (f : Disjunction) : Type 0 where
-  pub fits : fitsF m f ≡ true
-  pub shows : showF f [] ≡ s
+  pub fits : every (fitsPiece m) (piecesF f []) ≡ true
+  pub shows : textOf (piecesF f []) ≡ s
 
 abbrev pub Grammatical : Marks → List ℕ → Type 0
 Grammatical m s = (f : Disjunction) × Text m s f

@@ -10,7 +10,6 @@ pub mod Grammatical
 pub mod InPrepared
 pub mod Marks
 pub mod Meaning
-pub mod Mentions
 pub mod Prepared
 pub mod Reading
 pub mod Sizes

@@ -2,12 +2,14 @@ pub mod Check
 pub mod Cursor
 pub mod HoldsFormula
 pub mod Meaning
+pub mod Mentions
 pub mod NodeBytes
 pub mod Prepared
 pub mod Reader
 pub mod Readers
 pub mod Reading
 pub mod Shaped
+pub mod Show
 pub mod Sizes
 pub mod Walk
 pub mod Writing

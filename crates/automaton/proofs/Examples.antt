@@ -11,7 +11,8 @@ use Rattle.lts.proofs.Examples.{M, step}
 use Rattle.actl.specs.Actions.{silent as silentStep, labels, inSet, meets, passes}
 use Rattle.actl.specs.Formulas.{Formula, tru, or, ex, eu, euThen, classOf}
 use Rattle.satisfaction.specs.inner.Holds.{holds, within}
-use Rattle.automaton.specs.inner.Search.{finalOf, final, leadsOf, leads, targets, canFinish, numberOf, movesToAmong, movesOnAmong, movesFromAmong, visit, visits, expandAmong, searchAmong, positionsAmong, movesUptoAmong, listing}
+use Rattle.automaton.specs.inner.Search.{finalOf, final, leadsOf, leads, targets, canFinish, numberOf, movesToAmong, movesOnAmong, movesFromAmong, visit, visits}
+use Rattle.automaton.specs.inner.Search.{expandAmong, searchAmong, positionsAmong, movesUptoAmong, listing}
 use Rattle.automaton.specs.Listing.{Row, Edge, Listing}
 use Rattle.automaton.specs.inner.DeadEnds.{wholeListing, dropDeadEnds, rowFinishes}
 use Rattle.automaton.specs.inner.Words.{acceptsFrom, accepts}
@@ -43,7 +44,8 @@ abbrev bare : Listing
 bare = record { rows = record { place = 0; state = 0; final = false } ∷ []; edges = [] }
 
 one-bare-row : listing M (euThen 6 0 tru) ≡ bare
-unfolding listing positionsAmong searchAmong expandAmong visits visit movesUptoAmong movesFromAmong movesOnAmong movesToAmong numberOf canFinish targets leads leadsOf final finalOf holds within stepsFrom meets passes inSet classOf silent
+unfolding listing positionsAmong searchAmong expandAmong visits visit movesUptoAmong movesFromAmong movesOnAmong movesToAmong numberOf canFinish targets leads leadsOf
+    final finalOf holds within stepsFrom meets passes inSet classOf silent
 one-bare-row = refl
 
 -- Two rows and one edge in lent places, as AX[ack] T leaves them on M: word 1 is accepted, and the empty word is not.

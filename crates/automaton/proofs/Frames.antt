@@ -110,5 +110,8 @@ module _ {M : Frame} {F : Formula} where
       pick i o (inr d) = step (d .0) (ax c f, h, inr (d .2, d .1, refl)) (i (M .to w (d .0)) (arm-refutable f (d .1) o) (d .3))
   finishes-complete (eu a f) k h w =
       (λ o d. until-finishes a _ (λ v x e. (eu a f, h, (e, refl))) (λ v p. free (eu a f, h, refl) (finishes-complete f _ (in-eu h) v .0 o p)) d, λ z. absurd z)
-  finishes-complete (euThen a b f) k h w =
-      (λ o d. until-finishes a _ (λ v x e. (euThen a b f, h, inl (e, refl))) (λ v p. step (p .0) (euThen a b f, h, inr (p .1, refl)) (finishes-complete f _ (in-euThen h) (M .to v (p .0)) .0 o (p .2))) d, λ z. absurd z)
+  finishes-complete (euThen a b f) k h w = (
+    λ o d. until-finishes a _ (λ v x e. (euThen a b f, h, inl (e, refl)))
+        (λ v p. step (p .0) (euThen a b f, h, inr (p .1, refl)) (finishes-complete f _ (in-euThen h) (M .to v (p .0)) .0 o (p .2))) d,
+    λ z. absurd z,
+  )

@@ -78,9 +78,11 @@ module _ (t : Table) (F : Formula) where
         number-append (found i) extra (m .goal) (number-mem k)
 
     edges-stay : (i : ℕ) (extra : List Position) → map (edgeOf (found i ++ extra)) (moves (found i) (done i)) ≡ listedAfter t F i .edges
-    edges-stay i extra = map-same (edgeOf (found i ++ extra)) (edgeOf (found i)) (moves (found i) (done i)) (λ m n. let z = number-stays i extra m n in λ j. record { row = m .row; label = m .label; target = z j })
+    edges-stay i extra = map-same (edgeOf (found i ++ extra)) (edgeOf (found i)) (moves (found i) (done i))
+        (λ m n. let z = number-stays i extra m n in λ j. record { row = m .row; label = m .label; target = z j })
 
-    edges-more : (i : ℕ) (extra : List Position) (rest : List Move) → map (edgeOf (found i ++ extra)) (moves (found i) (done i) ++ rest) ≡ listedAfter t F i .edges ++ map (edgeOf (found i ++ extra)) rest
+    edges-more : (i : ℕ) (extra : List Position) (rest : List Move)
+        → map (edgeOf (found i ++ extra)) (moves (found i) (done i) ++ rest) ≡ listedAfter t F i .edges ++ map (edgeOf (found i ++ extra)) rest
     edges-more i extra rest = map-append (edgeOf (found i ++ extra)) (moves (found i) (done i)) rest ∙ ap (λ l. l ++ map (edgeOf (found i ++ extra)) rest) (edges-stay i extra)
 
     pub rows-begin : (i j : ℕ) → i ≤ j → (extra : List Row) × (listedAfter t F j .rows ≡ listedAfter t F i .rows ++ extra)

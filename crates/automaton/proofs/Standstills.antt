@@ -17,7 +17,8 @@ use Rattle.actl.specs.Formulas.{Formula, tru, ex, eu, classOf}
 use Rattle.satisfaction.specs.inner.Holds.{holds, within}
 use Rattle.automaton.specs.Paths.{IsPath, wordOf}
 use Rattle.automaton.specs.Explains.{Explains}
-use Rattle.automaton.specs.inner.Search.{finalOf, final, leadsOf, leads, targets, canFinish, numberOf, movesToAmong, movesOnAmong, movesFromAmong, visit, visits, expandAmong, searchAmong, positionsAmong, movesUptoAmong, listing}
+use Rattle.automaton.specs.inner.Search.{finalOf, final, leadsOf, leads, targets, canFinish, numberOf, movesToAmong, movesOnAmong, movesFromAmong, visit, visits}
+use Rattle.automaton.specs.inner.Search.{expandAmong, searchAmong, positionsAmong, movesUptoAmong, listing}
 use Rattle.automaton.specs.WordAsked.{badLetter}
 use Rattle.automaton.specs.inner.Words.{acceptsFrom, accepts}
 use Rattle.automaton.proofs.Inside.{step-stays}
@@ -60,7 +61,8 @@ unfolding acceptsFrom final finalOf targets leads leadsOf stepsFrom meets inSet 
 idle-is-not-0 = refl
 
 idle-listed : listing resting afterA ≡ record { rows = row 0 0 false ∷ row 1 2 false ∷ row 2 2 true ∷ []; edges = edge 0 1 1 ∷ edge 1 99 2 ∷ [] }
-unfolding listing positionsAmong searchAmong expandAmong visits visit movesUptoAmong movesFromAmong movesOnAmong movesToAmong numberOf canFinish targets leads leadsOf final finalOf holds within stepsFrom meets passes inSet classOf silent
+unfolding listing positionsAmong searchAmong expandAmong visits visit movesUptoAmong movesFromAmong movesOnAmong movesToAmong numberOf canFinish targets leads leadsOf
+    final finalOf holds within stepsFrom meets passes inSet classOf silent
 idle-listed = refl
 
 -- It meets `.` and no set: on M, behind req and a silent step, EX[.] takes it and EX[~req] does not. EU[a] goes on by it.

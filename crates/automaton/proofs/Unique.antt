@@ -17,7 +17,8 @@ use Rattle.actl.specs.Formulas.{Formula, size}
 use Rattle.actl.proofs.Classes.{HasClass}
 use Rattle.automaton.specs.Places.{Final}
 use Rattle.automaton.specs.Positions.{Position, at, rootAt, Reached, begin, onward, Entered, stop, CanFinish}
-use Rattle.automaton.specs.inner.Search.{canFinish, numberOf, seen, final, Move, movesFrom, positionAt, visit, visits, expandAmong, searchAmong, positionsAmong, expand, search, positions, movesUpto, rowOf, edgeOf, listing}
+use Rattle.automaton.specs.inner.Search.{canFinish, numberOf, seen, final, Move, movesFrom, positionAt, visit, visits, expandAmong, searchAmong, positionsAmong}
+use Rattle.automaton.specs.inner.Search.{expand, search, positions, movesUpto, rowOf, edgeOf, listing}
 use Rattle.automaton.specs.Listing.{Row, Edge, Listing}
 use Rattle.automaton.specs.Listed.{rowAt, placed, IsRow, Listed}
 use Rattle.automaton.proofs.Tests.{final-is}
@@ -222,7 +223,8 @@ module _ (t : Table) (F : Formula) (L : Listing) (h : Listed t F L) where
 
     rows-are : R ≡ positions t F
     unfolding positionsAmong
-    rows-are = let (extra, q) = search-prefix (room t F) 0 (rootAt t ∷ []) (starting (canFinish t F) t F w) root-prefix in q ∙ (ap (λ l. positions t F ++ l) (no-more extra q) ∙ append-nil (positions t F))
+    rows-are = let (extra, q) = search-prefix (room t F) 0 (rootAt t ∷ []) (starting (canFinish t F) t F w) root-prefix in
+        q ∙ (ap (λ l. positions t F ++ l) (no-more extra q) ∙ append-nil (positions t F))
       where
         no-more : (extra : List Position) → R ≡ positions t F ++ extra → extra ≡ []
         no-more [] q = refl

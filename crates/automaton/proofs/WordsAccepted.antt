@@ -86,5 +86,11 @@ module _ (table formula word : List ℕ) where
           let p = on-prepared-accepted table formula (λ t F. unlessFound (badLetter (labels t) word) 13 (accepted (bitOf (accepts t F word)))) e in
           let t = p .table-in in
           let F = p .formula-in in
-          let form = prepared-formula.prepared-of (labels t) formula (p .is-formula) in
-          (t, F, p .is-table, p .is-formula, subst (TellsWhether (Explains t F word)) (found-accepted (badLetter (labels t) word) 13 (p .goes-on)) (word-tells t F (prepared-in-range table (p .is-table)) (formed-has-class form) word))
+          let form = prepared-formula.prepared-of (labels t) formula (p .is-formula) in (
+            t,
+            F,
+            p .is-table,
+            p .is-formula,
+            subst (TellsWhether (Explains t F word)) (found-accepted (badLetter (labels t) word) 13 (p .goes-on))
+                (word-tells t F (prepared-in-range table (p .is-table)) (formed-has-class form) word),
+          )

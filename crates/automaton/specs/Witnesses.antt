@@ -15,24 +15,17 @@ AllPass a (st ∷ p) = (passes a (st .label) ≡ true) × AllPass a p
 
 abbrev mutual
   pub Witness : Formula → List Step → Type 0
-  -- (a)
-  Witness tru p = p ≡ []
-  -- (b)
-  Witness (not f) p = Counterexample f p
-  -- (c)
-  Witness (or f g) p = Witness f p ⊎ Witness g p
-  -- (f), (g)
-  Witness (ex c f) p = (st : Step) × (rest : List Step) × (p ≡ st ∷ rest) × (meets c (st .label) ≡ true) × Witness f rest
+  Witness tru p = p ≡ []  -- (a)
+  Witness (not f) p = Counterexample f p  -- (b)
+  Witness (or f g) p = Witness f p ⊎ Witness g p  -- (c)
+  Witness (ex c f) p = (st : Step) × (rest : List Step) × (p ≡ st ∷ rest) × (meets c (st .label) ≡ true) × Witness f rest  -- (f), (g)
   Witness (ax c f) p = ⊥
-  -- (d)
-  Witness (eu a f) p = (before : List Step) × (rest : List Step) × (p ≡ before ++ rest) × AllPass a before × Witness f rest
-  -- (e)
-  Witness (euThen a b f) p = (before : List Step) × (st : Step) × (rest : List Step) × (p ≡ before ++ (st ∷ rest)) × AllPass a before × (inSet b (st .label) ≡ true) × Witness f rest
+  Witness (eu a f) p = (before : List Step) × (rest : List Step) × (p ≡ before ++ rest) × AllPass a before × Witness f rest  -- (d)
+  Witness (euThen a b f) p = (before : List Step) × (st : Step) × (rest : List Step) × (p ≡ before ++ (st ∷ rest)) × AllPass a before × (inSet b (st .label) ≡ true) × Witness f rest  -- (e)
 
   pub Counterexample : Formula → List Step → Type 0
   Counterexample tru p = ⊥
-  -- (h)
-  Counterexample (not f) p = Witness f p
+  Counterexample (not f) p = Witness f p  -- (h)
   Counterexample (or f g) p = ⊥
   Counterexample (ex c f) p = ⊥
   -- (i), (k): the first part, alone where the arm is T; (j), (l): both

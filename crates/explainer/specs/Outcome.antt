@@ -1,4 +1,4 @@
--- What `explain` answers and leaves, as an explanation says.
+-- What `explain` answers and leaves: the reply, and each lent buffer before and after, as an explanation says.
 use mathlib.Core.Path.{_≡_}
 use mathlib.Core.List.{List}
 use Prim.Native.Nat.{ℕ}
@@ -7,7 +7,6 @@ use Rattle.explanations.specs.Explanation.{Explanation, explainReplied, tableEx
 use Rattle.explainer.specs.Replies.{explainReply}
 use Rattle.explainer.specs.declared.ExplainReply.{ExplainReply}
 
--- The reply, and each lent buffer before and after, as an explanation says.
 pub record Outcome (e : Reply Explanation) (r : ExplainReply) (table table′ formula formula′ rows rows′ edges edges′ : List ℕ) : Type 0 where
   pub reply : explainReply r ≡ explainReplied e
   pub table-left : table′ ≡ tableExplained e table

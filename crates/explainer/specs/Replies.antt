@@ -1,6 +1,5 @@
--- The number and the figures of each case that `explain` answers.
+-- The values, or the number and the figure, of each case that `explain` answers.
 use Rattle.lts.specs.Reply.{Reply, accepted, refusal}
-use Rattle.satisfaction.specs.inner.Holds.{verdict}
 use Rattle.explainer.specs.declared.ExplainReply.{ExplainReply}
 use Rattle.explainer.specs.declared.ExplainReply.the-variants.{Explained, Refused}
 use Rattle.explanations.specs.Explanation.{Summary}

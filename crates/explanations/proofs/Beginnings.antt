@@ -73,7 +73,8 @@ module _ (rows edges : List ℕ) where
       by false e =
           let long = leb-false (length text) 512 e in
           let begun : readFormula (t .names) (take keptLength text) ≡ refusal 5 (length (take keptLength text)) =
-          ap (λ b. unless b 5 (length (take keptLength text)) (onResult (t .names) (take keptLength text) (read (take keptLength text)))) (lt-leb (length (take keptLength text)) 512 (omega (arith, length-take keptLength text))) in
+          ap (λ b. unless b 5 (length (take keptLength text)) (onResult (t .names) (take keptLength text) (read (take keptLength text))))
+          (lt-leb (length (take keptLength text)) 512 (omega (arith, length-take keptLength text))) in
           let is : readFormula (t .names) text ≡ refusal 5 (length text) = ap (λ b. unless b 5 (length text) (onResult (t .names) text (read text))) e in
           ap (λ r. withLength (length text) (onFormula t r)) begun ∙ sym (ap (onFormula t) is)
 
@@ -81,6 +82,7 @@ module _ (rows edges : List ℕ) where
   table-begun (accepted t) o text = formula-begun t text
   table-begun (refusal k g) o text = other-kept (length text) (refusal k g) o
 
-  pub explanation-begun : (m : ℕ) (table text : List ℕ) → enoughTableText ≤ m → withLength (length text) (explanation (take m table) (take keptLength text) rows edges) ≡ explanation table text rows edges
+  pub explanation-begun : (m : ℕ) (table text : List ℕ) → enoughTableText ≤ m
+      → withLength (length text) (explanation (take m table) (take keptLength text) rows edges) ≡ explanation table text rows edges
   explanation-begun m table text h =
       ap (λ r. withLength (length text) (onTable r (take keptLength text))) (reading-bounded m table h) ∙ table-begun (readTable table) (table-other table) text

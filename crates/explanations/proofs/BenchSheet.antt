@@ -10,7 +10,7 @@ use lib.Dec.{eqb}
 use lib.ListN.{length}
 use borrow.Author.Tests.{eqb-true}
 use Rattle.columns.specs.Columns.{column, digitsWithin}
-use Rattle.lts.specs.inner.Lists.{every}
+use Rattle.lts.specs.Lists.{every}
 use Rattle.lts.specs.Names.{findFrom}
 use Rattle.lts.specs.Reply.{Reply, accepted, refusal}
 use Rattle.lts.specs.inner.Range.{InRange}
@@ -29,7 +29,8 @@ use Rattle.satisfaction.specs.Satisfaction.{Sat}
 use Rattle.satisfaction.proofs.Satisfaction.{holds-is-satisfaction}
 use Rattle.automaton.specs.Positions.{Position, rootAt, Walk}
 use Rattle.automaton.specs.Explains.{Explains}
-use Rattle.automaton.specs.inner.Search.{finalOf, final, leadsOf, leads, targets, canFinish, numberOf, samePosition, movesToAmong, movesOnAmong, movesFromAmong, visit, visits, expandAmong, searchAmong, positionsAmong, movesUptoAmong, listing}
+use Rattle.automaton.specs.inner.Search.{finalOf, final, leadsOf, leads, targets, canFinish, numberOf, samePosition, movesToAmong, movesOnAmong, movesFromAmong, visit}
+use Rattle.automaton.specs.inner.Search.{visits, expandAmong, searchAmong, positionsAmong, movesUptoAmong, listing}
 use Rattle.automaton.specs.Listing.{Listing}
 use Rattle.automaton.specs.Listed.{placed}
 use Rattle.automaton.specs.inner.Words.{Accepts}
@@ -124,7 +125,8 @@ pub right-of-test : (l : SheetLine) → isRight l ≡ true → IsRight l
 right-of-test l e = right l (readTable (l .table)) refl e
 
 starred-tested : every isRight starred ≡ true
-unfolding readTableWith readLabelsWith readTransitions column digitsWithin readFormula findFrom maskOf classOf highestWithoutClass holds within stepsFrom meets passes inSet silent listing positionsAmong searchAmong expandAmong visits visit movesUptoAmong movesFromAmong movesOnAmong movesToAmong numberOf canFinish targets leads leadsOf final finalOf
+unfolding readTableWith readLabelsWith readTransitions column digitsWithin readFormula findFrom maskOf classOf highestWithoutClass holds within stepsFrom meets passes
+    inSet silent listing positionsAmong searchAmong expandAmong visits visit movesUptoAmong movesFromAmong movesOnAmong movesToAmong numberOf canFinish targets leads leadsOf final finalOf
 starred-tested = refl
 
 -- Every starred line is right, from its texts.

@@ -121,11 +121,13 @@ module _ (tableText formulaText table formula rows edges : List ℕ) where
       (t, F, a, b, (v, in-prepared table-left formula-left c d (λ u G. Explained table-left formula-left u G v k x y) (u, G, h .is-table, h .is-formula, h)))
 
   pub texts-explained : tableReplied tableText table ≡ accepted tt → formulaReplied table-left formulaText formula ≡ accepted tt
-      → FromCalls tableText formulaText (buildReplied table-left formula-left rows edges) table-left formula-left (rowsLeft table-left formula-left rows edges) (edgesLeft table-left formula-left rows edges)
+      → FromCalls tableText formulaText (buildReplied table-left formula-left rows edges) table-left formula-left (rowsLeft table-left formula-left rows edges)
+      (edgesLeft table-left formula-left rows edges)
   texts-explained e d =
       let (t, a, c) = reading-leaves-table tableText table e in
       let (F, b, h, g) = reading-leaves-formula table-left formulaText formula t c d in
-      from-prepared (buildReplied table-left formula-left rows edges) (rowsLeft table-left formula-left rows edges) (edgesLeft table-left formula-left rows edges) t F a b c g (building-explains table-left formula-left rows edges)
+      from-prepared (buildReplied table-left formula-left rows edges) (rowsLeft table-left formula-left rows edges) (edgesLeft table-left formula-left rows edges) t F a b
+      c g (building-explains table-left formula-left rows edges)
 
 -- The same of `explain`, which reads both texts and builds. What an accepted explanation says of its texts and of the lent places:
 pub record Accepted (tableText formulaText rows edges : List ℕ) (e : explain.Explanation) : Type 0 where
@@ -148,17 +150,26 @@ module _ (tableText formulaText rows edges : List ℕ) where
       let (i, j, k) = fitted-accepted (listing t F) rows edges d in
       let z : record { table = t; formula = F; list = L } ≡ e = cc in
       subst (Accepted tableText formulaText rows edges) z
-      (record { read-table = a; read-formula = b; is-listing = k; rows-fit = subst (λ (K : Listing). length (K .rows) ≤ length rows / rowLength) (sym k) i; edges-fit = subst (λ (K : Listing). length (K .edges) ≤ length edges / edgeLength) (sym k) j })
+      (record {
+        read-table = a;
+        read-formula = b;
+        is-listing = k;
+        rows-fit = subst (λ (K : Listing). length (K .rows) ≤ length rows / rowLength) (sym k) i;
+        edges-fit =
+            subst (λ (K : Listing). length (K .edges) ≤ length edges / edgeLength) (sym k) j;
+      })
 
   pub explanation-accepted : (e : explain.Explanation) → explain.explanation tableText formulaText rows edges ≡ accepted e → Accepted tableText formulaText rows edges e
   explanation-accepted e d =
-      let (t, a, g) = next-accepted (readTable tableText) (λ t. explain.andThen (readFormula (t .names) formulaText) (λ F. answers (λ L. record { table = t; formula = F; list = L }) (fitted (listing t F) rows edges))) d in
+      let (t, a, g) = next-accepted (readTable tableText) (λ t. explain.andThen (readFormula (t .names) formulaText)
+      (λ F. answers (λ L. record { table = t; formula = F; list = L }) (fitted (listing t F) rows edges))) d in
       let (F, b, h) = next-accepted (readFormula (t .names) formulaText) (λ F. answers (λ L. record { table = t; formula = F; list = L }) (fitted (listing t F) rows edges)) g in
       listed-accepted t F a b (fitted (listing t F) rows edges) refl e h
 
 module _ (tableText formulaText table formula rows edges : List ℕ) where
   abbrev explained : Reply explain.Explanation → Type 0
-  explained r = FromTexts tableText formulaText (explain.explainReplied r) (explain.tableExplained r table) (explain.formulaExplained r formula) (explain.rowsExplained r rows) (explain.edgesExplained r edges)
+  explained r = FromTexts tableText formulaText (explain.explainReplied r) (explain.tableExplained r table) (explain.formulaExplained r formula)
+      (explain.rowsExplained r rows) (explain.edgesExplained r edges)
 
   explanation-explains : (r : Reply explain.Explanation) → explain.explaining tableText formulaText table formula rows edges ≡ r → explained r
   unfolding explain.explaining

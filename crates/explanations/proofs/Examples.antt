@@ -19,7 +19,8 @@ use Rattle.actl.specs.Formulas.{classOf, highestWithoutClass}
 use Rattle.actl.specs.inner.Reading.{readFormula}
 use Rattle.satisfaction.specs.inner.Holds.{holds, within}
 use Rattle.automaton.specs.Bytes.{rowLength, edgeLength}
-use Rattle.automaton.specs.inner.Search.{finalOf, final, leadsOf, leads, targets, canFinish, numberOf, movesToAmong, movesOnAmong, movesFromAmong, visit, visits, expandAmong, searchAmong, positionsAmong, movesUptoAmong, listing}
+use Rattle.automaton.specs.inner.Search.{finalOf, final, leadsOf, leads, targets, canFinish, numberOf, movesToAmong, movesOnAmong, movesFromAmong, visit, visits}
+use Rattle.automaton.specs.inner.Search.{expandAmong, searchAmong, positionsAmong, movesUptoAmong, listing}
 use Rattle.explanations.specs.Printed.{printed, explainText}
 
 -- 01's listing for `EU[*;ack] T` over table M, number for number.
@@ -33,7 +34,9 @@ listing-of-M : explainText M-lines (ended (ascii "EU[*;ack] T"))
     ∷ "     1     2     0"
     ∷ "     1     2     2"
     ∷ [])
-unfolding explainText printed listing positionsAmong searchAmong expandAmong visits visit movesUptoAmong movesFromAmong movesOnAmong movesToAmong numberOf canFinish targets leads leadsOf final finalOf holds within stepsFrom meets passes inSet classOf silent readTableWith readLabelsWith readTransitions column digitsWithin readFormula findFrom maskOf highestWithoutClass
+unfolding explainText printed listing positionsAmong searchAmong expandAmong visits visit movesUptoAmong movesFromAmong movesOnAmong movesToAmong numberOf canFinish
+    targets leads leadsOf final finalOf holds within stepsFrom meets passes inSet classOf silent readTableWith readLabelsWith readTransitions column digitsWithin
+    readFormula findFrom maskOf highestWithoutClass
 listing-of-M = refl
 
 -- A refusal prints one line.

@@ -44,7 +44,8 @@ module _ (tableText s table formula rows edges : List ℕ) (f : Disjunction) (sh
   abbrev behind : Table → Formula → Reply Explanation
   behind t F = answers (λ L. record { table = t; formula = F; list = L }) (fitted (listing t F) rows edges)
 
-  pub explained-as-expanded : ((n : ℕ) → explaining tableText s table formula rows edges ≡ refusal 7 n → ⊥) → explaining tableText s table formula rows edges ≡ explainingUnlimited tableText (expansion f) table formula rows edges
+  pub explained-as-expanded : ((n : ℕ) → explaining tableText s table formula rows edges ≡ refusal 7 n → ⊥)
+      → explaining tableText s table formula rows edges ≡ explainingUnlimited tableText (expansion f) table formula rows edges
   unfolding explaining
   explained-as-expanded =
       let r = explanation tableText s rows edges in

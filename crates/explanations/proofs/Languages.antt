@@ -9,7 +9,8 @@ use lib.Dec.{eqb, ltb}
 use lib.ListN.{length, replicate}
 use borrow.Author.Tests.{eqb-true, ltb-true, eq-eqb, lt-ltb}
 use Rattle.columns.specs.Bytes.{sameBytes}
-use Rattle.lts.specs.inner.Lists.{consIf, keep, every}
+use Rattle.lts.specs.inner.Lists.{consIf, keep}
+use Rattle.lts.specs.Lists.{every}
 use Rattle.lts.specs.Lists.{anyOf, bind}
 use Rattle.lts.proofs.Booleans.{and-true-of, and-true-to, or-true-of, or-true-left, or-true-right}
 use Rattle.lts.proofs.Lists.{keep-of, keep-to, some-of, some-to, every-of, map-of, map-to}

@@ -1,10 +1,5 @@
--- The three demands, for what the calls answer and the bytes that they leave.
---
--- Demand 1 stands in the contract of each entry, as an equation for the reply and one for every lent buffer afterwards:
--- `tableReplied`, `tableLeft` (lts/specs/TableReading.antt); `formulaReplied`, `formulaLeft` (actl/specs/FormulaReading.antt);
--- `verdictReplied` (satisfaction/specs/VerdictAsked.antt); `buildReplied`, `rowsLeft`, `edgesLeft` (automaton/specs/Build.antt);
--- `wordReplied` (automaton/specs/WordAsked.antt); for `explain`, `explaining` and what it leaves (Explanation.antt).
--- Demands 2 and 3 are stated here, together of one table and one formula: `Explained`.
+-- Demands 2 and 3, together of one table and one formula (`Explained`), for what the calls answer and the bytes that they leave. Demand 1 stands in
+-- the contract of each entry, as an equation for the reply and one for every lent buffer afterwards.
 use mathlib.Core.Path.{_≡_}
 use mathlib.Core.Logic.{_↔_}
 use mathlib.Core.List.{List}
@@ -26,9 +21,6 @@ use Rattle.automaton.specs.WordAsked.{wordReplied}
 use Rattle.explanations.specs.Shown.{ShowsOrBreaks}
 use Rattle.explanations.specs.Traces.{Traces}
 use Rattle.explanations.specs.Standstills.{StandstillsSeen}
-
--- Demand 2, the verdict: that of the branching-time definition over unending paths. `VerdictIs t F v` (satisfaction/specs/VerdictAsked.antt): v is 1
--- exactly if `Sat t F (t .start)`, and 0 exactly if not.
 
 -- Demand 2, the words: one is accepted by the listed automaton if and only if some finite path from the start with that word is a witness (class 1)
 -- or a counterexample (class 2) by the inductive definition.

@@ -1,11 +1,11 @@
 -- 01, "The listing of `explain`": the text that the program writes.
 use mathlib.Core.Bool.{cond}
 use mathlib.Core.List.{List, [], _∷_, _++_}
-use Prim.Native.Nat.{ℕ, suc}
+use Prim.Native.Nat.{ℕ, suc, _*_}
 use lib.Dec.{eqb}
 use lib.ListN.{replicate}
-use Rattle.automaton.specs.Bytes.{bitOf}
-use Rattle.explanations.specs.Sizes.{rowsLength, edgesLength}
+use Rattle.automaton.specs.Bytes.{rowLength, edgeLength, bitOf}
+use Rattle.explanations.specs.Sizes.{rowsLent, edgesLent}
 use Rattle.columns.specs.Lines.{numbersLine}
 use Rattle.lts.specs.Lists.{bind}
 use Rattle.lts.specs.Reply.{Reply, accepted, refusal}
@@ -41,7 +41,7 @@ withoutEnd (b ∷ c ∷ l) = b ∷ withoutEnd (c ∷ l)
 
 -- "The program lends places for 1,024 rows and 4,096 edges."
 abbrev pub lentExplanation : List ℕ → List ℕ → Reply Explanation
-lentExplanation tableText formulaText = explanation tableText formulaText (replicate rowsLength 0) (replicate edgesLength 0)
+lentExplanation tableText formulaText = explanation tableText formulaText (replicate (rowsLent * rowLength) 0) (replicate (edgesLent * edgeLength) 0)
 
 -- What `explain` writes for the contents of its two files.
 unfoldable pub explainText : List ℕ → List ℕ → List ℕ

@@ -6,7 +6,7 @@ use native.Mathlib.Omega.{arith}
 use lib.ListN.{length, take, drop, length-append, length-drop}
 use lib.Seq.{length-take-le}
 use Rattle.actl.specs.Sizes.{formulaLength}
-use Rattle.explanations.specs.Sizes.{rowsLength, edgesLength}
+use Rattle.explanations.specs.inner.Sizes.{rowsLength, edgesLength}
 use Rattle.lts.specs.Sizes.{tableLength}
 use Rattle.lts.specs.Reply.{Reply, accepted, refusal}
 use Rattle.lts.proofs.Laws.Texts.{text-of-read}

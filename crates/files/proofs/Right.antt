@@ -4,7 +4,7 @@ use mathlib.Core.List.{List, [], flatten}
 use Prim.Native.Nat.{ℕ, _^_, _<_}
 use native.Mathlib.Omega.{arith}
 use lib.ListN.{length, replicate}
-use Rattle.explanations.specs.Sizes.{rowsLength, edgesLength}
+use Rattle.explanations.specs.inner.Sizes.{rowsLength, edgesLength}
 use Rattle.explanations.specs.inner.Sizes.{keptLength}
 use Rattle.explanations.specs.Printed.{withoutEnd, printed, lentExplanation, explainText}
 use Rattle.explanations.specs.inner.Printed.{withLength}

@@ -6,7 +6,6 @@ use Rattle.formula_check.specs.declared.inputs.Unprepared.the-variants.{
 use Rattle.formula_check.specs.declared.inputs.Inputs.{Inputs}
 use Rattle.formula_check.specs.declared.inputs.Inputs.the-variants.{Prepared, Refused}
 
--- 01, "What the entries turn back": the number and the figure of each case.
 abbrev pub unpreparedNumber : Unprepared → ℕ
 unpreparedNumber TableForeign = 10
 unpreparedNumber FormulaForeign = 10

@@ -9,7 +9,7 @@ use native.Mathlib.Omega.{arith}
 use borrow.Author.Tests.{ne-eqb}
 use lib.ListN.{length, drop, drop-of-length-le}
 use lib.Seq.{drop-cons}
-use Rattle.actl.specs.Grammar.{gap}
+use Rattle.actl.specs.inner.Show.{gap}
 use Rattle.actl.specs.inner.Reader.{State, ReaderStep, go, stop, on, readByte, finish, proceed, run, refused}
 use Rattle.actl.specs.inner.Cursor.{peek, Token, Skipped, Moves, Fails, Marked, Tokened}
 use Rattle.formula_cursor.proofs.ReadingPlaces.{inside, byte-at, run-byte, run-stop}

@@ -7,7 +7,7 @@ use native.Mathlib.Numerals.{add-one}
 use native.Mathlib.Omega.{arith}
 use lib.ListN.{length, getD, drop, List·getD-eq-default, drop-of-length-le}
 use lib.Seq.{drop-cons}
-use Rattle.actl.specs.Grammar.{gap}
+use Rattle.actl.specs.inner.Show.{gap}
 use Rattle.actl.specs.inner.Reader.{State, stop, readByte, finish, proceed, run, refused}
 use Rattle.actl.specs.inner.Cursor.{peek, Skipped, Marked, Tokened}
 use Rattle.formula_cursor.specs.inner.CursorReplies.{MarkAnswer, KeywordAnswer}

@@ -6,9 +6,9 @@ use native.Mathlib.Decide.{decLe}
 use native.Mathlib.Omega.{arith}
 use lib.ListN.{length, drop, length-drop, drop-of-length-le}
 use lib.Seq.{drop-cons}
-use Rattle.actl.specs.Grammar.{gap, showF}
+use Rattle.actl.specs.inner.Show.{gap, showF}
 use Rattle.actl.specs.inner.Reader.{fTop, tFirst, termAt, afterDisjunction, stop, readByte, finishDisjunction, proceed, run, start, read, refused}
-use Rattle.actl.specs.Mentions.{namesF}
+use Rattle.actl.specs.inner.Mentions.{namesF}
 use Rattle.actl.specs.inner.Cursor.{peek, Token, Marked, Fails}
 use Rattle.actl.specs.inner.Readers.{unknownIn, earlier, FormulaRead, WholeRead, RefusedAt}
 use Rattle.actl.specs.inner.Meaning.{formulaF}

@@ -6,10 +6,11 @@ use Prim.Native.Nat.{ℕ, _+_, _-_}
 use native.Mathlib.Omega.{arith}
 use lib.ListN.{length, drop}
 use Rattle.actl.specs.Actions.{labels}
-use Rattle.actl.specs.Grammar.{gap, dot, set, Set, Head, next, until, untilThen, labelled, showS}
+use Rattle.actl.specs.inner.Show.{gap, showS}
+use Rattle.actl.specs.Grammar.{dot, set, Set, Head, next, until, untilThen, labelled}
 use Rattle.actl.specs.inner.Reader.{InSet, sNext, sUntil, sThen, sLabelled, InTerm, tModal, oFirst, State, termAt, afterDot, operandAt, afterSet}
 use Rattle.actl.specs.inner.Reader.{go, stop, closeStep}
-use Rattle.actl.specs.Mentions.{namesS}
+use Rattle.actl.specs.inner.Mentions.{namesS}
 use Rattle.actl.specs.Prepared.{slot, nextSlot}
 use Rattle.actl.specs.inner.Cursor.{peek, Token, Moves, Fails, Marked, Tokened}
 use Rattle.actl.specs.inner.Readers.{unknownIn, earlier, dualSlots, nextKind, SetRead, EnclosedRead, Unclosed}

@@ -7,7 +7,8 @@ use native.Mathlib.Omega.{arith}
 use lib.ListN.{length}
 use Rattle.actl.specs.Actions.{Action, Mask}
 use Rattle.actl.specs.Grammar as grammar
-use Rattle.actl.specs.Grammar.{gap, existential, universal, reach, showR}
+use Rattle.actl.specs.inner.Show.{gap, showR}
+use Rattle.actl.specs.Grammar.{existential, universal, reach}
 use Rattle.actl.specs.inner.Reader.{InTerm, tModal, State, termAt, afterE, afterA, afterFirst, afterSecond, go, stop, readByte, finish, refused}
 use Rattle.actl.specs.inner.Reader.{second, third}
 use Rattle.actl.specs.Meaning.{labelsOf}

@@ -10,10 +10,11 @@ use lib.ListN.{length, drop}
 use Rattle.lts.specs.Names.{isLower}
 use Rattle.lts.specs.Directions.{Direction, labelDirection}
 use Rattle.actl.specs.Actions.{Action}
-use Rattle.actl.specs.Grammar.{gap, Set, operand, union, Operand, any, received, sent, except, group, showS, showO}
+use Rattle.actl.specs.inner.Show.{gap, showS, showO}
+use Rattle.actl.specs.Grammar.{Set, operand, union, Operand, any, received, sent, except, group}
 use Rattle.actl.specs.inner.Reader.{InSet, sParen, InOperand, oFirst, oOr, oNot, operandAt, afterSet, stop, closeStep, plugO}
 use Rattle.actl.specs.Meaning.{labelsOf, actionOfSet, actionOfOperand, maskIn}
-use Rattle.actl.specs.Mentions.{namesS, namesO}
+use Rattle.actl.specs.inner.Mentions.{namesS, namesO}
 use Rattle.actl.specs.inner.Cursor.{peek, Token, Skipped, Moves, Fails, Marked, Tokened}
 use Rattle.actl.specs.inner.Readers.{unknownIn, earlier, OperandRead, SetRead, EnclosedRead, Unclosed}
 use Rattle.formula_sets.specs.inner.SetReplies.{WildcardAnswer, OperandAnswer, EnclosedAnswer}

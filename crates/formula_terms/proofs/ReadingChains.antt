@@ -5,9 +5,10 @@ use Prim.Native.Nat.{ℕ, _+_, _*_, _-_, _≤_}
 use native.Mathlib.Omega.{arith}
 use lib.ListN.{length, drop, length-append}
 use Rattle.actl.specs.Sizes.{longestText, nodeSlotLength}
-use Rattle.actl.specs.Grammar.{gap, Disjunction, conjunction, or, term, and, Term, showF, showA, showT}
+use Rattle.actl.specs.inner.Show.{gap, showF, showA, showT}
+use Rattle.actl.specs.Grammar.{Disjunction, conjunction, or, term, and, Term}
 use Rattle.actl.specs.inner.Reader.{InDisjunction, InTerm, tFirst, tOr, tAnd, termAt, andLast, afterDisjunction, plugT}
-use Rattle.actl.specs.Mentions.{namesF, namesA, namesT}
+use Rattle.actl.specs.inner.Mentions.{namesF, namesA, namesT}
 use Rattle.actl.specs.inner.Cursor.{peek, Token, Skipped, Moves, Fails, Tokened}
 use Rattle.actl.specs.inner.Readers.{unknownIn, earlier, TermRead, FormulaRead}
 use Rattle.actl.specs.inner.NodeBytes.{bytesOfNodes, orBytes, notBytes, andBytes, NodesWritten, NodesEnclosed, NodeRoom, mostCounted}

@@ -6,9 +6,10 @@ use Prim.Native.Nat.{ℕ, _+_, _-_, _≤_}
 use native.Mathlib.Omega.{arith}
 use lib.ListN.{length, drop}
 use Rattle.lts.specs.Lists.{bind}
-use Rattle.actl.specs.Grammar.{gap, existential, universal, Head, next, until, untilThen, reach, labelled, Term, tru, not, modal, paren, showT, showH}
+use Rattle.actl.specs.inner.Show.{gap, showT, showH}
+use Rattle.actl.specs.Grammar.{existential, universal, Head, next, until, untilThen, reach, labelled, Term, tru, not, modal, paren}
 use Rattle.actl.specs.inner.Reader.{fParen, tFirst, tNot, tModal, termAt, afterDisjunction, plugT}
-use Rattle.actl.specs.Mentions.{namesF, namesT, namesH}
+use Rattle.actl.specs.inner.Mentions.{namesF, namesT, namesH}
 use Rattle.actl.specs.Prepared.{Slot, slot, slotBytes}
 use Rattle.actl.specs.inner.Cursor.{peek, Skipped, Moves, Fails, Marked, Tokened}
 use Rattle.actl.specs.inner.Readers.{ReaderStart, unknownIn, earlier, headSlots, HeadRead, TermRead, BracketRead, Unbracketed}

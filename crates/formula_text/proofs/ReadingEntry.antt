@@ -18,8 +18,8 @@ use Rattle.lts.specs.inner.Answers.{isSome}
 use Rattle.lts.proofs.Laws.Prepared.{prepared-in, prepared-holds}
 use Rattle.actl.specs.Formulas.{Formula}
 use Rattle.actl.specs.inner.Reader.{read}
-use Rattle.actl.specs.Mentions.{namesF}
-use Rattle.actl.specs.Reading.{firstUnknown}
+use Rattle.actl.specs.inner.Mentions.{namesF}
+use Rattle.actl.specs.inner.Mentions.{firstUnknown}
 use Rattle.actl.specs.inner.Reading.{onResult, readFormula}
 use Rattle.actl.specs.Prepared.{formulaBytes}
 use Rattle.formula_text.specs.Replies.{formulaReply}

@@ -1,10 +1,9 @@
--- What `read_formula` answers and leaves, and what every entry over prepared bytes tests first.
+-- 01, "What the entries turn back": the number and the figure of each case that `read_formula` answers.
 use lib.ListN.{length}
 use Rattle.lts.specs.Reply.{Reply, accepted, refusal}
 use Rattle.formula_text.specs.declared.FormulaReply.{FormulaReply}
 use Rattle.formula_text.specs.declared.FormulaReply.the-variants.{Accepted, TooLong, NotGrammatical, NameUnknown, TooManyNodes, NoClass, TableForeign, BufferShort}
 
--- 01, "What the entries turn back": the number and the figure of each case.
 abbrev pub formulaReply : FormulaReply → Reply (Unit {0})
 formulaReply Accepted = accepted tt
 formulaReply (TooLong length) = refusal 5 length

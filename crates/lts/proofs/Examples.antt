@@ -149,7 +149,8 @@ three-of-a-stem : readTable (lines ("     1     4     0     0" ∷ "     1 clamp
 unfolding readTableWith readLabelsWith readTransitions column digitsWithin
 three-of-a-stem = refl
 
-directions : (labelDirection (directed .names) 1 ≡ received) × (labelDirection (directed .names) 2 ≡ sent) × (labelDirection (directed .names) 3 ≡ neither) × (labelDirection (directed .names) 4 ≡ sent)
+directions : (labelDirection (directed .names) 1 ≡ received) × (labelDirection (directed .names) 2 ≡ sent) × (labelDirection (directed .names) 3 ≡ neither)
+    × (labelDirection (directed .names) 4 ≡ sent)
 directions = (refl, refl, refl, refl)
 
 prepared-directed : preparedTable (tableBytes directed) ≡ some directed

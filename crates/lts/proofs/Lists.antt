@@ -2,13 +2,15 @@
 use mathlib.Core.Path.{_≡_, refl, sym, ap, _∙_, subst}
 use mathlib.Core.Logic.{_⊎_, inl, inr}
 use mathlib.Core.Bool.{Bool, true, false, false≢true}
-use mathlib.Core.List.{List, [], _∷_, _++_, map, append-assoc, List·Memᴰ, List·Memᴰ·head, List·Memᴰ·tail, List·Memᴰ·not-nil, List·Memᴰ·cases-cons, List·Memᴰ·append-cases, Memᴰ·append-left, Memᴰ·append-right}
+use mathlib.Core.List.{List, [], _∷_, _++_, map, append-assoc, List·Memᴰ, List·Memᴰ·head, List·Memᴰ·tail, List·Memᴰ·not-nil, List·Memᴰ·cases-cons}
+use mathlib.Core.List.{List·Memᴰ·append-cases, Memᴰ·append-left, Memᴰ·append-right}
 use Prim.Native.Nat.{ℕ, zero, suc, _+_, _-_, _<_, _≤_}
 use native.Mathlib.Nat.{add-zero, add-suc, suc-add, zero-add}
 use native.Mathlib.Omega.{arith}
 use lib.ListN.{length, getD}
 use lib.Seq.{slice}
-use Rattle.lts.specs.inner.Lists.{upFrom, consIf, keep, every}
+use Rattle.lts.specs.inner.Lists.{upFrom, consIf, keep}
+use Rattle.lts.specs.Lists.{every}
 use Rattle.lts.specs.Lists.{anyOf, Rising, bind}
 use Rattle.lts.proofs.Booleans.{and-true-of, and-true-to, or-true-left, or-true-of, or-true-right}
 
@@ -238,7 +240,8 @@ module _ {A : Type 0} (p : A → Bool) (d : A) where
       ∙ keep-slice l zero zero (omega arith) (omega arith) (λ i u. absurd (omega arith)) (λ i u v. absurd (omega arith)) (λ i u v. e (suc i) (omega arith) (omega arith))
   keep-slice (x ∷ l) (suc a) zero h k f g e = absurd (omega arith)
   keep-slice (x ∷ l) zero (suc b) h k f g e = ap (λ z. consIf z x (keep p l)) (g 0 (omega arith) (omega arith))
-      ∙ ap (λ z. x ∷ z) (keep-slice l zero b (omega arith) (omega arith) (λ i u. absurd (omega arith)) (λ i u v. g (suc i) (omega arith) (omega arith)) (λ i u v. e (suc i) (omega arith) (omega arith)))
+      ∙ ap (λ z. x ∷ z) (keep-slice l zero b (omega arith) (omega arith) (λ i u. absurd (omega arith)) (λ i u v. g (suc i) (omega arith) (omega arith))
+      (λ i u v. e (suc i) (omega arith) (omega arith)))
   keep-slice (x ∷ l) (suc a) (suc b) h k f g e = ap (λ z. consIf z x (keep p l)) (f 0 (omega arith))
       ∙ keep-slice l a b (omega arith) (omega arith) (λ i u. f (suc i) (omega arith)) (λ i u v. g (suc i) (omega arith) (omega arith)) (λ i u v. e (suc i) (omega arith) (omega arith))
 

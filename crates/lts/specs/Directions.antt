@@ -5,7 +5,7 @@ use Prim.Native.Nat.{ℕ, zero, suc}
 use lib.Dec.{eqb}
 use lib.ListN.{getD}
 use mathlib.Core.Path.{_≡_}
-use Rattle.lts.specs.inner.Lists.{every}
+use Rattle.lts.specs.Lists.{every}
 use Rattle.lts.specs.Marks.{isMark}
 
 -- 02: "its direction (none, in, out)": "`clamp!` is sent, `clamp?` is received"

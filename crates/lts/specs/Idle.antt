@@ -1,6 +1,5 @@
--- 02, the label of the idle step.
+-- 02: "The idle step now prints as label 99."
 use Prim.Native.Nat.{ℕ}
 
--- 02: "The idle step now prints as label 99."
 abbrev pub idleLabel : ℕ
 idleLabel = 99

@@ -1,9 +1,9 @@
 -- The prepared bytes of a table (docs/FORMATS.md), and which bytes are some table's.
 use mathlib.Core.Path.{_≡_}
 use mathlib.Core.List.{List, [], _∷_, _++_}
-use Prim.Native.Nat.{ℕ}
+use Prim.Native.Nat.{ℕ, _*_}
 use lib.ListN.{length, take}
-use Rattle.lts.specs.Sizes.{nameSlotLength, namesLength, transitionsLength, tableLength}
+use Rattle.lts.specs.Sizes.{mostLabels, mostTransitions, nameSlotLength, transitionLength, tableLength}
 use Rattle.columns.specs.Bytes.{padded, lowFirst}
 use Rattle.lts.specs.Lists.{bind}
 use Rattle.lts.specs.Steps.{Step, Table, labels}
@@ -18,10 +18,10 @@ abbrev pub transitionSlot : Step → List ℕ
 transitionSlot st = st .from ∷ st .label ∷ st .to ∷ []
 
 abbrev pub nameSlots : Table → List ℕ
-nameSlots t = padded namesLength (bind nameSlot (t .names))
+nameSlots t = padded (mostLabels * nameSlotLength) (bind nameSlot (t .names))
 
 abbrev pub transitionSlots : Table → List ℕ
-transitionSlots t = padded transitionsLength (bind transitionSlot (t .transitions))
+transitionSlots t = padded (mostTransitions * transitionLength) (bind transitionSlot (t .transitions))
 
 unfoldable pub tableBytes : Table → List ℕ
 tableBytes t =

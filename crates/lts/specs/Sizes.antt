@@ -17,11 +17,5 @@ nameSlotLength = 16
 abbrev pub transitionLength : ℕ
 transitionLength = 3
 
-abbrev pub namesLength : ℕ
-namesLength = mostLabels * nameSlotLength
-
-abbrev pub transitionsLength : ℕ
-transitionsLength = mostTransitions * transitionLength
-
 abbrev pub tableLength : ℕ
-tableLength = 6 + namesLength + transitionsLength
+tableLength = 6 + mostLabels * nameSlotLength + mostTransitions * transitionLength

@@ -7,7 +7,7 @@ use Prim.Native.Nat.{ℕ, zero, suc, _<_}
 use native.Mathlib.Decide.{map-dec}
 use lib.ListN.{length}
 use Rattle.lts.specs.Lists.{anyOf}
-use Rattle.lts.specs.inner.Lists.{every}
+use Rattle.lts.specs.Lists.{every}
 use Rattle.lts.specs.Steps.{Step, Table, IsStep}
 use Rattle.lts.specs.inner.Steps.{stepsFrom}
 use Rattle.lts.proofs.Booleans.{and-true-of, and-true-to, or-true-of, or-true-left, or-true-right}

@@ -1,9 +1,8 @@
--- What `read_table` answers and leaves.
+-- 01, "What the entries turn back": the number and the figure of each case that `read_table` answers.
 use Rattle.lts.specs.Reply.{Reply, accepted, refusal}
 use Rattle.table_text.specs.declared.TableReply.{TableReply}
 use Rattle.table_text.specs.declared.TableReply.the-variants.{Accepted, NotLaidOut, OutOfRange, NameRepeated, NotRising, BufferShort}
 
--- 01, "What the entries turn back": the number and the figure of each case.
 abbrev pub tableReply : TableReply → Reply (Unit {0})
 tableReply Accepted = accepted tt
 tableReply (NotLaidOut line) = refusal 1 line

@@ -20,10 +20,10 @@ use Rattle.actl.specs.Grammar.{Set, Condition, dot, set, Quantifier, exi
 use Rattle.actl.specs.Base.{BaseHead, next, until, untilThen, Base, term, or, BaseTerm, tru, not, modal, paren}
 use Rattle.actl.specs.WrittenOut.{writtenOut}
 use Rattle.actl.specs.Meaning.{actionOfSet, maskIn, condOf, nextOf, modalOf, formulaOf, formulaOfTerm}
-use Rattle.actl.specs.Mentions.{namesF}
 use Rattle.actl.specs.Prepared.{slotOf, formulaBytes, maskWithin, slotWithin, IsForm}
 use Rattle.actl.specs.inner.Reader.{Result, whole, refused, read}
-use Rattle.actl.specs.Reading.{unlessFound, firstUnknown, withClasses}
+use Rattle.actl.specs.Reading.{unlessFound, withClasses}
+use Rattle.actl.specs.inner.Mentions.{namesF, firstUnknown}
 use Rattle.actl.specs.inner.Reading.{onResult, readFormula}
 use Rattle.actl.proofs.Laws.Classed.{all-classed}
 use Rattle.actl.proofs.Laws.Masks.{mask-within}

@@ -24,6 +24,7 @@ use Rattle.actl.specs.inner.Reading.{onResult, readFormula}
 use Rattle.actl.specs.FormulaReading.{withTable, onTable, formulaReading, formulaReplied, formulaLeft}
 use Rattle.actl.specs.ByGrammar.{ReadBy, long, ungrammatical, grammatical, FormulaByGrammar}
 use Rattle.actl.proofs.Grammar.{read-text, read-refused, refused-text}
+use Rattle.actl.proofs.Pieces.{text-shown, on-mentions}
 use Rattle.actl.proofs.Laws.Refusals.{tree-numbers}
 use Rattle.actl.proofs.Laws.Replies.{refusal-is-not-accepted, long-enough-accepted}
 
@@ -36,8 +37,8 @@ one-longest g text m n h k =
 
 module _ (names : List (List ℕ)) (text : List ℕ) where
   result-by : length text ≤ longestText → (x : Result) → read text ≡ x → ReadBy marked names text (onResult names text x)
-  result-by h (refused rest) e = ungrammatical h (λ p. refused-text text rest (p .0) e (p .1 .shows)) (length text - length rest) (read-refused text rest e) refl
-  result-by h (whole f) e = grammatical h f (read-text text f .0 e) refl
+  result-by h (refused rest) e = ungrammatical h (λ p. refused-text text rest (p .0) e (text-shown (p .0) (p .1))) (length text - length rest) (read-refused text rest e) refl
+  result-by h (whole f) e = grammatical h f (read-text text f .0 e) (on-mentions names f)
 
   pub reading-is-by : ReadBy marked names text (readFormula names text)
   unfolding readFormula
@@ -62,7 +63,7 @@ module _ (names : List (List ℕ)) (text : List ℕ) where
   by-is-reading : (r : Reply Formula) → ReadBy marked names text r → readFormula names text ≡ r
   by-is-reading r (long h e) = long-read h ∙ sym e
   by-is-reading r (ungrammatical h g n l e) = short-read h ∙ (refused-longest n g l (read text) refl ∙ sym e)
-  by-is-reading r (grammatical h f p e) = short-read h ∙ (ap (onResult names text) (read-text text f .1 p) ∙ sym e)
+  by-is-reading r (grammatical h f p e) = short-read h ∙ (ap (onResult names text) (read-text text f .1 p) ∙ (on-mentions names f ∙ sym e))
 
   -- The answer is r exactly if the grammar says so.
   pub reading-by-grammar : (r : Reply Formula) → (readFormula names text ≡ r) ↔ ReadBy marked names text r
@@ -106,7 +107,8 @@ module _ (names : List (List ℕ)) (text : List ℕ) where
   reading-accepted-grammatical F e = by-accepted-grammatical F (reading-by-grammar names text (accepted F) .0 e)
 
 -- The entry.
-pub formula-by-grammar : (table text buffer : List ℕ) {r : Reply (Unit {0})} {left : List ℕ} → r ≡ formulaReplied table text buffer → left ≡ formulaLeft table text buffer → FormulaByGrammar table text buffer r left
+pub formula-by-grammar : (table text buffer : List ℕ) {r : Reply (Unit {0})} {left : List ℕ} → r ≡ formulaReplied table text buffer → left ≡ formulaLeft table text buffer
+    → FormulaByGrammar table text buffer r left
 unfolding formulaReading
 formula-by-grammar table text buffer e d = record { reading = λ t. readFormula (t .names) text; by-grammar = λ t. reading-is-by (t .names) text; replies = e; leaves = d }
 

@@ -12,7 +12,8 @@ use lib.Dec.{leb, ltb, eqb}
 use lib.ListN.{length, getD}
 use lib.Pow.{pow-pos, pow-mono}
 use borrow.Author.Tests.{eq-eqb, ne-eqb, eqb-true, eqb-false, lt-ltb, le-ltb, lt-leb, le-leb}
-use Rattle.lts.specs.inner.Lists.{upFrom, every}
+use Rattle.lts.specs.inner.Lists.{upFrom}
+use Rattle.lts.specs.Lists.{every}
 use Rattle.lts.proofs.Lists.{upFrom-to, every-of}
 use Rattle.lts.proofs.Booleans.{and-true-of}
 use Rattle.actl.specs.Prepared.{Slot, slot, maskWithin, slotWithin}

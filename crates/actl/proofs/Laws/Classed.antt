@@ -1,7 +1,7 @@
 -- Classes of nodes: every node has a class exactly if the root has one, and exactly if there is no highest-numbered node without.
 use mathlib.Core.Path.{_≡_, refl, sym, ap, _∙_}
 use mathlib.Core.Logic.{_⊎_, inl, inr}
-use mathlib.Core.Bool.{Bool, true, false, cond}
+use mathlib.Core.Bool.{Bool, true, false, cond, _&&_}
 use mathlib.Core.List.{List, [], _∷_, _++_, map, List·Memᴰ, List·Memᴰ·head, List·Memᴰ·tail, List·Memᴰ·not-nil, List·Memᴰ·cases-cons, List·Memᴰ·append-cases}
 use mathlib.Core.Option.{Option, none, some}
 use Prim.Native.Nat.{ℕ, zero, suc, _+_, _≤_, _<_}
@@ -26,9 +26,11 @@ none-all (eu a f) e = rw e
 none-all (euThen a b f) e = rw e
 
 none-right : (n : ℕ) → classOfOr n 0 ≡ 0
-none-right zero = refl
-none-right (suc zero) = refl
-none-right (suc (suc n)) = refl
+none-right n = by (eqb n 1)
+  where
+    by : (a : Bool) → _≡_ {A = ℕ} (cond (a && eqb 0 1) 1 0) 0
+    by true = refl
+    by false = refl
 
 abbrev pub Classed : Formula → Type 0
 Classed f = classOf f ≡ 0 → ⊥
@@ -67,7 +69,8 @@ none-found : (k : ℕ) (l : List Formula) (found : Option ℕ) → highestFrom k
 none-found k [] found e = (e, λ f m. absurd (List·Memᴰ·not-nil m))
 none-found k (g ∷ l) found e = step (hasNoClass g) refl (none-found (suc k) l (cond (hasNoClass g) (some k) found) e)
   where
-    step : (t : Bool) → hasNoClass g ≡ t → (cond (hasNoClass g) (some k) found ≡ none) × ((f : Formula) → List·Memᴰ f l → Classed f) → (found ≡ none) × ((f : Formula) → List·Memᴰ f (g ∷ l) → Classed f)
+    step : (t : Bool) → hasNoClass g ≡ t → (cond (hasNoClass g) (some k) found ≡ none) × ((f : Formula) → List·Memᴰ f l → Classed f)
+        → (found ≡ none) × ((f : Formula) → List·Memᴰ f (g ∷ l) → Classed f)
     step true d h = let z : _≡_ {A = Option ℕ} (some k) none = rw d at (h .0) in let y : _≡_ {A = ℕ} 0 1 = cc in absurd (omega arith)
     step false d h = (rw d at (h .0), λ f m. all-or (eqb-false (classOf g) 0 d) (h .1 f) m)
 

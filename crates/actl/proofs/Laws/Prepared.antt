@@ -16,7 +16,8 @@ use Rattle.actl.specs.Sizes.{mostNodes, formulaLength}
 use Rattle.lts.specs.Sizes.{mostLabels}
 use Rattle.lts.specs.inner.Answers.{isSome, Decides}
 use Rattle.columns.specs.Bytes.{sameBytes}
-use Rattle.lts.specs.inner.Lists.{upFrom, every}
+use Rattle.lts.specs.inner.Lists.{upFrom}
+use Rattle.lts.specs.Lists.{every}
 use Rattle.lts.specs.Lists.{bind}
 use Rattle.lts.proofs.Laws.Prepared.{is-some-of}
 use Rattle.lts.proofs.Booleans.{and-true-of, and-true-to}
@@ -90,7 +91,8 @@ module _ (n : ℕ) (b : List ℕ) {F : Formula} (e : preparedFormula n b ≡ som
       ∙ (ap (λ l. getD l k (slot 1 0 0)) prepared-slots ∙ List·getD-map slotOf (nodes F) k tru) in
       let s : StandsFor (slotOf f) (slotAt b k) =
       subst (StandsFor (slotOf f)) (sym (ap (λ l. slotAt l k) (prepared-of .form)) ∙ slot-of-front b k (omega arith)) (slot-of-form F k h) in
-      sym (slot-by-parts (slotAt b k) (ap (λ x. x .kind) c) (mask-exact (firstUsed (slotAt b k .kind)) (slotAt b k .first) (slotOf f .first) (ap (λ x. x .first) c) (s .same-first)) (mask-exact (secondUsed (slotAt b k .kind)) (slotAt b k .second) (slotOf f .second) (ap (λ x. x .second) c) (s .same-second)))
+      sym (slot-by-parts (slotAt b k) (ap (λ x. x .kind) c) (mask-exact (firstUsed (slotAt b k .kind)) (slotAt b k .first) (slotOf f .first) (ap (λ x. x .first) c)
+          (s .same-first)) (mask-exact (secondUsed (slotAt b k .kind)) (slotAt b k .second) (slotOf f .second) (ap (λ x. x .second) c) (s .same-second)))
 
   pub prepared-shaped : (k : ℕ) → k < size F → shaped (slotAt b k) ≡ true
   prepared-shaped k h = ap shaped (prepared-slot k h) ∙ node-shaped (getD (nodes F) k tru)

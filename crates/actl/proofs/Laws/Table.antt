@@ -1,13 +1,14 @@
 -- 01's table of classes, entry by entry, and what it says of each kind of node.
 use mathlib.Core.Path.{_≡_, refl, sym, ap, _∙_}
-use mathlib.Core.Bool.{Bool, true, false, cond, false≢true}
+use mathlib.Core.Bool.{Bool, true, false, cond, _&&_, _||_, false≢true}
 use mathlib.Core.List.{List, [], _∷_}
 use Prim.Native.Nat.{ℕ, zero, suc, _<_}
 use native.Mathlib.Omega.{arith}
 use lib.Dec.{eqb}
 use lib.ListN.{getD}
 use borrow.Author.Tests.{eqb-true, ne-eqb}
-use Rattle.lts.specs.inner.Lists.{upFrom, every}
+use Rattle.lts.specs.inner.Lists.{upFrom}
+use Rattle.lts.specs.Lists.{every}
 use Rattle.lts.proofs.Lists.{upFrom-to, every-of}
 use Rattle.actl.specs.Actions.{Mask, Cond, silent, labels}
 use Rattle.actl.specs.Formulas.{Formula, tru, not, or, ex, ax, eu, euThen, isT, classOf, classOfNot, classOfOr, classOfSome, classOfAll}
@@ -46,40 +47,28 @@ table-right kind arm h l =
     eqb-true (getD (getD classes kind []) arm 0) (classFrom kind arm) (every-of (entry kind) (upFrom 0 4) r arm (upFrom-to 0 4 arm (omega arith) (omega arith)))
 
 -- The arms' classes.
-not-low : (n : ℕ) → classOfNot n < 3
-not-low zero = omega arith
-not-low (suc zero) = omega arith
-not-low (suc (suc zero)) = omega arith
-not-low (suc (suc (suc n))) = omega arith
+pair-low : (a b : Bool) → cond a 2 (cond b 1 0) < 3
+pair-low true b = omega arith
+pair-low false true = omega arith
+pair-low false false = omega arith
 
-or-low : (m n : ℕ) → classOfOr m n < 3
-or-low zero n = omega arith
-or-low (suc zero) zero = omega arith
-or-low (suc zero) (suc zero) = omega arith
-or-low (suc zero) (suc (suc n)) = omega arith
-or-low (suc (suc m)) n = omega arith
+one-low : (a : Bool) → cond a 1 0 < 3
+one-low true = omega arith
+one-low false = omega arith
 
-some-low : (n : ℕ) → classOfSome n < 3
-some-low zero = omega arith
-some-low (suc zero) = omega arith
-some-low (suc (suc n)) = omega arith
-
-all-low : (t : Bool) (n : ℕ) → classOfAll t n < 3
-all-low true n = omega arith
-all-low false zero = omega arith
-all-low false (suc zero) = omega arith
-all-low false (suc (suc zero)) = omega arith
-all-low false (suc (suc (suc n))) = omega arith
+two-low : (a : Bool) → cond a 2 0 < 3
+two-low true = omega arith
+two-low false = omega arith
 
 pub class-low : (f : Formula) → classOf f < 3
 unfolding classOf
 class-low tru = omega arith
-class-low (not f) = not-low (classOf f)
-class-low (or f g) = or-low (classOf f) (classOf g)
-class-low (ex c f) = some-low (classOf f)
-class-low (ax c f) = all-low (isT f) (classOf f)
-class-low (eu a f) = some-low (classOf f)
-class-low (euThen a b f) = some-low (classOf f)
+class-low (not f) = pair-low (eqb (classOf f) 1) (eqb (classOf f) 2)
+class-low (or f g) = one-low (eqb (classOf f) 1 && eqb (classOf g) 1)
+class-low (ex c f) = one-low (eqb (classOf f) 1)
+class-low (ax c f) = two-low (isT f || eqb (classOf f) 2)
+class-low (eu a f) = one-low (eqb (classOf f) 1)
+class-low (euThen a b f) = one-low (eqb (classOf f) 1)
 
 class-of-T : (f : Formula) → isT f ≡ true → classOf f ≡ 1
 unfolding classOf
@@ -134,13 +123,15 @@ class-of-or f g = λ i. classOfOr (class-of-arm f i) (class-of-arm g i)
 
 -- `|`: each of the arms must give 1.
 pub or-none : (m n : ℕ) → classOfSome m ≡ 0 → classOfOr m n ≡ 0
-or-none zero n e = refl
-or-none (suc zero) n e = absurd (omega arith)
-or-none (suc (suc m)) n e = refl
+or-none m n e = by (eqb m 1) e
+  where
+    by : (a : Bool) → _≡_ {A = ℕ} (cond a 1 0) 0 → _≡_ {A = ℕ} (cond (a && eqb n 1) 1 0) 0
+    by true e = absurd (omega arith)
+    by false e = refl
 
 pub or-second : (m n : ℕ) → (classOfSome m ≡ 0 → ⊥) → classOfSome n ≡ classOfOr m n
-or-second zero n e = absurd (e refl)
-or-second (suc zero) zero e = refl
-or-second (suc zero) (suc zero) e = refl
-or-second (suc zero) (suc (suc n)) e = refl
-or-second (suc (suc m)) n e = absurd (e refl)
+or-second m n e = by (eqb m 1) e
+  where
+    by : (a : Bool) → (_≡_ {A = ℕ} (cond a 1 0) 0 → ⊥) → classOfSome n ≡ cond (a && eqb n 1) 1 0
+    by true e = refl
+    by false e = absurd (e refl)

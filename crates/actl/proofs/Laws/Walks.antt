@@ -33,12 +33,18 @@ unary zero l h n = absurd (omega arith)
 unary (suc zero) l h n = absurd (omega arith)
 unary (suc (suc zero)) l h n = (not, record { kind-of = λ f. refl; nodes-of = λ f. refl; size-of = λ f. refl; ends-of = λ k f. refl; class-of = class-of-not; arm-of = λ f. refl })
 unary (suc (suc (suc zero))) l h n = absurd (n refl)
-unary (suc (suc (suc (suc zero)))) l h n = (ex silent, record { kind-of = λ f. refl; nodes-of = λ f. refl; size-of = λ f. refl; ends-of = λ k f. refl; class-of = λ f. class-of-ex f silent; arm-of = λ f. refl })
-unary (suc (suc (suc (suc (suc zero))))) l h n = (ex (labels 0), record { kind-of = λ f. refl; nodes-of = λ f. refl; size-of = λ f. refl; ends-of = λ k f. refl; class-of = λ f. class-of-ex f (labels 0); arm-of = λ f. refl })
-unary (suc (suc (suc (suc (suc (suc zero)))))) l h n = (ax silent, record { kind-of = λ f. refl; nodes-of = λ f. refl; size-of = λ f. refl; ends-of = λ k f. refl; class-of = λ f. class-of-ax f silent; arm-of = λ f. refl })
-unary (suc (suc (suc (suc (suc (suc (suc zero))))))) l h n = (ax (labels 0), record { kind-of = λ f. refl; nodes-of = λ f. refl; size-of = λ f. refl; ends-of = λ k f. refl; class-of = λ f. class-of-ax f (labels 0); arm-of = λ f. refl })
-unary (suc (suc (suc (suc (suc (suc (suc (suc zero)))))))) l h n = (eu 0, record { kind-of = λ f. refl; nodes-of = λ f. refl; size-of = λ f. refl; ends-of = λ k f. refl; class-of = λ f. class-of-eu f 0; arm-of = λ f. refl })
-unary (suc (suc (suc (suc (suc (suc (suc (suc (suc zero))))))))) l h n = (euThen 0 0, record { kind-of = λ f. refl; nodes-of = λ f. refl; size-of = λ f. refl; ends-of = λ k f. refl; class-of = λ f. class-of-euThen f 0 0; arm-of = λ f. refl })
+unary (suc (suc (suc (suc zero)))) l h n =
+    (ex silent, record { kind-of = λ f. refl; nodes-of = λ f. refl; size-of = λ f. refl; ends-of = λ k f. refl; class-of = λ f. class-of-ex f silent; arm-of = λ f. refl })
+unary (suc (suc (suc (suc (suc zero))))) l h n =
+    (ex (labels 0), record { kind-of = λ f. refl; nodes-of = λ f. refl; size-of = λ f. refl; ends-of = λ k f. refl; class-of = λ f. class-of-ex f (labels 0); arm-of = λ f. refl })
+unary (suc (suc (suc (suc (suc (suc zero)))))) l h n =
+    (ax silent, record { kind-of = λ f. refl; nodes-of = λ f. refl; size-of = λ f. refl; ends-of = λ k f. refl; class-of = λ f. class-of-ax f silent; arm-of = λ f. refl })
+unary (suc (suc (suc (suc (suc (suc (suc zero))))))) l h n =
+    (ax (labels 0), record { kind-of = λ f. refl; nodes-of = λ f. refl; size-of = λ f. refl; ends-of = λ k f. refl; class-of = λ f. class-of-ax f (labels 0); arm-of = λ f. refl })
+unary (suc (suc (suc (suc (suc (suc (suc (suc zero)))))))) l h n =
+    (eu 0, record { kind-of = λ f. refl; nodes-of = λ f. refl; size-of = λ f. refl; ends-of = λ k f. refl; class-of = λ f. class-of-eu f 0; arm-of = λ f. refl })
+unary (suc (suc (suc (suc (suc (suc (suc (suc (suc zero))))))))) l h n =
+    (euThen 0 0, record { kind-of = λ f. refl; nodes-of = λ f. refl; size-of = λ f. refl; ends-of = λ k f. refl; class-of = λ f. class-of-euThen f 0 0; arm-of = λ f. refl })
 unary (suc (suc (suc (suc (suc (suc (suc (suc (suc (suc k)))))))))) l h n = absurd (omega arith)
 
 -- How long the lists are.
@@ -127,7 +133,8 @@ module _ (K E C : List ℕ) (k : ℕ) (h : k < length K) where
           behind = omega arith;
           as-arm = class;
           ends-noted = (λ i. set (endsTwo i) k (last i)) ∙ set-before E k (k + 1 + size f + size g) (endsFrom (k + 1) f ++ endsFrom (k + 1 + size f) g);
-          classes-noted = (λ i. set (classesTwo i) k (class i)) ∙ (set-before C k (classOf (or f g)) (classesOf f ++ classesOf g) ∙ ap (λ l. sets C k (classOf (or f g) ∷ l)) (sym (map-append classOf (nodes f) (nodes g))));
+          classes-noted = (λ i. set (classesTwo i) k (class i))
+              ∙ (set-before C k (classOf (or f g)) (classesOf f ++ classesOf g) ∙ ap (λ l. sets C k (classOf (or f g) ∷ l)) (sym (map-append classOf (nodes f) (nodes g))));
         }
 
 pub traversed-noted : {K E X E' C Y C' : List ℕ} {k end arm : ℕ} → E' ≡ X → C' ≡ Y → Traversed K E X C Y k end arm → Traversed K E E' C C' k end arm

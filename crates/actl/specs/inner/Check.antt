@@ -6,7 +6,8 @@ use Prim.Native.Nat.{ℕ, _-_}
 use lib.Dec.{eqb}
 use lib.ListN.{getD}
 use Rattle.actl.specs.Sizes.{formulaLength}
-use Rattle.lts.specs.inner.Lists.{upFrom, every}
+use Rattle.lts.specs.inner.Lists.{upFrom}
+use Rattle.lts.specs.Lists.{every}
 use Rattle.lts.specs.inner.Answers.{isSome}
 use Rattle.actl.specs.Formulas.{Formula, classOf}
 use Rattle.actl.specs.Prepared.{Slot, slotWithin}

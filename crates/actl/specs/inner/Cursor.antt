@@ -4,7 +4,8 @@ use mathlib.Core.List.{List, _++_}
 use Prim.Native.Nat.{ℕ, _+_, _-_, _≤_, _<_}
 use lib.ListN.{length, getD, drop}
 use Rattle.lts.specs.inner.Sizes.{longestName}
-use Rattle.actl.specs.Grammar.{gap, Name, name}
+use Rattle.actl.specs.Grammar.{Name, name}
+use Rattle.actl.specs.inner.Show.{gap}
 use Rattle.actl.specs.inner.Reader.{State, operandAt, plugO, run, refused}
 
 -- The byte at a place; 256 at the end.

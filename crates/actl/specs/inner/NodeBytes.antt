@@ -26,7 +26,8 @@ pub record NodesWritten (n m : ℕ) (e x l : List ℕ) : Type 0 where
 -- The nodes from `start` up to n moved up by w in the bytes x: whatever is put into their place stands before them.
 pub record NodesMoved (start n w : ℕ) (e x : List ℕ) : Type 0 where
   pub long : length x ≡ length e
-  pub made : n + w ≤ mostNodes → (l : List ℕ) → length l ≡ w * nodeSlotLength → pasted x (1 + start * nodeSlotLength) l ≡ pasted e (1 + start * nodeSlotLength) (l ++ drop (1 + start * nodeSlotLength) (take (1 + n * nodeSlotLength) e))
+  pub made : n + w ≤ mostNodes → (l : List ℕ) → length l ≡ w * nodeSlotLength
+      → pasted x (1 + start * nodeSlotLength) l ≡ pasted e (1 + start * nodeSlotLength) (l ++ drop (1 + start * nodeSlotLength) (take (1 + n * nodeSlotLength) e))
 
 -- The nodes from `start` up to n stand between two lists of nodes, of w nodes together, in the bytes x.
 pub record NodesEnclosed (start n w : ℕ) (before behind e x : List ℕ) : Type 0 where

@@ -7,7 +7,8 @@ use lib.Dec.{leb, eqb}
 use lib.ListN.{getD, take, drop}
 use Rattle.actl.specs.Sizes.{mostNodes, nodeSlotLength, formulaLength}
 use Rattle.columns.specs.Bytes.{sameBytes}
-use Rattle.lts.specs.inner.Lists.{upFrom, every}
+use Rattle.lts.specs.inner.Lists.{upFrom}
+use Rattle.lts.specs.Lists.{every}
 use Rattle.actl.specs.Actions.{silent, labels}
 use Rattle.actl.specs.Formulas.{Formula, tru, not, or, ex, ax, eu, euThen, size, nodes, classOf}
 use Rattle.actl.specs.Prepared.{Slot, formulaBytes, slot, slotOf, slotWithin}

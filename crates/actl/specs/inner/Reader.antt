@@ -1,4 +1,5 @@
--- The executable twin of `Text` (../Grammatical.antt), byte by byte: `read-text` (proofs/Grammar.antt) says that it accepts exactly the grammatical texts.
+-- The executable twin of `Text` (../Grammatical.antt), a byte at a time: `read-text` (proofs/Grammar.antt) says that it accepts exactly the grammatical
+-- texts. A context is what was read before a place, inside out; its last number is the blanks read since the last token.
 use mathlib.Core.Path.{_≡_, refl}
 use mathlib.Core.Bool.{Bool, true, false, cond}
 use mathlib.Core.List.{List, [], _∷_, _++_}
@@ -6,7 +7,8 @@ use Prim.Native.Nat.{ℕ, zero, suc, _-_}
 use lib.Dec.{eqb}
 use lib.ListN.{length}
 use Rattle.lts.specs.Names.{isName}
-use Rattle.actl.specs.Grammar.{Name, Set, operand, union, Operand, name, any, received, sent, except, group, dot, set, Quantifier, existential, universal, Head, next, until, untilThen, reach, labelled, Disjunction, conjunction, or, Conjunction, term, and, Term, tru, not, modal, paren}
+use Rattle.actl.specs.Grammar.{Name, Set, operand, union, Operand, name, any, received, sent, except, group, dot, set, Quantifier, existential, universal, Head}
+use Rattle.actl.specs.Grammar.{next, until, untilThen, reach, labelled, Disjunction, conjunction, or, Conjunction, term, and, Term, tru, not, modal, paren}
 
 mutual
   pub data InDisjunction : Type 0 where

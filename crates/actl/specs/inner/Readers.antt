@@ -13,12 +13,14 @@ use Rattle.lts.specs.inner.Prepared.{tableIn}
 use Rattle.lts.specs.inner.HoldsTable.{HoldsTable}
 use Rattle.actl.specs.Actions.{Action, Mask, Cond}
 use Rattle.actl.specs.Formulas.{size}
-use Rattle.actl.specs.Grammar.{gap, Set, Operand, Condition, Quantifier, existential, universal, Head, next, until, untilThen, reach, labelled, Disjunction, Term, showS, showO, showC, showH, showF, showT}
-use Rattle.actl.specs.inner.Reader.{oFirst, InTerm, tFirst, tModal, termAt, afterNext, afterUntil, afterFirst, second, third, operandAt, afterSet, afterDisjunction, plugO, plugT, read, whole, refused}
-use Rattle.actl.specs.Mentions.{Mention, namesS, namesO, namesC, namesH, namesF, namesT}
+use Rattle.actl.specs.Grammar.{Set, Operand, Condition, Quantifier, existential, universal, Head, next, until, untilThen, reach, labelled, Disjunction, Term}
+use Rattle.actl.specs.inner.Show.{gap, showS, showO, showC, showH, showF, showT}
+use Rattle.actl.specs.inner.Reader.{oFirst, InTerm, tFirst, tModal, termAt, afterNext, afterUntil, afterFirst, second, third, operandAt, afterSet, afterDisjunction}
+use Rattle.actl.specs.inner.Reader.{plugO, plugT, read, whole, refused}
+use Rattle.actl.specs.inner.Mentions.{Mention, namesS, namesO, namesC, namesH, namesF, namesT, firstUnknown}
 use Rattle.actl.specs.Meaning.{labelsOf, actionOfOperand, maskIn, condOf}
 use Rattle.actl.specs.inner.Meaning.{formulaF, formulaT}
-use Rattle.actl.specs.Reading.{unknownAt, firstUnknown}
+use Rattle.actl.specs.Reading.{unknownAt}
 use Rattle.actl.specs.Prepared.{Slot, slot, nextSlot}
 use Rattle.actl.specs.inner.NodeBytes.{bytesOfNodes, NodesWritten}
 use Rattle.actl.specs.inner.Cursor.{peek, Token, Moves, Marked}
@@ -118,7 +120,8 @@ pub record LabelledRead (N : List (List ℕ)) (s : List ℕ) (q : Quantifier) (a
   pub inside : ℕ
   pub value : Set
   pub behind : ℕ
-  pub moves : Moves s at to (λ r. second q ∷ third q ∷ gap before (91 ∷ gap inside (showS value (gap behind (93 ∷ r))))) (afterFirst q) (λ k. termAt (tModal (labelled q before inside value behind) k 0))
+  pub moves : Moves s at to (λ r. second q ∷ third q ∷ gap before (91 ∷ gap inside (showS value (gap behind (93 ∷ r))))) (afterFirst q)
+      (λ k. termAt (tModal (labelled q before inside value behind) k 0))
   pub means : mask ≡ maskIn N value
   pub lacks : left ≡ earlier lost (unknownIn N (length s) (namesS value (gap behind (93 ∷ drop to s))))
 

@@ -1,4 +1,4 @@
--- The executable twin of `Walk` (../Positions.antt): `accepts-is` (proofs/Reading.antt) makes them equal. And the words of a listing.
+-- The executable twin of `Walk` (../Positions.antt): `accepts-is` (proofs/Reading.antt) makes `accepts` equal to it. Before it, the words of a listing.
 use mathlib.Core.Path.{_≡_}
 use mathlib.Core.Bool.{Bool, true, _&&_}
 use mathlib.Core.List.{List, [], _∷_, List·Memᴰ}

@@ -5,7 +5,7 @@ use mathlib.Core.List.{List}
 use Prim.Native.Nat.{ℕ, min}
 use native.Mathlib.Omega.{arith}
 use lib.ListN.{take, replicate}
-use Rattle.explanations.specs.Sizes.{rowsLength, edgesLength}
+use Rattle.explanations.specs.inner.Sizes.{rowsLength, edgesLength}
 use Rattle.explanations.specs.inner.Sizes.{keptLength}
 use Rattle.explanations.specs.Printed.{printed, lentExplanation}
 use Rattle.explanations.specs.inner.Printed.{withLength, TextWritten}

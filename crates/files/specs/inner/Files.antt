@@ -1,4 +1,5 @@
--- What the program writes, by what it has read of its two files: the twin of `explainText`, by `files-right` (proofs/Right.antt).
+-- The executable twin of `explainText` (explanations/specs/Printed.antt): `files-right` (proofs/Right.antt) makes `filesText` equal to it, for what is
+-- read of two files of any length.
 use mathlib.Core.Path.{_≡_}
 use mathlib.Core.Bool.{cond}
 use mathlib.Core.List.{List}

@@ -4,10 +4,11 @@ use mathlib.Core.List.{List, [], _∷_}
 use Prim.Native.Nat.{ℕ, _+_}
 use lib.ListN.{length, drop, getD}
 use Rattle.actl.specs.Grammar as grammar
-use Rattle.actl.specs.Grammar.{gap, Head, existential, universal, showS, showQ, showL, showH}
+use Rattle.actl.specs.inner.Show.{gap, showS, showQ, showL, showH}
+use Rattle.actl.specs.Grammar.{Head, existential, universal}
 use Rattle.actl.specs.inner.Reader.{InTerm, tModal, oFirst, sUntil, sLabelled, State, termAt, operandAt, afterSet}
 use Rattle.actl.specs.inner.Reader.{afterFirst, afterLabelled, afterNext, afterUntil, bracketAt}
-use Rattle.actl.specs.Mentions.{namesH}
+use Rattle.actl.specs.inner.Mentions.{namesH}
 use Rattle.actl.specs.Prepared.{Slot, slot}
 use Rattle.actl.specs.inner.Cursor.{peek, Moves, Fails, Keyword}
 use Rattle.actl.specs.inner.Readers.{unknownIn, earlier, headSlots, SetRead}

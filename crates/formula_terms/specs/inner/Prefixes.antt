@@ -3,9 +3,10 @@ use mathlib.Core.Path.{_≡_}
 use mathlib.Core.List.{List, _++_}
 use Prim.Native.Nat.{ℕ, _+_, _≤_, _<_}
 use lib.ListN.{length, drop}
-use Rattle.actl.specs.Grammar.{Term, showT}
+use Rattle.actl.specs.Grammar.{Term}
+use Rattle.actl.specs.inner.Show.{showT}
 use Rattle.actl.specs.inner.Reader.{InTerm, termAt, plugT}
-use Rattle.actl.specs.Mentions.{namesT}
+use Rattle.actl.specs.inner.Mentions.{namesT}
 use Rattle.actl.specs.inner.Meaning.{formulaT}
 use Rattle.actl.specs.inner.Cursor.{peek, Token, Moves, Fails}
 use Rattle.actl.specs.inner.NodeBytes.{bytesOfNodes, NodesWritten}

@@ -18,7 +18,8 @@ use Rattle.lts.specs.Reply.{Reply, accepted, refusal, unless}
 use Rattle.lts.specs.Steps.{Step, Table}
 use Rattle.lts.specs.Names.{isName}
 use Rattle.lts.specs.Text.{headerLine, labelLine, transitionLine}
-use Rattle.lts.specs.Reading.{Line, missing, line, longer, firstLine, onLine, Header, headerOf, headerLaidOut, headerInRange, used, stepOf, stepLaidOut, stepInRange, above, atEnd, readTransitions, readLabelsWith, readTable, readTableWith}
+use Rattle.lts.specs.Reading.{Line, missing, line, longer, firstLine, onLine, Header, headerOf, headerLaidOut, headerInRange, used, stepOf, stepLaidOut}
+use Rattle.lts.specs.Reading.{stepInRange, above, atEnd, readTransitions, readLabelsWith, readTable, readTableWith}
 use Rattle.lts.specs.inner.Reading.{labelLaidOut, readLabels}
 use Rattle.lts.proofs.Booleans.{and-true-of}
 use Rattle.lts.proofs.Laws.Tests.{name-shape, counts-of}
@@ -146,7 +147,8 @@ unfolding readTransitions
 transitions-bounded h names zero steps m text g = end-bounded _ m text _ (omega arith)
 transitions-bounded h names (suc left) steps m text g =
     line-bounded (2 + length names + length steps) 18 m stepLaidOut
-    (λ l rest. unless (stepInRange h (stepOf l)) 2 (2 + length names + length steps) (unless (above steps (stepOf l)) 4 (2 + length names + length steps) (readTransitions h names left (steps ++ (stepOf l ∷ [])) rest)))
+    (λ l rest. unless (stepInRange h (stepOf l)) 2 (2 + length names + length steps)
+    (unless (above steps (stepOf l)) 4 (2 + length names + length steps) (readTransitions h names left (steps ++ (stepOf l ∷ [])) rest)))
     step-narrow (omega arith)
     (λ l rest e. ap (λ r. unless (stepInRange h (stepOf l)) 2 (2 + length names + length steps) (unless (above steps (stepOf l)) 4 (2 + length names + length steps) r))
     (transitions-bounded h names left (steps ++ (stepOf l ∷ [])) (m - suc (length l)) rest (omega (arith, step-narrow l e))))

@@ -7,7 +7,8 @@ use native.Mathlib.Omega.{arith}
 use lib.ListN.{length, getD, take, drop, take-append-drop}
 use lib.Seq.{getD-drop}
 use Rattle.lts.specs.inner.Sizes.{headLength, transitionsAt}
-use Rattle.lts.specs.Sizes.{nameSlotLength, transitionLength, namesLength, transitionsLength, tableLength}
+use Rattle.lts.specs.Sizes.{nameSlotLength, transitionLength, tableLength}
+use Rattle.lts.specs.inner.Sizes.{namesLength, transitionsLength}
 use Rattle.columns.specs.Bytes.{padded}
 use Rattle.lts.specs.Lists.{bind}
 use Rattle.lts.specs.Names.{isName}

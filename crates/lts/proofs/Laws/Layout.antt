@@ -61,7 +61,8 @@ module _ (s : List ℕ) (at : ℕ) where
       transitionLine t,
       record {
         is-line = ap firstLine transition-text ∙ line-here (transitionLine t) (drop (at + 19) s)
-            (each-append NoEnd (column (t .from)) (column (t .label) ++ column (t .to)) (no-end (t .from)) (each-append NoEnd (column (t .label)) (column (t .to)) (no-end (t .label)) (no-end (t .to))));
+            (each-append NoEnd (column (t .from)) (column (t .label) ++ column (t .to)) (no-end (t .from))
+            (each-append NoEnd (column (t .label)) (column (t .to)) (no-end (t .label)) (no-end (t .to))));
         laid-out = same-of-equal (transitionLine t) (transitionLine (stepOf (transitionLine t))) (ap transitionLine (sym transition-values));
         within = omega (arith, byte-within s (at + 18) 10 (omega arith) e);
       },

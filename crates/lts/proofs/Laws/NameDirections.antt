@@ -89,7 +89,8 @@ module _ (s : List ℕ) (from end : ℕ) (e : end ≡ stemEnd s from) where
     pub bare-read : markLength (drop end s) ≡ 0 → (end ≡ nameEnd s from) × (neither ≡ nameDirection s from)
     bare-read z =
         let none : markLength (drop (stemLength t) t) ≡ 0 = ap markLength here ∙ z in
-        let name : take (nameLength t) t ≡ take (stemLength t) t = name-split t some-stem ∙ (ap (λ n. take (stemLength t) t ++ take n (drop (stemLength t) t)) none ∙ append-nil (take (stemLength t) t)) in
+        let name : take (nameLength t) t ≡ take (stemLength t) t =
+        name-split t some-stem ∙ (ap (λ n. take (stemLength t) t ++ take n (drop (stemLength t) t)) none ∙ append-nil (take (stemLength t) t)) in
         (omega (arith, length-split t some-stem), sym (ap directionOf name ∙ direction-unmarked (take (stemLength t) t) is-stem))
 
     pub mark-read : (b : ℕ) → end < length s → getD s end 0 ≡ b → isMark b ≡ true → (end + 1 ≡ nameEnd s from) × (directionOfMark b ≡ nameDirection s from)

@@ -54,7 +54,14 @@ at-most-parts (suc n) (b ∷ l) e = case (at-most-parts n l) (or-true-of (isLast
 
     longer : isNameByte b ≡ true → AtMost n l ⊎ MarkedBy (AtMost n) l → AtMost (suc n) (b ∷ l) ⊎ MarkedBy (AtMost (suc n)) (b ∷ l)
     longer d (inl h) = inl (and-true-to (isNameByte b) (atMost unmarked n l) d h)
-    longer d (inr h) = inr (record { stem = b ∷ h .stem; mark = h .mark; is-stem = and-true-to (isNameByte b) (atMost unmarked n (h .stem)) d (h .is-stem); is-mark = h .is-mark; parts = ap (λ t. b ∷ t) (h .parts) })
+    longer d (inr h) = inr (record {
+      stem = b ∷ h .stem;
+      mark = h .mark;
+      is-stem = and-true-to (isNameByte b) (atMost unmarked n (h .stem)) d (h .is-stem);
+      is-mark =
+          h .is-mark;
+      parts = ap (λ t. b ∷ t) (h .parts);
+    })
 
     case : (atMost marked n l ≡ true → AtMost n l ⊎ MarkedBy (AtMost n) l) → (isLastMark marked b l ≡ true) ⊎ ((isNameByte b && atMost marked n l) ≡ true)
         → AtMost (suc n) (b ∷ l) ⊎ MarkedBy (AtMost (suc n)) (b ∷ l)
@@ -70,7 +77,14 @@ name-parts (b ∷ l) e = let p = and-true-of (isLower b) (atMost marked 11 l) e 
   where
     join : isLower b ≡ true → AtMost 11 l ⊎ MarkedBy (AtMost 11) l → IsStem (b ∷ l) ⊎ MarkedBy IsStem (b ∷ l)
     join d (inl h) = inl (and-true-to (isLower b) (atMost unmarked 11 l) d h)
-    join d (inr h) = inr (record { stem = b ∷ h .stem; mark = h .mark; is-stem = and-true-to (isLower b) (atMost unmarked 11 (h .stem)) d (h .is-stem); is-mark = h .is-mark; parts = ap (λ t. b ∷ t) (h .parts) })
+    join d (inr h) = inr (record {
+      stem = b ∷ h .stem;
+      mark = h .mark;
+      is-stem = and-true-to (isLower b) (atMost unmarked 11 (h .stem)) d (h .is-stem);
+      is-mark =
+          h .is-mark;
+      parts = ap (λ t. b ∷ t) (h .parts);
+    })
 
 -- And both are names.
 at-most-marked : (n : ℕ) (l : List ℕ) (m : ℕ) → isMark m ≡ true → AtMost n l → atMost marked n (l ++ (m ∷ [])) ≡ true

@@ -6,7 +6,7 @@ use native.Mathlib.Numerals.{add-one}
 use native.Mathlib.Omega.{arith}
 use lib.ListN.{length, set, take, drop, length-append}
 use lib.Seq.{take-suc-set, drop-set-lt, append-snoc, take-at, drop-append-add, drop-drop}
-use Rattle.lts.specs.Sizes.{namesLength, transitionsLength}
+use Rattle.lts.specs.inner.Sizes.{namesLength, transitionsLength}
 use Rattle.lts.specs.inner.Sizes.{transitionsAt}
 use Rattle.lts.specs.Reply.{overwritten}
 use Rattle.columns.specs.inner.Write.{pasted}

@@ -48,7 +48,8 @@ module _ (h : Header) (names : List (List ℕ)) (left : ℕ) (steps : List Step)
       → readTransitions h names (suc left) steps text ≡ readTransitions h names left (steps ++ (stepOf l ∷ [])) rest
   unfolding readTransitions
   transition-read text l rest e p q r =
-      ap (λ (f : Line). onLine number f (λ k m. unless (stepLaidOut k) 1 number (unless (stepInRange h (stepOf k)) 2 number (unless (above steps (stepOf k)) 4 number (readTransitions h names left (steps ++ (stepOf k ∷ [])) m))))) e
+      ap (λ (f : Line). onLine number f (λ k m. unless (stepLaidOut k) 1 number
+      (unless (stepInRange h (stepOf k)) 2 number (unless (above steps (stepOf k)) 4 number (readTransitions h names left (steps ++ (stepOf k ∷ [])) m))))) e
       ∙ (unless-to (stepLaidOut l) 1 number _ p ∙ (unless-to (stepInRange h (stepOf l)) 2 number _ q ∙ unless-to (above steps (stepOf l)) 4 number _ r))
 
   pub record TransitionRead (text : List ℕ) (t : Table) : Type 0 where

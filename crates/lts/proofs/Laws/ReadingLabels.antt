@@ -34,7 +34,8 @@ module _ (h : Header) (left : ℕ) (names : List (List ℕ)) where
       → readLabels h (suc left) names text ≡ readLabels h left (names ++ (drop 7 l ∷ [])) rest
   unfolding readLabelsWith
   label-read text l rest e p q r =
-      ap (λ (f : Line). onLine number f (λ k m. unless (labelLaidOut k) 1 number (unless (eqb (valueAt 0 k) (suc (length names))) 2 number (unless (not (used names (drop 7 k))) 3 number (readLabels h left (names ++ (drop 7 k ∷ [])) m))))) e
+      ap (λ (f : Line). onLine number f (λ k m. unless (labelLaidOut k) 1 number
+      (unless (eqb (valueAt 0 k) (suc (length names))) 2 number (unless (not (used names (drop 7 k))) 3 number (readLabels h left (names ++ (drop 7 k ∷ [])) m))))) e
       ∙ (unless-to (labelLaidOut l) 1 number _ p ∙ (unless-to (eqb (valueAt 0 l) (suc (length names))) 2 number _ q ∙ unless-to (not (used names (drop 7 l))) 3 number _ r))
 
   pub record LabelRead (text : List ℕ) (t : Table) : Type 0 where

@@ -10,7 +10,8 @@ use lib.ListN.{length, drop}
 use Rattle.columns.specs.Columns.{valueAt}
 use Rattle.lts.specs.Reply.{Reply, accepted, refusal, unless, answers}
 use Rattle.lts.specs.Steps.{Step, Table}
-use Rattle.lts.specs.Reading.{Line, missing, line, firstLine, onLine, Header, headerOf, headerLaidOut, headerInRange, used, stepOf, stepLaidOut, stepInRange, above, readTransitions, readLabelsWith, readTable, readTableWith}
+use Rattle.lts.specs.Reading.{Line, missing, line, firstLine, onLine, Header, headerOf, headerLaidOut, headerInRange, used, stepOf, stepLaidOut, stepInRange, above}
+use Rattle.lts.specs.Reading.{readTransitions, readLabelsWith, readTable, readTableWith}
 use Rattle.lts.specs.inner.Reading.{labelLaidOut, readLabels}
 
 abbrev pub Numbered : {A : Type 0} → (ℕ → Type 0) → Reply A → Type 0

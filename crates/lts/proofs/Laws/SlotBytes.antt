@@ -7,10 +7,12 @@ use native.Mathlib.Nat.{add-zero, zero-add}
 use native.Mathlib.Omega.{arith}
 use lib.ListN.{length, getD, take, drop, replicate, length-append, length-replicate, replicate-append-replicate}
 use lib.Seq.{take-append-seam, drop-append-add, take-at, drop-at, drop-drop, getD-drop}
-use Rattle.lts.specs.Sizes.{mostLabels, mostTransitions, nameSlotLength, transitionLength, namesLength, transitionsLength}
+use Rattle.lts.specs.Sizes.{mostLabels, mostTransitions, nameSlotLength, transitionLength}
+use Rattle.lts.specs.inner.Sizes.{namesLength, transitionsLength}
 use Rattle.columns.specs.Bytes.{padded}
 use Rattle.columns.specs.inner.Write.{pasted}
-use Rattle.lts.specs.inner.Lists.{upFrom, every}
+use Rattle.lts.specs.inner.Lists.{upFrom}
+use Rattle.lts.specs.Lists.{every}
 use Rattle.lts.specs.Lists.{bind}
 use Rattle.lts.specs.Steps.{Step}
 use Rattle.lts.specs.Names.{isName, lookup}
@@ -73,7 +75,8 @@ stored-slot b j name z e =
     let rest : drop (j * nameSlotLength + 1) b ≡ (name ++ replicate (16 - length (counted name)) 0) ++ z = sym (drop-drop 1 (j * nameSlotLength) b) ∙ ap (drop 1) e in
     ap₂ take size (rest ∙ append-assoc name (replicate (16 - length (counted name)) 0) z) ∙ take-at name (replicate (16 - length (counted name)) 0 ++ z) (length name) refl
 
-stored-from : (b : List ℕ) (j : ℕ) (names : List (List ℕ)) (z : List ℕ) → every isName names ≡ true → drop (j * nameSlotLength) b ≡ bind nameSlot names ++ z → map (storedName b) (upFrom j (length names)) ≡ names
+stored-from : (b : List ℕ) (j : ℕ) (names : List (List ℕ)) (z : List ℕ) → every isName names ≡ true → drop (j * nameSlotLength) b ≡ bind nameSlot names ++ z
+    → map (storedName b) (upFrom j (length names)) ≡ names
 stored-from b j [] z e d = refl
 stored-from b j (n ∷ names) z e d =
     let f = and-true-of (isName n) (every isName names) e in
@@ -101,7 +104,8 @@ steps-length : (steps : List Step) → length (bind transitionSlot steps) ≡ le
 steps-length [] = refl
 steps-length (x ∷ steps) = let d = steps-length steps in omega arith
 
-pub step-written : (steps : List Step) (st : Step) (k : ℕ) → length steps ≡ k → k < mostTransitions → pasted (stepBytes steps) (k * transitionLength) (transitionSlot st) ≡ stepBytes (steps ++ (st ∷ []))
+pub step-written : (steps : List Step) (st : Step) (k : ℕ) → length steps ≡ k → k < mostTransitions
+    → pasted (stepBytes steps) (k * transitionLength) (transitionSlot st) ≡ stepBytes (steps ++ (st ∷ []))
 step-written steps st k c h =
     let long : length (bind transitionSlot steps) ≡ k * transitionLength = steps-length steps ∙ ap (λ n. n * transitionLength) c in
     ap (λ i. pasted (stepBytes steps) i (transitionSlot st)) (sym long)
@@ -115,7 +119,8 @@ stored-step b j x z e =
     let to : getD b (j * transitionLength + 2) 0 ≡ x .to = sym (getD-drop (j * transitionLength) b 2 0) ∙ ap (λ l. getD l 2 0) e in
     λ i. record { from = from i; label = label i; to = to i }
 
-last-from : (b : List ℕ) (j : ℕ) (x : Step) (l : List Step) (z : List ℕ) (st : Step) → drop (j * transitionLength) b ≡ bind transitionSlot (x ∷ l) ++ z → stepBelow (storedStep b (j + length l)) st ≡ above (x ∷ l) st
+last-from : (b : List ℕ) (j : ℕ) (x : Step) (l : List Step) (z : List ℕ) (st : Step) → drop (j * transitionLength) b ≡ bind transitionSlot (x ∷ l) ++ z
+    → stepBelow (storedStep b (j + length l)) st ≡ above (x ∷ l) st
 last-from b j x [] z st e = let here : storedStep b (j + 0) ≡ x = ap (storedStep b) (add-zero j) ∙ stored-step b j x z e in ap (λ y. stepBelow y st) here
 last-from b j x (y ∷ l) z st e =
     let next : j * transitionLength + transitionLength ≡ suc j * transitionLength = omega arith in
@@ -127,7 +132,8 @@ pub rises-above : (steps : List Step) (st : Step) → risesAfter (stepBytes step
 unfolding risesAfter
 rises-above [] st = refl
 rises-above (x ∷ l) st =
-    ap (λ p. stepBelow (storedStep (stepBytes (x ∷ l)) p) st) (sym (zero-add (length l))) ∙ last-from (stepBytes (x ∷ l)) 0 x l (replicate (transitionsLength - length (bind transitionSlot (x ∷ l))) 0) st refl
+    ap (λ p. stepBelow (storedStep (stepBytes (x ∷ l)) p) st) (sym (zero-add (length l)))
+    ∙ last-from (stepBytes (x ∷ l)) 0 x l (replicate (transitionsLength - length (bind transitionSlot (x ∷ l))) 0) st refl
 
 pub rises-stored : (b : List ℕ) (count : ℕ) (steps : List Step) (st : Step) → length steps ≡ count → b ≡ stepBytes steps → risesAfter b count st ≡ above steps st
 rises-stored b count steps st c k = ap₂ (λ x n. risesAfter x n st) k (sym c) ∙ rises-above steps st

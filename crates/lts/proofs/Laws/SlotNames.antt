@@ -9,7 +9,8 @@ use borrow.Author.Tests.{leb-true, leb-false}
 use lib.Dec.{leb}
 use lib.ListN.{length, getD, take, drop, length-take, length-drop, take-append-drop}
 use lib.Seq.{length-take-le, getD-take, getD-drop, ext-getD, drop-cons, drop-drop}
-use Rattle.lts.specs.Sizes.{mostLabels, nameSlotLength, namesLength, tableLength}
+use Rattle.lts.specs.Sizes.{mostLabels, nameSlotLength, tableLength}
+use Rattle.lts.specs.inner.Sizes.{namesLength}
 use Rattle.lts.specs.inner.Sizes.{headLength}
 use Rattle.columns.specs.Bytes.{sameBytes}
 use Rattle.columns.proofs.Laws.Compared.{same-of-unequal}
@@ -47,11 +48,13 @@ module _ (b : List ℕ) (long : tableLength ≤ length b) where
     pub name-length : byteAt b (headLength + k * nameSlotLength) < 256 → length (nameAt b k) ≡ byteAt b (headLength + k * nameSlotLength)
     name-length small = length-take-le size (drop at b) (omega (arith, length-drop at b))
 
-    pub name-few : byteAt b (headLength + k * nameSlotLength) < 256 → isName (nameAt b k) ≡ true → (1 ≤ byteAt b (headLength + k * nameSlotLength)) × (byteAt b (headLength + k * nameSlotLength) ≤ longestName)
+    pub name-few : byteAt b (headLength + k * nameSlotLength) < 256 → isName (nameAt b k) ≡ true
+        → (1 ≤ byteAt b (headLength + k * nameSlotLength)) × (byteAt b (headLength + k * nameSlotLength) ≤ longestName)
     name-few small e = omega (arith, name-length small, name-short (nameAt b k) e .0, name-short (nameAt b k) e .1)
 
     -- A slot holds a name exactly if the longest name there ends where the slot says, and zeros follow.
-    pub held-end : byteAt b (headLength + k * nameSlotLength) < 256 → NameHeld b k → nameEnd b (headLength + 1 + k * nameSlotLength) ≡ (headLength + 1 + k * nameSlotLength) + byteAt b (headLength + k * nameSlotLength)
+    pub held-end : byteAt b (headLength + k * nameSlotLength) < 256 → NameHeld b k
+        → nameEnd b (headLength + 1 + k * nameSlotLength) ≡ (headLength + 1 + k * nameSlotLength) + byteAt b (headLength + k * nameSlotLength)
     held-end small h =
         let fits = name-few small (h .name) in
         let behind : drop (at + size) b ≡ 0 ∷ drop (suc (at + size)) b =
@@ -60,7 +63,8 @@ module _ (b : List ℕ) (long : tableLength ≤ length b) where
         let run : nameLength (drop at b) ≡ size = ap nameLength parts ∙ (name-is-run 0 (drop (suc (at + size)) b) refl refl (nameAt b k) (h .name) ∙ name-length small) in
         ap (λ n. at + n) run
 
-    pub end-held : nameEnd b (headLength + 1 + k * nameSlotLength) ≡ (headLength + 1 + k * nameSlotLength) + byteAt b (headLength + k * nameSlotLength) → (nameEnd b (headLength + 1 + k * nameSlotLength) ≡ headLength + 1 + k * nameSlotLength → ⊥) → isName (nameAt b k) ≡ true
+    pub end-held : nameEnd b (headLength + 1 + k * nameSlotLength) ≡ (headLength + 1 + k * nameSlotLength) + byteAt b (headLength + k * nameSlotLength)
+        → (nameEnd b (headLength + 1 + k * nameSlotLength) ≡ headLength + 1 + k * nameSlotLength → ⊥) → isName (nameAt b k) ≡ true
     end-held e longer =
         let run : nameLength (drop at b) ≡ size = omega arith in
         ap (λ n. isName (take n (drop at b))) (sym run) ∙ run-is-name (drop at b) (omega (arith, longer)) .1
@@ -86,7 +90,8 @@ module _ (b : List ℕ) (long : tableLength ≤ length b) where
         case true e =
             let h = leb-true (size k few) longestName e in
             ap (λ l. sameBytes l name) (ap (λ n. take n (drop (k * nameSlotLength + 1) slots)) first
-            ∙ prefix-same (size k few) (drop (k * nameSlotLength + 1) slots) (drop (at k few) b) (omega (arith, length-drop (k * nameSlotLength + 1) slots, slots-length)) (omega (arith, length-drop (at k few) b))
+            ∙ prefix-same (size k few) (drop (k * nameSlotLength + 1) slots) (drop (at k few) b) (omega (arith, length-drop (k * nameSlotLength + 1) slots, slots-length))
+            (omega (arith, length-drop (at k few) b))
             (λ i l.
             let place : headLength + (k * nameSlotLength + 1 + i) ≡ headLength + 1 + k * nameSlotLength + i = omega arith in
             getD-drop (k * nameSlotLength + 1) slots i 0 ∙ (slot-byte (k * nameSlotLength + 1 + i) (omega arith) ∙ (ap (byteAt b) place ∙ sym (getD-drop (at k few) b i 0)))))

@@ -7,7 +7,8 @@ use native.Mathlib.Omega.{arith}
 use lib.ListN.{length, getD, take, drop, replicate, length-append}
 use lib.Seq.{take-append-seam, drop-at, drop-drop, getD-drop, ext-getD}
 use Rattle.lts.specs.inner.Sizes.{headLength, transitionsAt}
-use Rattle.lts.specs.Sizes.{nameSlotLength, transitionLength, namesLength, transitionsLength, tableLength}
+use Rattle.lts.specs.Sizes.{nameSlotLength, transitionLength, tableLength}
+use Rattle.lts.specs.inner.Sizes.{namesLength, transitionsLength}
 use Rattle.columns.specs.Bytes.{lowFirst}
 use Rattle.columns.proofs.Laws.Bytes.{Bytes, bytes-none, bytes-cons, bytes-append, padded-length, padded-bytes, lowFirst-bytes, pair-value}
 use Rattle.lts.specs.inner.Lists.{upFrom}

@@ -9,14 +9,15 @@ use lib.Dec.{eqb}
 use lib.ListN.{length, take, drop}
 use Rattle.columns.specs.Bytes.{sameBytes}
 use Rattle.columns.specs.Columns.{valueAt}
-use Rattle.lts.specs.inner.Lists.{every}
+use Rattle.lts.specs.Lists.{every}
 use Rattle.lts.specs.Reply.{Reply, refusal, unless}
 use Rattle.lts.specs.Steps.{Table}
 use Rattle.lts.specs.Marks.{Marks, unmarked, marked, isMark}
 use Rattle.lts.specs.Names.{isNameWith, isName}
 use Rattle.lts.specs.Directions.{Plain}
 use Rattle.lts.specs.Text.{labelLine}
-use Rattle.lts.specs.Reading.{Line, missing, line, longer, firstLine, onLine, Header, headerOf, headerLaidOut, headerInRange, labelLaidOutWith, used, readTransitions, readLabelsWith, readTableWith}
+use Rattle.lts.specs.Reading.{Line, missing, line, longer, firstLine, onLine, Header, headerOf, headerLaidOut, headerInRange, labelLaidOutWith, used}
+use Rattle.lts.specs.Reading.{readTransitions, readLabelsWith, readTableWith}
 use Rattle.lts.proofs.Booleans.{and-true-of, and-true-to, not-false}
 use Rattle.lts.proofs.Laws.NameRuns.{IsStem, MarkedBy, name-parts, stem-named}
 
@@ -103,8 +104,12 @@ unfolding readLabelsWith
 labels-same h zero names text p = refl
 labels-same h (suc left) names text p =
     on-line-same (2 + length names) text
-    (λ l rest. unless (labelLaidOutWith unmarked l) 1 (2 + length names) (unless (eqb (valueAt 0 l) (suc (length names))) 2 (2 + length names) (unless (not (used names (drop 7 l))) 3 (2 + length names) (readLabelsWith unmarked h left (names ++ (drop 7 l ∷ [])) rest))))
-    (λ l rest. unless (labelLaidOutWith marked l) 1 (2 + length names) (unless (eqb (valueAt 0 l) (suc (length names))) 2 (2 + length names) (unless (not (used names (drop 7 l))) 3 (2 + length names) (readLabelsWith marked h left (names ++ (drop 7 l ∷ [])) rest))))
+    (λ l rest. unless (labelLaidOutWith unmarked l) 1 (2 + length names)
+    (unless (eqb (valueAt 0 l) (suc (length names))) 2 (2 + length names)
+    (unless (not (used names (drop 7 l))) 3 (2 + length names) (readLabelsWith unmarked h left (names ++ (drop 7 l ∷ [])) rest))))
+    (λ l rest. unless (labelLaidOutWith marked l) 1 (2 + length names)
+    (unless (eqb (valueAt 0 l) (suc (length names))) 2 (2 + length names)
+    (unless (not (used names (drop 7 l))) 3 (2 + length names) (readLabelsWith marked h left (names ++ (drop 7 l ∷ [])) rest))))
     p (λ l rest q r. ap₂ (λ t x. unless t 1 (2 + length names) (unless (eqb (valueAt 0 l) (suc (length names))) 2 (2 + length names) (unless (not (used names (drop 7 l))) 3 (2 + length names) x)))
     (laid-out-same l q) (labels-same h left (names ++ (drop 7 l ∷ [])) rest r))
 

@@ -8,7 +8,8 @@ use native.Mathlib.Nat.{add-zero}
 use native.Mathlib.Omega.{arith}
 use lib.ListN.{length, getD, take, drop, replicate, length-drop}
 use lib.Seq.{take-add, drop-drop, drop-cons, getD-drop}
-use Rattle.lts.specs.Sizes.{mostLabels, mostTransitions, nameSlotLength, transitionLength, namesLength, transitionsLength, tableLength}
+use Rattle.lts.specs.Sizes.{mostLabels, mostTransitions, nameSlotLength, transitionLength, tableLength}
+use Rattle.lts.specs.inner.Sizes.{namesLength, transitionsLength}
 use Rattle.lts.specs.inner.Sizes.{headLength, transitionsAt}
 use Rattle.columns.specs.Bytes.{lowFirst}
 use Rattle.columns.proofs.Laws.Bytes.{pair-bytes}
@@ -80,11 +81,13 @@ module _ (b : List ℕ) (w : WellFormed b) where
         let behind : List ℕ = drop (headLength + 1 + k * nameSlotLength) b in
         let room : size + (15 - size) ≤ length behind = omega (arith, length-drop (headLength + 1 + k * nameSlotLength) b, w .long) in
         let next : suc (headLength + k * nameSlotLength) ≡ headLength + 1 + k * nameSlotLength = omega arith in
-        let cut : drop (k * nameSlotLength) (drop 6 b) ≡ size ∷ behind = drop-drop (k * nameSlotLength) 6 b ∙ (drop-cons b (headLength + k * nameSlotLength) 0 (omega (arith, w .long)) ∙ ap (λ (j : ℕ). size ∷ drop j b) next) in
+        let cut : drop (k * nameSlotLength) (drop 6 b) ≡ size ∷ behind =
+        drop-drop (k * nameSlotLength) 6 b ∙ (drop-cons b (headLength + k * nameSlotLength) 0 (omega (arith, w .long)) ∙ ap (λ (j : ℕ). size ∷ drop j b) next) in
         let parts : size + (15 - size) ≡ 15 = omega arith in
         let zeros : take (15 - size) (drop size behind) ≡ replicate (15 - size) 0
         = take-zeros (15 - size) (drop size behind) (omega (arith, length-drop size behind))
-        (λ i l. getD-drop size behind i 0 ∙ (getD-drop (headLength + 1 + k * nameSlotLength) b (size + i) 0 ∙ held .behind ((headLength + 1 + k * nameSlotLength) + (size + i)) (omega arith) (omega arith))) in
+        (λ i l. getD-drop size behind i 0 ∙ (getD-drop (headLength + 1 + k * nameSlotLength) b (size + i) 0
+        ∙ held .behind ((headLength + 1 + k * nameSlotLength) + (size + i)) (omega arith) (omega arith))) in
         let tail : take 15 behind ≡ nameAt b k ++ replicate (15 - size) 0
         = ap (λ (m : ℕ). take m behind) (sym parts) ∙ (take-add size (15 - size) behind ∙ ap (λ (l : List ℕ). nameAt b k ++ l) zeros) in
         let left : 15 - size ≡ 16 - suc (length (nameAt b k)) = omega arith in

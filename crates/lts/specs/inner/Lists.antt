@@ -1,5 +1,5 @@
 -- Lists that the executable definitions are made of: the numbers from k, the members that pass a test, one list or another.
-use mathlib.Core.Bool.{Bool, true, false, _&&_}
+use mathlib.Core.Bool.{Bool, true, false}
 use mathlib.Core.List.{List, [], _∷_}
 use Prim.Native.Nat.{ℕ, zero, suc}
 
@@ -15,10 +15,6 @@ module _ {A : Type 0} where
   abbrev pub keep : (A → Bool) → List A → List A
   keep p [] = []
   keep p (x ∷ l) = consIf (p x) x (keep p l)
-
-  abbrev pub every : (A → Bool) → List A → Bool
-  every p [] = true
-  every p (x ∷ l) = p x && every p l
 
   abbrev pub orElse : List A → List A → List A
   orElse [] d = d

@@ -22,7 +22,12 @@ abbrev pub nameAt : List ℕ → ℕ → List ℕ
 nameAt b k = take (byteAt b (headLength + k * nameSlotLength)) (drop (headLength + 1 + k * nameSlotLength) b)
 
 abbrev pub transitionAt : List ℕ → ℕ → Step
-transitionAt b k = record { from = byteAt b (transitionsAt + k * transitionLength); label = byteAt b ((transitionsAt + 1) + k * transitionLength); to = byteAt b ((transitionsAt + 2) + k * transitionLength) }
+transitionAt b k = record {
+  from = byteAt b (transitionsAt + k * transitionLength);
+  label = byteAt b ((transitionsAt + 1) + k * transitionLength);
+  to =
+      byteAt b ((transitionsAt + 2) + k * transitionLength);
+}
 
 unfoldable pub tableIn : List ℕ → Table
 tableIn b = record {

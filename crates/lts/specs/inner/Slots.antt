@@ -3,7 +3,8 @@ use mathlib.Core.Bool.{Bool, true}
 use mathlib.Core.List.{List, [], _∷_, _++_, map}
 use Prim.Native.Nat.{ℕ, zero, suc, _+_, _*_}
 use lib.ListN.{length, getD, take, drop}
-use Rattle.lts.specs.Sizes.{nameSlotLength, transitionLength, namesLength, transitionsLength}
+use Rattle.lts.specs.Sizes.{nameSlotLength, transitionLength}
+use Rattle.lts.specs.inner.Sizes.{namesLength, transitionsLength}
 use Rattle.columns.specs.Bytes.{padded, lowFirst}
 use Rattle.lts.specs.inner.Lists.{upFrom}
 use Rattle.lts.specs.Lists.{bind}

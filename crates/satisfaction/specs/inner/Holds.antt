@@ -4,7 +4,7 @@ use mathlib.Core.Bool.{Bool, true, cond, not as negate, _&&_, _||_}
 use Prim.Native.Nat.{ℕ, zero, suc}
 use lib.ListN.{length}
 use Rattle.lts.specs.Lists.{anyOf}
-use Rattle.lts.specs.inner.Lists.{every}
+use Rattle.lts.specs.Lists.{every}
 use Rattle.lts.specs.Steps.{Step, Table}
 use Rattle.lts.specs.inner.Steps.{stepsFrom}
 use Rattle.actl.specs.Actions.{Mask, inSet, meets, passes}

@@ -3,7 +3,7 @@ use mathlib.Core.Path.{_≡_, sym, ap, _∙_}
 use mathlib.Core.List.{List}
 use Prim.Native.Nat.{ℕ}
 use lib.ListN.{take, drop}
-use Rattle.lts.specs.Sizes.{namesLength}
+use Rattle.lts.specs.inner.Sizes.{namesLength}
 use Rattle.lts.specs.Names.{lookup}
 use Rattle.lts.specs.inner.Prepared.{nameAt}
 use Rattle.lts.specs.inner.Slots.{storedNames}

@@ -5,8 +5,8 @@ use mathlib.Core.List.{List, [], _∷_, _++_}
 use Prim.Native.Nat.{ℕ, suc, _+_, _-_, _<_, _≤_}
 use native.Mathlib.Omega.{arith}
 use lib.ListN.{length, drop, replicate, length-replicate, length-append, length-drop, drop-of-length-le}
-use Rattle.lts.specs.Sizes.{namesLength, transitionsLength}
-use Rattle.lts.specs.inner.Lists.{every}
+use Rattle.lts.specs.inner.Sizes.{namesLength, transitionsLength}
+use Rattle.lts.specs.Lists.{every}
 use Rattle.lts.specs.Reply.{Reply, accepted, refusal}
 use Rattle.lts.specs.Steps.{Step, Table}
 use Rattle.lts.specs.Names.{isName}

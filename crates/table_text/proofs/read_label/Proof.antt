@@ -11,7 +11,7 @@ use Rattle.table_text.proofs.Laws.Progress.{label-refused, label-out-of
 use Rattle.lts.proofs.Laws.SlotBytes.{name-written, used-stored}
 use Rattle.lts.proofs.Laws.NameRuns.{name-short}
 use Rattle.lts.proofs.Booleans.{and-true-of}
-use Rattle.lts.specs.inner.Lists.{every}
+use Rattle.lts.specs.Lists.{every}
 use Rattle.lts.specs.inner.Slots.{counted, nameBytes}
 use Rattle.lts.specs.inner.Lines.{Labelled}
 use Rattle.table_lines.specs.inner.LineReplies.{LabelAnswer}

@@ -5,7 +5,7 @@ use Prim.Native.Nat.{ℕ, _+_, _-_}
 use lib.ListN.{length}
 use borrow.Author.Needs.{needs}
 use native.Mathlib.Omega.{arith}
-use Rattle.lts.specs.Sizes.{namesLength}
+use Rattle.lts.specs.inner.Sizes.{namesLength}
 use Rattle.lts.specs.Reading.{Header}
 use Rattle.table_text.proofs.Laws.Readings.{NamesSoFar, names-start, names-refused, names-go-on, names-end}
 use Rattle.table_lines.specs.inner.LineReplies.{header}

@@ -6,7 +6,7 @@ use mathlib.Core.List.{List, [], _∷_, List·Memᴰ, List·Memᴰ·head, List·
 use Prim.Native.Nat.{ℕ, zero, suc, _<_}
 use native.Mathlib.Omega.{arith}
 use Rattle.lts.specs.Lists.{anyOf}
-use Rattle.lts.specs.inner.Lists.{every}
+use Rattle.lts.specs.Lists.{every}
 use Rattle.lts.specs.Steps.{Step, Table, IsStep}
 use Rattle.lts.specs.inner.Steps.{stepsFrom}
 use Rattle.lts.specs.inner.Range.{InRange}

@@ -9,7 +9,7 @@ use lib.ListN.{set, replicate, length-set, length-replicate}
 use lib.Seq.{getD-set-same, getD-set-other}
 use Rattle.lts.specs.Sizes.{mostStates}
 use Rattle.lts.specs.Lists.{anyOf}
-use Rattle.lts.specs.inner.Lists.{every}
+use Rattle.lts.specs.Lists.{every}
 use Rattle.lts.specs.Steps.{Step}
 use Rattle.tables.specs.inner.StepArray.{stepAt, stepsBetween}
 use Rattle.tables.proofs.Laws.StepArray.{between-next, between-over}

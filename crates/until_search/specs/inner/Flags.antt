@@ -7,7 +7,7 @@ use lib.ListN.{length, getD}
 use Rattle.actl.specs.inner.Sizes.{nodePositions}
 use Rattle.lts.specs.Sizes.{mostStates}
 use Rattle.lts.specs.Lists.{anyOf}
-use Rattle.lts.specs.inner.Lists.{every}
+use Rattle.lts.specs.Lists.{every}
 use Rattle.lts.specs.Steps.{Step, Table}
 use Rattle.lts.specs.inner.Steps.{stepsFrom}
 use Rattle.actl.specs.Actions.{Cond, inSet, meets}

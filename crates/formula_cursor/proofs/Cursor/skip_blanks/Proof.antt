@@ -3,7 +3,7 @@ use mathlib.Core.Path.{_≡_}
 use Prim.Native.Nat.{_-_, _≤_}
 use native.Mathlib.Omega.{arith}
 use lib.ListN.{length, drop}
-use Rattle.actl.specs.Grammar.{gap}
+use Rattle.actl.specs.inner.Show.{gap}
 use Rattle.formula_cursor.proofs.ReadingPlaces.{no-gap, more-gap, skipped, none-at-end, other-byte}
 use Rattle.formula_cursor.proofs.Cursor.skip_blanks.Statement.{statement}
 use Rattle.formula_cursor.proofs.Cursor.skip_blanks.Tie as tie
