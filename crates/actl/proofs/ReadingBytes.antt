@@ -43,7 +43,7 @@ pasted-over at l j e x p h w =
     let v : at + length l + (length j - length l) ≡ at + length j = omega arith in
     let g : drop (at + length j) x ≡ drop (at + length j) e =
     ap (λ n. drop n x) k ∙ (ap (drop (length u + (length j - length l))) c
-        ∙ (drop-append-add u d (length j - length l) ∙ (drop-drop (length j - length l) (at + length l) e ∙ ap (λ n. drop n e) v))) in
+    ∙ (drop-append-add u d (length j - length l) ∙ (drop-drop (length j - length l) (at + length l) e ∙ ap (λ n. drop n e) v))) in
     λ i. f i ++ (j ++ g i)
 
 -- One byte more.

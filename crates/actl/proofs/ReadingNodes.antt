@@ -103,7 +103,7 @@ module _ {e : List ℕ} (long : length e ≡ formulaLength) where
             let u = length-take-le i f (omega (arith, p .ends)) in
             let t : length (take i f ++ l) ≡ top = length-append (take i f) l ∙ omega (arith, p .ends) in
             let d : drop i (take top x) ≡ l = ap (drop i) (ap (take top) (r ∙ sym (append-assoc (take i f) l (drop (i + length l) f)))
-                    ∙ take-at (take i f ++ l) (drop (i + length l) f) top t) ∙ drop-at (take i f) l i u in
+            ∙ take-at (take i f ++ l) (drop (i + length l) f) top t) ∙ drop-at (take i f) l i u in
             q .made h
             ∙ (ap (λ k. pasted x i (before ++ (k ++ behind))) d
             ∙ (pasted-over i l c f x r (omega arith) (omega (arith, p .ends))

@@ -17,8 +17,8 @@ module _ {tableText formulaText table table′ formula formula′ rows rows′ e
     (p : Promise tableText formulaText table table′ formula formula′ rows rows′ edges edges′ r) where
   pub returned : {a : Answer} → Says (λ s. s .rows) (explainReply r) a → {before after : Values} → ValuesLeft (explainReply r) before after
       → Returned (explaining tableText formulaText table formula rows edges) (a .number) (a .figure)
-          (before .verdict) (after .verdict) (before .class) (after .class) (before .edges) (after .edges)
-          table table′ formula formula′ rows rows′ edges edges′
+      (before .verdict) (after .verdict) (before .class) (after .class) (before .edges) (after .edges)
+      table table′ formula formula′ rows rows′ edges edges′
   returned says {before} left =
       let outcome = p .outcome in
       let said = said-of says (outcome .reply) in

@@ -116,7 +116,7 @@ unfolding formulaBytes
 form-bytes F h =
     let all = bind nodeBytes (nodes F) in
     bytes-cons (size F) (padded (mostNodes * nodeSlotLength) all) (omega arith)
-        (bytes-append all (replicate ((mostNodes * nodeSlotLength) - length all) 0) (bytes-nodes (nodes F)) (bytes-zeros ((mostNodes * nodeSlotLength) - length all)))
+    (bytes-append all (replicate ((mostNodes * nodeSlotLength) - length all) 0) (bytes-nodes (nodes F)) (bytes-zeros ((mostNodes * nodeSlotLength) - length all)))
 
 -- Zeros past the last slot.
 zero-at : (m i : ℕ) → getD {A = ℕ} (replicate m 0) i 0 ≡ 0

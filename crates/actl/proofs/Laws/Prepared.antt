@@ -92,7 +92,7 @@ module _ (n : ℕ) (b : List ℕ) {F : Formula} (e : preparedFormula n b ≡ som
       let s : StandsFor (slotOf f) (slotAt b k) =
       subst (StandsFor (slotOf f)) (sym (ap (λ l. slotAt l k) (prepared-of .form)) ∙ slot-of-front b k (omega arith)) (slot-of-form F k h) in
       sym (slot-by-parts (slotAt b k) (ap (λ x. x .kind) c) (mask-exact (firstUsed (slotAt b k .kind)) (slotAt b k .first) (slotOf f .first) (ap (λ x. x .first) c)
-          (s .same-first)) (mask-exact (secondUsed (slotAt b k .kind)) (slotAt b k .second) (slotOf f .second) (ap (λ x. x .second) c) (s .same-second)))
+      (s .same-first)) (mask-exact (secondUsed (slotAt b k .kind)) (slotAt b k .second) (slotOf f .second) (ap (λ x. x .second) c) (s .same-second)))
 
   pub prepared-shaped : (k : ℕ) → k < size F → shaped (slotAt b k) ≡ true
   prepared-shaped k h = ap shaped (prepared-slot k h) ∙ node-shaped (getD (nodes F) k tru)

@@ -51,7 +51,7 @@ module _ (b : List ℕ) (long : formulaLength ≤ length b) (bytes : Bytes b) wh
       let up : suc (1 + k * nodeSlotLength) ≡ 2 + k * nodeSlotLength = omega arith in
       let ten : 2 + k * nodeSlotLength + 8 ≡ 10 + k * nodeSlotLength = omega arith in
       let here : drop (1 + k * nodeSlotLength) b ≡ getD b (1 + k * nodeSlotLength) 0 ∷ Z =
-              drop-cons b (1 + k * nodeSlotLength) 0 (omega arith) ∙ ap (λ i. getD b (1 + k * nodeSlotLength) 0 ∷ drop i b) up in
+      drop-cons b (1 + k * nodeSlotLength) 0 (omega arith) ∙ ap (λ i. getD b (1 + k * nodeSlotLength) 0 ∷ drop i b) up in
       let one = low-first-number 8 Z (omega (arith, length-drop (2 + k * nodeSlotLength) b)) (bytes-drop (2 + k * nodeSlotLength) b bytes) in
       let two = low-first-number 8 (drop (10 + k * nodeSlotLength) b) (omega (arith, length-drop (10 + k * nodeSlotLength) b)) (bytes-drop (10 + k * nodeSlotLength) b bytes) in
       let rest : drop (10 + k * nodeSlotLength) b ≡ drop 8 Z = sym (drop-drop 8 (2 + k * nodeSlotLength) b ∙ ap (λ i. drop i b) ten) in
@@ -78,9 +78,9 @@ module _ (b : List ℕ) (long : formulaLength ≤ length b) (bytes : Bytes b) wh
       let place : 1 + (c * nodeSlotLength + i) ≡ 1 + c * nodeSlotLength + i = omega arith in
       let zero-there : getD b (1 + c * nodeSlotLength + i) 0 ≡ 0 =
       eqb-true (getD b (1 + c * nodeSlotLength + i) 0) 0 (every-of (λ j. eqb (getD b j 0) 0) (upFrom (1 + c * nodeSlotLength) (formulaLength - (1 + c * nodeSlotLength)))
-          e (1 + c * nodeSlotLength + i) (upFrom-to (1 + c * nodeSlotLength) (formulaLength - (1 + c * nodeSlotLength)) (1 + c * nodeSlotLength + i) (omega arith) (omega arith))) in
+      e (1 + c * nodeSlotLength + i) (upFrom-to (1 + c * nodeSlotLength) (formulaLength - (1 + c * nodeSlotLength)) (1 + c * nodeSlotLength + i) (omega arith) (omega arith))) in
       getD-take n l i 0 near ∙ (getD-drop (c * nodeSlotLength) (drop 1 b) i 0
-          ∙ (getD-drop 1 b (c * nodeSlotLength + i) 0 ∙ (ap (λ j. getD b j 0) place ∙ (zero-there ∙ sym (getD-replicate n i 0 0 near))))))
+      ∙ (getD-drop 1 b (c * nodeSlotLength + i) 0 ∙ (ap (λ j. getD b j 0) place ∙ (zero-there ∙ sym (getD-replicate n i 0 0 near))))))
 
   pub form-of-bytes : (F : Formula) → getD b 0 0 ≡ size F → size F ≤ mostNodes → zerosFrom b (1 + getD b 0 0 * nodeSlotLength) ≡ true
       → map (slotAt b) (upFrom 0 (getD b 0 0)) ≡ map slotOf (nodes F) → take formulaLength b ≡ formulaBytes F

@@ -33,7 +33,7 @@ skeleton-slots tru = refl
 skeleton-slots (not f) = ap (λ l. slot 2 0 0 ∷ l) (skeleton-slots f)
 skeleton-slots (or f g) = ap (λ l. slot 3 0 0 ∷ l)
     (map-append slotOf (nodes (skeleton f)) (nodes (skeleton g))
-        ∙ ((λ i. skeleton-slots f i ++ skeleton-slots g i) ∙ sym (ap (map skeletonSlot) (map-append kindOf (nodes f) (nodes g)) ∙ map-append skeletonSlot (kindsOf f) (kindsOf g))))
+    ∙ ((λ i. skeleton-slots f i ++ skeleton-slots g i) ∙ sym (ap (map skeletonSlot) (map-append kindOf (nodes f) (nodes g)) ∙ map-append skeletonSlot (kindsOf f) (kindsOf g))))
 skeleton-slots (ex silent f) = ap (λ l. slot 4 0 0 ∷ l) (skeleton-slots f)
 skeleton-slots (ex (labels m) f) = ap (λ l. slot 5 0 0 ∷ l) (skeleton-slots f)
 skeleton-slots (ax silent f) = ap (λ l. slot 6 0 0 ∷ l) (skeleton-slots f)

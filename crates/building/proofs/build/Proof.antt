@@ -28,5 +28,5 @@ returns-2 c =
 pub build-spec : {M : Type 1} → statement M
 build-spec =
     tie.close
-    (tie.spec (λ c κs. search needs) (λ c. search needs) returns (λ c. search needs) built-requires (λ c. search needs) (λ c. search needs)
-        returns-2)
+    (tie.spec (λ c κs. search needs) (λ c. search needs) returns (λ c. search needs) built-requires (λ c. search needs)
+    (λ c. search needs) returns-2)

@@ -10,21 +10,12 @@ use Rattle.columns.proofs.read_column.Tie as tie
 returns : tie.Need-returns
 returns c = let a = c .before .before .args in column-outside (a .text .now) (a .at) (omega arith)
 
-sub-if2 : tie.Need-sub-if2
-sub-if2 c = search needs
-
 returns-2 : tie.Need-returns-2
 returns-2 c = let a = c .before .before .before .args in column-outside (a .text .now) (a .at) (omega arith)
-
-value-at-requires : tie.Need-value-at-requires
-value-at-requires c κs = search needs
 
 returns-3 : tie.Need-returns-3
 returns-3 c = let a = c .before .before .before .before .before .args in
     column-too-large (a .text .now) (a .at) (omega (arith, sym (c .before .value-at .ensures)))
-
-is-column-requires : tie.Need-is-column-requires
-is-column-requires c κs = search needs
 
 returns-4 : tie.Need-returns-4
 returns-4 c = let a = c .before .before .before .before .before .before .before .args in
@@ -37,4 +28,4 @@ returns-5 c = let a = c .before .before .before .before .before .before .before 
 pub read-column-spec : {M : Type 1} → statement M
 read-column-spec =
     tie.close
-    (tie.spec returns sub-if2 returns-2 value-at-requires returns-3 is-column-requires returns-4 returns-5)
+    (tie.spec returns (λ c. search needs) returns-2 (λ c κs. search needs) returns-3 (λ c κs. search needs) returns-4 returns-5)

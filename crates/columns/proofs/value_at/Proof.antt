@@ -24,9 +24,6 @@ add-digit c = omega arith
 shared-slice-read-digit : tie.Need-shared-slice-read-digit Inv-loop μ-loop
 shared-slice-read-digit c = omega arith
 
-digit-requires : tie.Need-digit-requires Inv-loop μ-loop
-digit-requires c κs = search needs
-
 add-n : tie.Need-add-n Inv-loop μ-loop
 add-n c = omega (arith, value-fits (c .before .before .before .loop .inv), c .digit .ensures .1)
 
@@ -48,4 +45,5 @@ returns c = value-ends (c .before .loop .inv) (c .before .before .before .pre) (
 pub value-at-spec : {M : Type 1} → statement M
 value-at-spec =
     tie.close
-    (tie.spec Inv-loop μ-loop loop-holds mul-n add-digit shared-slice-read-digit digit-requires add-n add-i loop-less loop-again returns)
+    (tie.spec Inv-loop μ-loop loop-holds mul-n add-digit shared-slice-read-digit (λ c κs. search needs) add-n add-i loop-less loop-again
+    returns)

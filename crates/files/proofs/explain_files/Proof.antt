@@ -51,4 +51,4 @@ pub explain-files-spec : {M : Type 1} → statement M
 explain-files-spec =
     tie.close
     (tie.spec (λ c κs. search needs) (λ c κs. search needs) (λ c. search needs) (λ c. search needs) (λ c κs. search needs)
-        write-reply-requires returns)
+    write-reply-requires returns)

@@ -23,5 +23,5 @@ returns c =
 pub explain-head-spec : {M : Type 1} → statement M
 explain-head-spec =
     tie.close
-    (tie.spec slice-aggregate-explain (λ c. search needs) (λ c. search needs) (λ c κs. search needs) (λ c. search needs) (λ c. search needs)
-        returns)
+    (tie.spec slice-aggregate-explain (λ c. search needs) (λ c. search needs) (λ c κs. search needs) (λ c. search needs)
+    (λ c. search needs) returns)

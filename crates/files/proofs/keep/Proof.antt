@@ -12,32 +12,14 @@ use native.Mathlib.Omega.{arith}
 use lib.ListN.{length, take, drop, length-take, length-drop}
 use Rattle.files.proofs.Scanning.{kept-part, kept-whole}
 
-sub-least : tie.Need-sub-least
-sub-least c = search needs
-
-least-requires : tie.Need-least-requires
-least-requires c κs = search needs
-
 slice-aggregate-copy : tie.Need-slice-aggregate-copy
 slice-aggregate-copy c = omega (arith, length-take (c .before .least .result) (c .before .before .before .before .before .args .chunk .now))
-
-sub-copy : tie.Need-sub-copy
-sub-copy c = search needs
-
-part-copy-start : tie.Need-part-copy-start
-part-copy-start c = search needs
-
-part-copy-end : tie.Need-part-copy-end
-part-copy-end c = search needs
 
 copy-requires : tie.Need-copy-requires
 copy-requires c κs =
     let a = c .before .before .before .before .before .before .args in
     let n = c .before .before .least .result in
     omega (arith, length-take n (a .chunk .now), length-take (length (a .head .now) - a .at) (drop (a .at) (a .head .now)), length-drop (a .at) (a .head .now))
-
-same-length : tie.Need-same-length
-same-length c = search needs
 
 returns : tie.Need-returns
 returns c =
@@ -55,5 +37,5 @@ returns-2 c =
 pub keep-spec : {M : Type 1} → statement M
 keep-spec =
     tie.close
-    (tie.spec sub-least least-requires slice-aggregate-copy sub-copy part-copy-start part-copy-end copy-requires same-length returns
-        returns-2)
+    (tie.spec (λ c. search needs) (λ c κs. search needs) slice-aggregate-copy (λ c. search needs) (λ c. search needs) (λ c. search needs)
+    copy-requires (λ c. search needs) returns returns-2)

@@ -28,23 +28,11 @@ refusal-written {k} {g} {before} {out} {end} n rows edges e d w =
     subst (λ (r : ExplainReply). TextWritten (replyText (explainReply r) n rows edges) before out end) (sym e)
     (subst (λ (b : Bool). TextWritten (refusalLine k (cond b n g)) before out end) (sym d) w)
 
-enum-known-reply : tie.Need-enum-known-reply
-enum-known-reply c = search needs
-
 write-listing-requires : tie.Need-write-listing-requires
 write-listing-requires c κs =
     let start = c .before .before .before .before .before .before in
     let few = subst (λ (r : ExplainReply). Few (explainReply r)) (c .before .before .before .before .reply .given .1) (start .pre) in
     ((omega (arith, few .0), omega (arith, few .1), omega (arith, few .0)), omega (arith, few .0, few .1))
-
-enum-known-reply-2 : tie.Need-enum-known-reply-2
-enum-known-reply-2 c = search needs
-
-write-refusal-requires : tie.Need-write-refusal-requires
-write-refusal-requires c κs = search needs
-
-write-refusal-requires-2 : tie.Need-write-refusal-requires-2
-write-refusal-requires-2 c κs = search needs
 
 returns : tie.Need-returns
 returns c =
@@ -78,5 +66,5 @@ returns-3 c =
 pub write-reply-spec : {M : Type 1} → statement M
 write-reply-spec =
     tie.close
-    (tie.spec enum-known-reply write-listing-requires enum-known-reply-2 write-refusal-requires write-refusal-requires-2 returns returns-2
-        returns-3)
+    (tie.spec (λ c. search needs) write-listing-requires (λ c. search needs) (λ c κs. search needs) (λ c κs. search needs) returns
+    returns-2 returns-3)

@@ -37,4 +37,5 @@ returns c =
 pub walk-nodes-spec : {M : Type 1} → statement M
 walk-nodes-spec =
     tie.close
-    (tie.spec (λ c κs. search needs) (λ c. search needs) slice-aggregate-walk walk-requires (λ c. search needs) (λ c. search needs) returns)
+    (tie.spec (λ c κs. search needs) (λ c. search needs) slice-aggregate-walk walk-requires (λ c. search needs) (λ c. search needs)
+    returns)

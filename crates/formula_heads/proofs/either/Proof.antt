@@ -33,4 +33,4 @@ pub either-spec : {M : Type 1} → statement M
 either-spec =
     tie.close
     (tie.spec (λ c κs. search needs) (λ c. search needs) returns (λ c. search needs) (λ c κs. search needs) (λ c. search needs) returns-2
-        (λ c. search needs) returns-3)
+    (λ c. search needs) returns-3)

@@ -60,5 +60,5 @@ returns-4 c =
 pub first-set-spec : {M : Type 1} → statement M
 first-set-spec =
     tie.close
-    (tie.spec (λ c κs. search needs) (λ c. search needs) (λ c. search needs) (λ c κs. search needs) (λ c. search needs) (λ c. search needs)
-        returns returns-2 enclosed-requires (λ c. search needs) (λ c. search needs) returns-3 returns-4)
+    (tie.spec (λ c κs. search needs) (λ c. search needs) (λ c. search needs) (λ c κs. search needs) (λ c. search needs)
+    (λ c. search needs) returns returns-2 enclosed-requires (λ c. search needs) (λ c. search needs) returns-3 returns-4)

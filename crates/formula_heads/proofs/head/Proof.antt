@@ -67,4 +67,4 @@ pub head-spec : {M : Type 1} → statement M
 head-spec =
     tie.close
     (tie.spec (λ c κs. search needs) (λ c. search needs) square-bracket-requires returns (λ c. search needs) (λ c κs. search needs)
-        (λ c. search needs) square-bracket-requires-2 returns-2 (λ c. search needs) short-form-requires (λ c. search needs))
+    (λ c. search needs) square-bracket-requires-2 returns-2 (λ c. search needs) short-form-requires (λ c. search needs))

@@ -63,4 +63,4 @@ pub labelled-form-spec : {M : Type 1} → statement M
 labelled-form-spec =
     tie.close
     (tie.spec (λ c κs. search needs) (λ c. search needs) letters-requires returns (λ c. search needs) (λ c κs. search needs)
-        (λ c. search needs) letters-requires-2 returns-2 (λ c. search needs) (λ c κs. search needs) returns-3)
+    (λ c. search needs) letters-requires-2 returns-2 (λ c. search needs) (λ c κs. search needs) returns-3)

@@ -62,4 +62,4 @@ pub letters-spec : {M : Type 1} → statement M
 letters-spec =
     tie.close
     (tie.spec (λ c. search needs) (λ c κs. search needs) (λ c. search needs) (λ c. search needs) returns (λ c. search needs)
-        (λ c κs. search needs) (λ c. search needs) (λ c. search needs) returns-2 square-bracket-requires returns-3)
+    (λ c κs. search needs) (λ c. search needs) (λ c. search needs) returns-2 square-bracket-requires returns-3)

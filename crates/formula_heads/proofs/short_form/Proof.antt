@@ -33,4 +33,4 @@ pub short-form-spec : {M : Type 1} → statement M
 short-form-spec =
     tie.close
     (tie.spec (λ c κs. search needs) (λ c. search needs) (λ c κs. search needs) (λ c κs. search needs) returns (λ c. search needs)
-        labelled-form-requires (λ c. search needs))
+    labelled-form-requires (λ c. search needs))

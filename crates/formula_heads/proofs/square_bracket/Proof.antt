@@ -80,4 +80,4 @@ pub square-bracket-spec : {M : Type 1} → statement M
 square-bracket-spec =
     tie.close
     (tie.spec (λ c κs. search needs) (λ c κs. search needs) (λ c. search needs) (λ c. search needs) returns (λ c. search needs)
-        next-requires (λ c. search needs) until-requires (λ c. search needs) labelled-requires returns-2 returns-3 returns-4)
+    next-requires (λ c. search needs) until-requires (λ c. search needs) labelled-requires returns-2 returns-3 returns-4)

@@ -11,12 +11,6 @@ use Rattle.actl.proofs.ReadingLabels.{shifted-two}
 use Rattle.formula_sets.proofs.directed_bit.Statement.{statement}
 use Rattle.formula_sets.proofs.directed_bit.Tie as tie
 
-label-direction-requires : tie.Need-label-direction-requires
-label-direction-requires c κs = search needs
-
-same-direction-requires : tie.Need-same-direction-requires
-same-direction-requires c κs = search needs
-
 shl-result : tie.Need-shl-result
 shl-result c = let start = c .before .before .before .before in omega (arith, start .pre .1, start .pre .0 .in-range .few-labels)
 
@@ -42,4 +36,4 @@ returns-2 c =
 pub directed-bit-spec : {M : Type 1} → statement M
 directed-bit-spec =
     tie.close
-    (tie.spec label-direction-requires same-direction-requires shl-result returns returns-2)
+    (tie.spec (λ c κs. search needs) (λ c κs. search needs) shl-result returns returns-2)

@@ -18,9 +18,6 @@ Inv-loop table wanted count mask₀ k₀ mask k = (k ≤ count) × (mask ≡ mas
 abbrev μ-loop : tie.MeasureT-loop
 μ-loop table wanted count mask₀ k₀ mask k = count - k
 
-label-count-requires : tie.Need-label-count-requires Inv-loop μ-loop
-label-count-requires c κs = search needs
-
 loop-holds : tie.Need-loop-holds Inv-loop μ-loop
 loop-holds c =
     let a = c .before .before .args in
@@ -73,4 +70,4 @@ returns c =
 pub directed-labels-spec : {M : Type 1} → statement M
 directed-labels-spec =
     tie.close
-    (tie.spec Inv-loop μ-loop label-count-requires loop-holds directed-bit-requires add-mask add-k loop-less loop-again returns)
+    (tie.spec Inv-loop μ-loop (λ c κs. search needs) loop-holds directed-bit-requires add-mask add-k loop-less loop-again returns)

@@ -33,9 +33,6 @@ module _ (c : tie.After-read-text) where
   text-read r e =
       subst (ReadingAnswer (namesIn (start .args .table .now)) (start .args .text .now) (replicate formulaLength 0) nodes) e (c .read-text .ensures)
 
-read-text-requires : tie.Need-read-text-requires
-read-text-requires c κs = search needs
-
 answer-requires : tie.Need-answer-requires
 answer-requires c κs =
     let whole = c .before .before .before in
@@ -59,4 +56,5 @@ returns-3 c =
 pub read-text-over-spec : {M : Type 1} → statement M
 read-text-over-spec =
     tie.close
-    (tie.spec returns read-text-requires (λ c. search needs) (λ c. search needs) answer-requires returns-2 (λ c. search needs) returns-3)
+    (tie.spec returns (λ c κs. search needs) (λ c. search needs) (λ c. search needs) answer-requires returns-2 (λ c. search needs)
+    returns-3)

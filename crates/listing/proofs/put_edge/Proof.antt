@@ -10,24 +10,6 @@ use Rattle.automaton.specs.Bytes.{edgeLength}
 use Rattle.listing.specs.inner.Places.{edgeTo}
 use Rattle.listing.proofs.Laws.Stores.{edge-in-place}
 
-mul-at : tie.Need-mul-at
-mul-at c = search needs
-
-put-pair-requires : tie.Need-put-pair-requires
-put-pair-requires c κs = search needs
-
-cast-out : tie.Need-cast-out
-cast-out c = search needs
-
-add-out : tie.Need-add-out
-add-out c = search needs
-
-slice-write-out : tie.Need-slice-write-out
-slice-write-out c = search needs
-
-add-put-pair : tie.Need-add-put-pair
-add-put-pair c = search needs
-
 put-pair-requires-2 : tie.Need-put-pair-requires-2
 put-pair-requires-2 c κs = simp length-set (omega (arith, c .before .before .before .put-pair .kept .0))
 
@@ -47,4 +29,5 @@ returns c =
 pub put-edge-spec : {M : Type 1} → statement M
 put-edge-spec =
     tie.close
-    (tie.spec mul-at put-pair-requires cast-out add-out slice-write-out add-put-pair put-pair-requires-2 same-length returns)
+    (tie.spec (λ c. search needs) (λ c κs. search needs) (λ c. search needs) (λ c. search needs) (λ c. search needs) (λ c. search needs)
+    put-pair-requires-2 same-length returns)

@@ -12,29 +12,8 @@ use Rattle.columns.specs.inner.Write.{pasted}
 use Rattle.listing.specs.inner.Places.{putRow}
 use Rattle.listing.proofs.Laws.Stores.{three-stores}
 
-mul-at : tie.Need-mul-at
-mul-at c = search needs
-
-cast-out : tie.Need-cast-out
-cast-out c = search needs
-
-slice-write-out : tie.Need-slice-write-out
-slice-write-out c = search needs
-
-cast-out-2 : tie.Need-cast-out-2
-cast-out-2 c = search needs
-
-add-out : tie.Need-add-out
-add-out c = search needs
-
 slice-write-out-2 : tie.Need-slice-write-out-2
 slice-write-out-2 c = simp length-set (omega arith)
-
-bit-requires : tie.Need-bit-requires
-bit-requires c κs = search needs
-
-add-out-2 : tie.Need-add-out-2
-add-out-2 c = search needs
 
 slice-write-out-3 : tie.Need-slice-write-out-3
 slice-write-out-3 c = simp length-set (omega arith)
@@ -52,5 +31,5 @@ returns c =
 pub put-row-spec : {M : Type 1} → statement M
 put-row-spec =
     tie.close
-    (tie.spec mul-at cast-out slice-write-out cast-out-2 add-out slice-write-out-2 bit-requires add-out-2 slice-write-out-3 same-length
-        returns)
+    (tie.spec (λ c. search needs) (λ c. search needs) (λ c. search needs) (λ c. search needs) (λ c. search needs) slice-write-out-2
+    (λ c κs. search needs) (λ c. search needs) slice-write-out-3 same-length returns)

@@ -8,12 +8,6 @@ use Rattle.listing_text.proofs.Laws.Lines.{line-stands, line-written}
 row-numbers-requires : tie.Need-row-numbers-requires
 row-numbers-requires c κs = let d = c .before .before .before in line-stands (d .args .of-rows) true (c .if1 .taken) (d .pre)
 
-write-numbers-requires : tie.Need-write-numbers-requires
-write-numbers-requires c κs = search needs
-
-same-length : tie.Need-same-length
-same-length c = search needs
-
 returns : tie.Need-returns
 returns c =
     let w = c .before .before in
@@ -24,12 +18,6 @@ returns c =
 
 edge-numbers-requires : tie.Need-edge-numbers-requires
 edge-numbers-requires c κs = let d = c .before .before .before in line-stands (d .args .of-rows) false (c .if1 .left) (d .pre)
-
-write-numbers-requires-2 : tie.Need-write-numbers-requires-2
-write-numbers-requires-2 c κs = search needs
-
-same-length-2 : tie.Need-same-length-2
-same-length-2 c = search needs
 
 returns-2 : tie.Need-returns-2
 returns-2 c =
@@ -42,5 +30,5 @@ returns-2 c =
 pub write-line-spec : {M : Type 1} → statement M
 write-line-spec =
     tie.close
-    (tie.spec row-numbers-requires write-numbers-requires same-length returns edge-numbers-requires write-numbers-requires-2 same-length-2
-        returns-2)
+    (tie.spec row-numbers-requires (λ c κs. search needs) (λ c. search needs) returns edge-numbers-requires (λ c κs. search needs)
+    (λ c. search needs) returns-2)

@@ -5,29 +5,17 @@ use Rattle.lts.proofs.Laws.Decides.{decided-yes, decided-no}
 use Rattle.table_check.proofs.counts_held.Statement.{statement}
 use Rattle.table_check.proofs.counts_held.Tie as tie
 
-state-count-requires : tie.Need-state-count-requires
-state-count-requires c κs = search needs
-
 returns : tie.Need-returns
 returns c = decided-no (λ h. omega (arith, h .some-state, c .before .state-count .ensures .count, c .if1 .taken))
 
 returns-2 : tie.Need-returns-2
 returns-2 c = decided-no (λ h. omega (arith, h .few-states, c .before .before .state-count .ensures .count, c .if2 .taken))
 
-label-count-requires : tie.Need-label-count-requires
-label-count-requires c κs = search needs
-
 returns-3 : tie.Need-returns-3
 returns-3 c = decided-no (λ h. omega (arith, h .few-labels, c .before .label-count .ensures .count, c .if3 .taken))
 
-transition-count-requires : tie.Need-transition-count-requires
-transition-count-requires c κs = search needs
-
 returns-4 : tie.Need-returns-4
 returns-4 c = decided-no (λ h. omega (arith, h .few-transitions, c .before .transition-count .ensures .count, c .if4 .taken))
-
-start-state-requires : tie.Need-start-state-requires
-start-state-requires c κs = search needs
 
 returns-5 : tie.Need-returns-5
 returns-5 c =
@@ -52,5 +40,5 @@ returns-6 c =
 pub counts-held-spec : {M : Type 1} → statement M
 counts-held-spec =
     tie.close
-    (tie.spec state-count-requires returns returns-2 label-count-requires returns-3 transition-count-requires returns-4 start-state-requires
-    returns-5 returns-6)
+    (tie.spec (λ c κs. search needs) returns returns-2 (λ c κs. search needs) returns-3 (λ c κs. search needs) returns-4
+    (λ c κs. search needs) returns-5 returns-6)

@@ -71,5 +71,5 @@ returns-3 c =
 pub name-held-spec : {M : Type 1} → statement M
 name-held-spec =
     tie.close
-    (tie.spec (λ c κs. search needs) (λ c κs. search needs) returns returns-2 (λ c. search needs) (λ c. search needs) (λ c κs. search needs)
-    returns-3)
+    (tie.spec (λ c κs. search needs) (λ c κs. search needs) returns returns-2 (λ c. search needs) (λ c. search needs)
+    (λ c κs. search needs) returns-3)

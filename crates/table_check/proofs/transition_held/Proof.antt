@@ -80,5 +80,5 @@ returns-5 c =
 pub transition-held-spec : {M : Type 1} → statement M
 transition-held-spec =
     tie.close
-    (tie.spec (λ c κs. search needs) returns returns-2 returns-3 returns-4 (λ c. search needs) (λ c κs. search needs) (λ c κs. search needs)
-    returns-5)
+    (tie.spec (λ c κs. search needs) returns returns-2 returns-3 returns-4 (λ c. search needs) (λ c κs. search needs)
+    (λ c κs. search needs) returns-5)

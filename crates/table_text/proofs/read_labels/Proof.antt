@@ -90,5 +90,5 @@ returns-2 c =
 pub read-labels-spec : {M : Type 1} → statement M
 read-labels-spec =
     tie.close
-    (tie.spec Inv-loop μ-loop loop-holds read-label-requires (λ c. search needs) (λ c. search needs) same-length returns (λ c. omega arith)
-    (λ c. omega arith) loop-again same-length-2 returns-2)
+    (tie.spec Inv-loop μ-loop loop-holds read-label-requires (λ c. search needs) (λ c. search needs) same-length returns
+    (λ c. omega arith) (λ c. omega arith) loop-again same-length-2 returns-2)

@@ -25,12 +25,6 @@ abbrev μ-loop : tie.MeasureT-loop
 idle : (from : ℕ → List Step) (masks reached : List ℕ) (label s : ℕ) (next : List ℕ) → hasState reached s ≡ false → stateRead from masks reached label s next ≡ next
 idle from masks reached label s next e = ap (λ b. cond b (placesRead (from s) masks (getD reached s 0) label next) next) e
 
-wide-requires : tie.Need-wide-requires Inv-loop μ-loop
-wide-requires c κs = search needs
-
-clear-requires : tie.Need-clear-requires Inv-loop μ-loop
-clear-requires c κs = search needs
-
 next-state-requires : tie.Need-next-state-requires Inv-loop μ-loop
 next-state-requires c κs = omega arith
 
@@ -90,5 +84,5 @@ returns c =
 pub read-letter-spec : {M : Type 1} → statement M
 read-letter-spec =
     tie.close
-    (tie.spec Inv-loop μ-loop wide-requires clear-requires next-state-requires loop-holds mul-read-places element-copy-out-read-places
-        read-places-requires add-next-state next-state-requires-2 loop-less loop-again returns)
+    (tie.spec Inv-loop μ-loop (λ c κs. search needs) (λ c κs. search needs) next-state-requires loop-holds mul-read-places
+    element-copy-out-read-places read-places-requires add-next-state next-state-requires-2 loop-less loop-again returns)

@@ -73,9 +73,6 @@ read-letter-requires c κs =
     let p = at-loop .before .before .before .before .pre in
     (p .0, p .1 .1 .carried (at-loop .loop .i) (odd .if1 .taken))
 
-all-places-requires : tie.Need-all-places-requires Inv-loop μ-loop
-all-places-requires c κs = search needs
-
 returns : tie.Need-returns Inv-loop μ-loop
 returns c =
     let odd = c .before .before .before .before .before .before in
@@ -87,9 +84,6 @@ returns c =
     let last = word-turn from (a .masks .now) (a .word .now) (loop .i) (loop .reached) (loop .next) (odd .if1 .taken) _ read in
     let over = word-over from (a .masks .now) (a .word .now) (loop .i + 1) _ (loop .reached) (odd .before .loop-test .left) in
     c .all-places .ensures ∙ ap allPlaces (sym (loop .inv .1 ∙ (last ∙ over)))
-
-all-places-requires-2 : tie.Need-all-places-requires-2 Inv-loop μ-loop
-all-places-requires-2 c κs = search needs
 
 returns-2 : tie.Need-returns-2 Inv-loop μ-loop
 returns-2 c =
@@ -105,5 +99,5 @@ pub read-word-spec : {M : Type 1} → statement M
 read-word-spec =
     tie.close
     (tie.spec Inv-loop μ-loop bring-requires loop-holds add-loop shared-slice-read-read-two add-read-two shared-slice-read-read-two-2
-        read-two-requires add-i loop-less loop-again shared-slice-read-read-letter read-letter-requires all-places-requires returns
-        all-places-requires-2 returns-2)
+    read-two-requires add-i loop-less loop-again shared-slice-read-read-letter read-letter-requires (λ c κs. search needs) returns
+    (λ c κs. search needs) returns-2)

@@ -7,21 +7,6 @@ use Rattle.frontier.proofs.Laws.Left.{step-taken, step-not-taken}
 use Rattle.word_reading.proofs.take_step.Statement.{statement}
 use Rattle.word_reading.proofs.take_step.Tie as tie
 
-mul-step : tie.Need-mul-step
-mul-step c = search needs
-
-element-copy-out-step : tie.Need-element-copy-out-step
-element-copy-out-step c = search needs
-
-label-of-requires : tie.Need-label-of-requires
-label-of-requires c κs = search needs
-
-state-of-requires : tie.Need-state-of-requires
-state-of-requires c κs = search needs
-
-bring-requires : tie.Need-bring-requires
-bring-requires c κs = search needs
-
 returns : tie.Need-returns
 returns c =
     let asked = c .before .before .before in
@@ -41,4 +26,5 @@ returns-2 c =
 pub take-step-spec : {M : Type 1} → statement M
 take-step-spec =
     tie.close
-    (tie.spec mul-step element-copy-out-step label-of-requires state-of-requires bring-requires returns returns-2)
+    (tie.spec (λ c. search needs) (λ c. search needs) (λ c κs. search needs) (λ c κs. search needs) (λ c κs. search needs) returns
+    returns-2)

@@ -90,4 +90,4 @@ pub targets-of-spec : {M : Type 1} → statement M
 targets-of-spec =
     tie.close
     (tie.spec Inv-loop μ-loop column-requires next-bit-requires loop-holds mul-found add-found mul-found-2 element-copy-out-found sub-rest
-        next-bit-requires-2 loop-less loop-again returns)
+    next-bit-requires-2 loop-less loop-again returns)

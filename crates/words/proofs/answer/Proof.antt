@@ -37,27 +37,12 @@ module _ (c : tie.After-bad-letter) where
       → unlessFound o 13 (accepted (bitOf (accepts table-of F word-of))) ≡ wordAnswer table-of F word-of
   answered F o e = sym (ap (λ o. unlessFound o 13 (accepted (bitOf (accepts table-of F word-of)))) (known ∙ e))
 
-label-count-requires : tie.Need-label-count-requires
-label-count-requires c κs = search needs
-
-bad-letter-requires : tie.Need-bad-letter-requires
-bad-letter-requires c κs = search needs
-
-enum-known-bad : tie.Need-enum-known-bad
-enum-known-bad c = search needs
-
-enum-told : tie.Need-enum-told
-enum-told c = search needs
-
 is-accepted-requires : tie.Need-is-accepted-requires
 is-accepted-requires c κs =
     let asked = c .before .before in
     let held = at-start asked .pre in
     let none = known asked ∙ ap foundIn (c .enum-told .given .1) in
     (held .0, (held .1, letters-carried (labels (table-of asked)) (word-of asked) (held .0 .in-range .few-labels) none))
-
-answer-of-requires : tie.Need-answer-of-requires
-answer-of-requires c κs = search needs
 
 returns : tie.Need-returns
 returns c = record { reply = λ F e. answered (c .before .before .before) F _ (ap foundIn (c .before .bad .given .1)) }
@@ -73,4 +58,5 @@ returns-2 c = record {
 pub answer-spec : {M : Type 1} → statement M
 answer-spec =
     tie.close
-    (tie.spec label-count-requires bad-letter-requires enum-known-bad enum-told is-accepted-requires answer-of-requires returns returns-2)
+    (tie.spec (λ c κs. search needs) (λ c κs. search needs) (λ c. search needs) (λ c. search needs) is-accepted-requires
+    (λ c κs. search needs) returns returns-2)

@@ -26,12 +26,6 @@ returns c =
 shared-slice-read-wide : tie.Need-shared-slice-read-wide Inv-loop μ-loop
 shared-slice-read-wide c = omega (arith, c .before .before .loop-test .taken)
 
-wide-requires : tie.Need-wide-requires Inv-loop μ-loop
-wide-requires c κs = search needs
-
-is-bad-requires : tie.Need-is-bad-requires Inv-loop μ-loop
-is-bad-requires c κs = search needs
-
 -- A letter that is tested: below the 1,024th, and what the test says of it.
 module _ (c : tie.After-is-bad Inv-loop μ-loop) where
   abbrev at-loop : tie.At-loop Inv-loop μ-loop
@@ -67,5 +61,5 @@ returns-3 c = sym (c .before .loop .inv .1 ∙ bad-over _ _ (c .before .loop .i)
 pub bad-letter-spec : {M : Type 1} → statement M
 bad-letter-spec =
     tie.close
-    (tie.spec Inv-loop μ-loop loop-holds returns shared-slice-read-wide wide-requires is-bad-requires returns-2 add-i loop-less loop-again
-        returns-3)
+    (tie.spec Inv-loop μ-loop loop-holds returns shared-slice-read-wide (λ c κs. search needs) (λ c κs. search needs) returns-2 add-i
+    loop-less loop-again returns-3)

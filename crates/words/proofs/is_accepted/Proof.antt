@@ -12,9 +12,6 @@ use Rattle.frontier.proofs.Laws.Accepting.{word-same, found-as-accepted}
 use Rattle.words.proofs.is_accepted.Statement.{statement}
 use Rattle.words.proofs.is_accepted.Tie as tie
 
-steps-of-requires : tie.Need-steps-of-requires
-steps-of-requires c κs = search needs
-
 shape-of-requires : tie.Need-shape-of-requires
 shape-of-requires c κs = formula-long _ _ (c .before .before .before .before .pre .1 .0)
 
@@ -30,17 +27,11 @@ final-places-requires c κs =
     let H = shaped .before .before .before .before .before .pre .1 .0 in
     (formula-long _ _ H, (H .formula, spells _ _ (H .prepared) (shaped .shape-of .result) (shaped .shape-of .ensures _ _ (H .prepared))))
 
-start-state-requires : tie.Need-start-state-requires
-start-state-requires c κs = search needs
-
 read-word-requires : tie.Need-read-word-requires
 read-word-requires c κs =
     let started = c .before .before .before .before .before in
     let stepped = started .before .before .before .before .before .before .before in
     (stepped .steps-of .ensures .fit, (started .start-state .ensures .fits, stepped .before .before .before .before .pre .1 .1))
-
-some-final-requires : tie.Need-some-final-requires
-some-final-requires c κs = search needs
 
 returns : tie.Need-returns
 returns c =
@@ -69,5 +60,5 @@ returns c =
 pub is-accepted-spec : {M : Type 1} → statement M
 is-accepted-spec =
     tie.close
-    (tie.spec steps-of-requires shape-of-requires target-masks-requires final-places-requires start-state-requires read-word-requires
-        some-final-requires returns)
+    (tie.spec (λ c κs. search needs) shape-of-requires target-masks-requires final-places-requires (λ c κs. search needs)
+    read-word-requires (λ c κs. search needs) returns)

@@ -16,9 +16,6 @@ Inv-loop n out₀ at from bytes i₀ out i = Copying out₀ at bytes from out i
 abbrev μ-loop : tie.MeasureT-loop
 μ-loop n out₀ at from bytes i₀ out i = 20 - from - i
 
-spread-requires : tie.Need-spread-requires Inv-loop μ-loop
-spread-requires c κs = search needs
-
 loop-holds : tie.Need-loop-holds Inv-loop μ-loop
 loop-holds c = copying-none _ _ _ _ (omega (arith, c .before .spread .ensures .size))
 
@@ -71,5 +68,5 @@ returns c =
 pub write-column-spec : {M : Type 1} → statement M
 write-column-spec =
     tie.close
-    (tie.spec Inv-loop μ-loop spread-requires loop-holds sub-loop add-out array-read-out add-out-2 slice-write-out add-i loop-less
+    (tie.spec Inv-loop μ-loop (λ c κs. search needs) loop-holds sub-loop add-out array-read-out add-out-2 slice-write-out add-i loop-less
     loop-again sub-result add-result same-length returns)

@@ -26,4 +26,4 @@ pub keyword-spec : {M : Type 1} → statement M
 keyword-spec =
     tie.close
     (tie.spec (λ c. search needs) (λ c κs. search needs) (λ c. search needs) (λ c. search needs) returns (λ c. search needs)
-        (λ c κs. search needs) returns-2)
+    (λ c κs. search needs) returns-2)

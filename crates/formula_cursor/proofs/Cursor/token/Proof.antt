@@ -8,15 +8,6 @@ use Rattle.formula_cursor.proofs.ReadingPlaces.{mark-skipped}
 use Rattle.formula_cursor.proofs.Cursor.token.Statement.{statement}
 use Rattle.formula_cursor.proofs.Cursor.token.Tie as tie
 
-mark-requires : tie.Need-mark-requires
-mark-requires c κs = search needs
-
-enum-known-d : tie.Need-enum-known-d
-enum-known-d c = search needs
-
-enum-told : tie.Need-enum-told
-enum-told c = search needs
-
 returns : tie.Need-returns
 returns c =
     let a = c .before .before .before .before .args in
@@ -39,4 +30,4 @@ returns-2 c = mark-skipped (marked (c .before .before)) (c .skip-blanks .ensures
 pub token-spec : {M : Type 1} → statement M
 token-spec =
     tie.close
-    (tie.spec mark-requires enum-known-d enum-told returns skip-blanks-requires returns-2)
+    (tie.spec (λ c κs. search needs) (λ c. search needs) (λ c. search needs) returns skip-blanks-requires returns-2)

@@ -6,9 +6,6 @@ use Rattle.formula_text.proofs.ReadingAnswers.{kinds-are, answer-unknow
 use Rattle.formula_text.proofs.writing.answer.Statement.{statement}
 use Rattle.formula_text.proofs.writing.answer.Tie as tie
 
-sub-t7 : tie.Need-sub-t7
-sub-t7 c = search needs
-
 returns : tie.Need-returns
 returns c =
     let a = c .before .before .args in
@@ -18,21 +15,6 @@ returns-2 : tie.Need-returns-2
 returns-2 c =
     let a = c .before .before .before .args in
     λ F o h. answer-many (a .nodes .now) (a .n) (a .lost) (a .formula .now) F (c .before .if1 .left) o h (c .if2 .taken)
-
-highest-classless-requires : tie.Need-highest-classless-requires
-highest-classless-requires c κs = search needs
-
-enum-known-k : tie.Need-enum-known-k
-enum-known-k c = search needs
-
-enum-told : tie.Need-enum-told
-enum-told c = search needs
-
-write-bytes-requires : tie.Need-write-bytes-requires
-write-bytes-requires c κs = search needs
-
-same-length : tie.Need-same-length
-same-length c = search needs
 
 returns-3 : tie.Need-returns-3
 returns-3 c =
@@ -61,5 +43,5 @@ returns-4 c =
 pub answer-spec : {M : Type 1} → statement M
 answer-spec =
     tie.close
-    (tie.spec sub-t7 returns returns-2 highest-classless-requires enum-known-k enum-told write-bytes-requires same-length returns-3
-        returns-4)
+    (tie.spec (λ c. search needs) returns returns-2 (λ c κs. search needs) (λ c. search needs) (λ c. search needs) (λ c κs. search needs)
+    (λ c. search needs) returns-3 returns-4)

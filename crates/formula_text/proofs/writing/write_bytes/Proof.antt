@@ -20,15 +20,6 @@ copy-requires c κs =
     let start = c .before .before .before .before in
     omega (arith, start .pre .2, copied start)
 
-cast-formula : tie.Need-cast-formula
-cast-formula c = search needs
-
-slice-write-formula : tie.Need-slice-write-formula
-slice-write-formula c = search needs
-
-same-length : tie.Need-same-length
-same-length c = search needs
-
 returns : tie.Need-returns
 returns c =
     let copying = c .before .before in
@@ -40,4 +31,4 @@ returns c =
 pub write-bytes-spec : {M : Type 1} → statement M
 write-bytes-spec =
     tie.close
-    (tie.spec slice-aggregate-copy copy-requires cast-formula slice-write-formula same-length returns)
+    (tie.spec slice-aggregate-copy copy-requires (λ c. search needs) (λ c. search needs) (λ c. search needs) returns)

@@ -45,4 +45,5 @@ returns c = row-put-all _ _ _ (c .before .loop .s) (c .loop-test .left) (c .befo
 pub put-row-spec : {M : Type 1} → statement M
 put-row-spec =
     tie.close
-    (tie.spec Inv-loop μ-loop loop-holds element-copy-out-flags mul-flags add-flags element-write-flags add-s loop-less loop-again returns)
+    (tie.spec Inv-loop μ-loop loop-holds element-copy-out-flags mul-flags add-flags element-write-flags add-s loop-less loop-again
+    returns)

@@ -26,14 +26,8 @@ node-at-requires c κs =
 add-row : tie.Need-add-row
 add-row c = omega (arith, few (c .before .before .before))
 
-row-requires : tie.Need-row-requires
-row-requires c κs = search needs
-
 right-arm-requires : tie.Need-right-arm-requires
 right-arm-requires c κs = few (c .before .before .before .before)
-
-row-requires-2 : tie.Need-row-requires-2
-row-requires-2 c κs = search needs
 
 label-node-requires : tie.Need-label-node-requires
 label-node-requires c κs =
@@ -63,4 +57,4 @@ returns c =
 pub row-from-arms-spec : {M : Type 1} → statement M
 row-from-arms-spec =
     tie.close
-    (tie.spec node-at-requires add-row row-requires right-arm-requires row-requires-2 label-node-requires returns)
+    (tie.spec node-at-requires add-row (λ c κs. search needs) right-arm-requires (λ c κs. search needs) label-node-requires returns)

@@ -13,38 +13,14 @@ returns : tie.Need-returns
 unfolding risesAfter
 returns c = ap (λ n. risesAfter (c .before .before .args .slots .now) n (stepIn (c .before .before .args .t))) (sym (c .if1 .taken))
 
-sub-i : tie.Need-sub-i
-sub-i c = search needs
-
-mul-i : tie.Need-mul-i
-mul-i c = search needs
-
-shared-slice-read-t9 : tie.Need-shared-slice-read-t9
-shared-slice-read-t9 c = search needs
-
 cast-t7 : tie.Need-cast-t7
 cast-t7 c = omega (arith, c .shared-slice-known2 .given ((c .before .before .before .args .count - 1) * transitionLength))
-
-add-t10 : tie.Need-add-t10
-add-t10 c = search needs
-
-shared-slice-read-t12 : tie.Need-shared-slice-read-t12
-shared-slice-read-t12 c = search needs
 
 cast-t13 : tie.Need-cast-t13
 cast-t13 c = omega (arith, c .shared-slice-known3 .given ((c .before .before .before .before .args .count - 1) * transitionLength + 1))
 
-add-t14 : tie.Need-add-t14
-add-t14 c = search needs
-
-shared-slice-read-t16 : tie.Need-shared-slice-read-t16
-shared-slice-read-t16 c = search needs
-
 cast-t17 : tie.Need-cast-t17
 cast-t17 c = omega (arith, c .shared-slice-known4 .given ((c .before .before .before .before .before .args .count - 1) * transitionLength + 2))
-
-below-requires : tie.Need-below-requires
-below-requires c κs = search needs
 
 returns-2 : tie.Need-returns-2
 unfolding risesAfter
@@ -56,5 +32,5 @@ returns-2 c =
 pub rises-spec : {M : Type 1} → statement M
 rises-spec =
     tie.close
-    (tie.spec returns sub-i mul-i shared-slice-read-t9 cast-t7 add-t10 shared-slice-read-t12 cast-t13 add-t14 shared-slice-read-t16 cast-t17
-    below-requires returns-2)
+    (tie.spec returns (λ c. search needs) (λ c. search needs) (λ c. search needs) cast-t7 (λ c. search needs) (λ c. search needs) cast-t13
+    (λ c. search needs) (λ c. search needs) cast-t17 (λ c κs. search needs) returns-2)

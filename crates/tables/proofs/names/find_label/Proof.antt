@@ -7,21 +7,6 @@ use borrow.Author.Needs.{needs}
 use Rattle.tables.proofs.names.find_label.Statement.{statement}
 use Rattle.tables.proofs.names.find_label.Tie as tie
 
-label-count-requires : tie.Need-label-count-requires
-label-count-requires c κs = search needs
-
-sub-find : tie.Need-sub-find
-sub-find c = search needs
-
-part-find-start : tie.Need-part-find-start
-part-find-start c = search needs
-
-part-find-end : tie.Need-part-find-end
-part-find-end c = search needs
-
-find-requires : tie.Need-find-requires
-find-requires c κs = search needs
-
 returns : tie.Need-returns
 returns c =
     let start = c .before .before .before .before .before in
@@ -32,4 +17,4 @@ returns c =
 pub find-label-spec : {M : Type 1} → statement M
 find-label-spec =
     tie.close
-    (tie.spec label-count-requires sub-find part-find-start part-find-end find-requires returns)
+    (tie.spec (λ c κs. search needs) (λ c. search needs) (λ c. search needs) (λ c. search needs) (λ c κs. search needs) returns)

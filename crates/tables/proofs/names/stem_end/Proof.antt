@@ -33,9 +33,6 @@ shared-slice-read-is-lower c = omega arith
 cast-is-lower : tie.Need-cast-is-lower Inv-loop μ-loop
 cast-is-lower c = record { fits = omega (arith, c .shared-slice-known2 .given (c .before .before .before .args .from) .fits) }
 
-is-lower-requires : tie.Need-is-lower-requires Inv-loop μ-loop
-is-lower-requires c κs = search needs
-
 returns-2 : tie.Need-returns-2 Inv-loop μ-loop
 returns-2 c =
     let some = c .before .before .before in
@@ -62,9 +59,6 @@ cast-is-name-byte : tie.Need-cast-is-name-byte Inv-loop μ-loop
 cast-is-name-byte c =
     let here = c .before .before .before in
     record { fits = omega (arith, c .shared-slice-known3 .given (begun here .args .from + here .loop .n) .fits) }
-
-is-name-byte-requires : tie.Need-is-name-byte-requires Inv-loop μ-loop
-is-name-byte-requires c κs = search needs
 
 returns-4 : tie.Need-returns-4 Inv-loop μ-loop
 returns-4 c =
@@ -100,5 +94,6 @@ returns-5 c =
 pub stem-end-spec : {M : Type 1} → statement M
 stem-end-spec =
     tie.close
-    (tie.spec Inv-loop μ-loop returns shared-slice-read-is-lower cast-is-lower is-lower-requires returns-2 loop-holds add-to returns-3
-    shared-slice-read-is-name-byte cast-is-name-byte is-name-byte-requires returns-4 add-n loop-less loop-again add-result returns-5)
+    (tie.spec Inv-loop μ-loop returns shared-slice-read-is-lower cast-is-lower (λ c κs. search needs) returns-2 loop-holds add-to
+    returns-3 shared-slice-read-is-name-byte cast-is-name-byte (λ c κs. search needs) returns-4 add-n loop-less loop-again add-result
+    returns-5)

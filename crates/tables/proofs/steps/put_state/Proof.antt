@@ -48,9 +48,6 @@ returns c =
     let leave = steps-leave t (start .pre .0 .in-range) s (omega (arith, start .pre .1 .0 .0, next start)) in
     put-as (ap (map stepCode) (same ∙ sym leave)) (c .put-transitions .ensures)
 
-code-requires : tie.Need-code-requires
-code-requires c κs = search needs
-
 mul-steps : tie.Need-mul-steps
 mul-steps c = omega (arith, room (c .before .before .before) .0)
 
@@ -72,4 +69,4 @@ returns-2 c =
 pub put-state-spec : {M : Type 1} → statement M
 put-state-spec =
     tie.close
-    (tie.spec put-transitions-requires returns code-requires mul-steps element-write-steps add-result returns-2)
+    (tie.spec put-transitions-requires returns (λ c κs. search needs) mul-steps element-write-steps add-result returns-2)

@@ -74,5 +74,5 @@ returns c =
 pub put-transitions-spec : {M : Type 1} → statement M
 put-transitions-spec =
     tie.close
-    (tie.spec Inv-loop μ-loop loop-holds transition-at-requires code-requires mul-steps element-write-steps add-p add-j loop-less loop-again
-    returns)
+    (tie.spec Inv-loop μ-loop loop-holds transition-at-requires code-requires mul-steps element-write-steps add-p add-j loop-less
+    loop-again returns)

@@ -158,5 +158,5 @@ pub steps-of-spec : {M : Type 1} → statement M
 steps-of-spec =
     tie.close
     (tie.spec Inv-loop μ-loop Inv-loop2 μ-loop2 transition-count-requires state-count-requires loop-holds add-exits-end exits-end-requires
-    cast-all mul-all element-write-all put-state-requires add-s loop-less loop-again loop2-holds cast-all-2 mul-all-2
-    element-write-all-2 put-state-requires-2 add-s-2 loop2-less loop2-again cast-all-3 element-write-all-3 returns)
+    cast-all mul-all element-write-all put-state-requires add-s loop-less loop-again loop2-holds cast-all-2 mul-all-2 element-write-all-2
+    put-state-requires-2 add-s-2 loop2-less loop2-again cast-all-3 element-write-all-3 returns)

@@ -61,5 +61,5 @@ returns c =
 pub all-places-spec : {M : Type 1} → statement M
 all-places-spec =
     tie.close
-    (tie.spec Inv-loop μ-loop next-state-requires loop-holds mul-found element-copy-out-found add-next-state next-state-requires-2 loop-less
-        loop-again returns)
+    (tie.spec Inv-loop μ-loop next-state-requires loop-holds mul-found element-copy-out-found add-next-state next-state-requires-2
+    loop-less loop-again returns)

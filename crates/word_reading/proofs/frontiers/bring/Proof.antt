@@ -9,45 +9,6 @@ use borrow.Author.Needs.{needs}
 use Rattle.word_reading.proofs.frontiers.bring.Statement.{statement}
 use Rattle.word_reading.proofs.frontiers.bring.Tie as tie
 
-add-marks : tie.Need-add-marks
-add-marks c = search needs
-
-mul-marks : tie.Need-mul-marks
-mul-marks c = search needs
-
-element-copy-out-marks : tie.Need-element-copy-out-marks
-element-copy-out-marks c = search needs
-
-has-requires : tie.Need-has-requires
-has-requires c κs = search needs
-
-mul-kept : tie.Need-mul-kept
-mul-kept c = search needs
-
-element-copy-out-kept : tie.Need-element-copy-out-kept
-element-copy-out-kept c = search needs
-
-kept-requires : tie.Need-kept-requires
-kept-requires c κs = search needs
-
-mul-frontier : tie.Need-mul-frontier
-mul-frontier c = search needs
-
-element-write-frontier : tie.Need-element-write-frontier
-element-write-frontier c = search needs
-
-bit-requires : tie.Need-bit-requires
-bit-requires c κs = search needs
-
-add-frontier : tie.Need-add-frontier
-add-frontier c = search needs
-
-mul-frontier-2 : tie.Need-mul-frontier-2
-mul-frontier-2 c = search needs
-
-element-write-frontier-2 : tie.Need-element-write-frontier-2
-element-write-frontier-2 c = search needs
-
 returns : tie.Need-returns
 unfolding brought
 returns c =
@@ -60,5 +21,6 @@ returns c =
 pub bring-spec : {M : Type 1} → statement M
 bring-spec =
     tie.close
-    (tie.spec add-marks mul-marks element-copy-out-marks has-requires mul-kept element-copy-out-kept kept-requires mul-frontier
-        element-write-frontier bit-requires add-frontier mul-frontier-2 element-write-frontier-2 returns)
+    (tie.spec (λ c. search needs) (λ c. search needs) (λ c. search needs) (λ c κs. search needs) (λ c. search needs) (λ c. search needs)
+    (λ c κs. search needs) (λ c. search needs) (λ c. search needs) (λ c κs. search needs) (λ c. search needs) (λ c. search needs)
+    (λ c. search needs) returns)

@@ -69,5 +69,5 @@ returns-2 c =
 pub next-state-spec : {M : Type 1} → statement M
 next-state-spec =
     tie.close
-    (tie.spec Inv-loop μ-loop loop-holds add-next-bit mul-next-bit element-copy-out-next-bit next-bit-requires mul-result add-result returns
-        mul-v add-v loop-less loop-again returns-2)
+    (tie.spec Inv-loop μ-loop loop-holds add-next-bit mul-next-bit element-copy-out-next-bit next-bit-requires mul-result add-result
+    returns mul-v add-v loop-less loop-again returns-2)
