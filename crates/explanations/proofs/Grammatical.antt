@@ -44,7 +44,8 @@ module _ (tableText formulaText table formula rows edges : List ℕ) where
       let (t, d) = second-refused 6 n (λ t. andThen (readFormula (t .names) formulaText) (onFormula t)) (readTable tableText)
       (λ z. let h = numbered-of (Between 1 4) (readTable tableText) 6 n (table-numbers tableText) z in omega (arith, h .1)) e in
       reading-longest (t .names) formulaText n (first-refused 6 n (onFormula t) (readFormula (t .names) formulaText)
-      (λ F z. let h = numbered-of (Between 11 12) (onFormula t F) 6 n (numbered-answers (Between 11 12) (onListing t F) (fitted (listing t F) rows edges) (fitted-numbers (listing t F) rows edges)) z in omega (arith, h .0)) d)
+      (λ F z. let numbers = numbered-answers (Between 11 12) (onListing t F) (fitted (listing t F) rows edges) (fitted-numbers (listing t F) rows edges) in
+      let h = numbered-of (Between 11 12) (onFormula t F) 6 n numbers z in omega (arith, h .0)) d)
 
   pub explaining-longest : (n : ℕ) → explaining tableText formulaText table formula rows edges ≡ refusal 6 n → Longest marked formulaText n × (Grammatical marked formulaText → ⊥)
   unfolding explaining

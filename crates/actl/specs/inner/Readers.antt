@@ -5,19 +5,19 @@ use mathlib.Core.Logic.{_⊎_}
 use mathlib.Core.List.{List, [], _∷_, _++_}
 use mathlib.Core.Option.{Option, none, some}
 use Prim.Native.Nat.{ℕ, zero, suc, _+_, _*_, _-_, _≤_, _<_}
-use lib.ListN.{length, take, drop}
+use lib.ListN.{length, drop}
 use Rattle.actl.specs.Sizes.{longestText, mostNodes}
 use Rattle.columns.specs.inner.Write.{pasted}
 use Rattle.lts.specs.Names.{lookup}
 use Rattle.lts.specs.inner.Prepared.{tableIn}
 use Rattle.lts.specs.inner.HoldsTable.{HoldsTable}
-use Rattle.actl.specs.Actions.{Action, Mask, Cond}
+use Rattle.actl.specs.Actions.{Action}
 use Rattle.actl.specs.Formulas.{size}
-use Rattle.actl.specs.Grammar.{Set, Operand, Condition, Quantifier, existential, universal, Head, next, until, untilThen, reach, labelled, Disjunction, Term}
-use Rattle.actl.specs.inner.Show.{gap, showS, showO, showC, showH, showF, showT}
-use Rattle.actl.specs.inner.Reader.{oFirst, InTerm, tFirst, tModal, termAt, afterNext, afterUntil, afterFirst, second, third, operandAt, afterSet, afterDisjunction}
+use Rattle.actl.specs.Grammar.{Set, Operand, Quantifier, existential, universal, Head, next, until, untilThen, reach, labelled, Disjunction, Term}
+use Rattle.actl.specs.inner.Show.{gap, showS, showO, showH, showF, showT}
+use Rattle.actl.specs.inner.Reader.{oFirst, tFirst, tModal, termAt, operandAt, afterSet, afterDisjunction}
 use Rattle.actl.specs.inner.Reader.{plugO, plugT, read, whole, refused}
-use Rattle.actl.specs.inner.Mentions.{Mention, namesS, namesO, namesC, namesH, namesF, namesT, firstUnknown}
+use Rattle.actl.specs.inner.Mentions.{Mention, namesS, namesO, namesH, namesF, namesT, firstUnknown}
 use Rattle.actl.specs.Meaning.{labelsOf, actionOfOperand, maskIn, condOf}
 use Rattle.actl.specs.inner.Meaning.{formulaF, formulaT}
 use Rattle.actl.specs.Reading.{unknownAt}
@@ -77,17 +77,6 @@ pub record Unclosed (N : List (List ℕ)) (s : List ℕ) (at mark lost to : ℕ)
   pub contents : SetRead N s at lost to mask left
   pub other : peek s to ≡ mark → ⊥
 
--- The bracket of EX or AX, and its step condition.
-pub record NextRead (N : List (List ℕ)) (s : List ℕ) (at lost to : ℕ) (met : Cond) (left : ℕ) : Type 0 where
-  pub before : ℕ
-  pub inside : ℕ
-  pub condition : Condition
-  pub behind : ℕ
-  pub moves : Moves s at to (λ r. gap before (91 ∷ gap inside (showC condition (gap behind (93 ∷ r)))))
-      (λ (p : Quantifier × InTerm). afterNext (p .0) (p .1) 0) (λ p. termAt (tModal (next (p .0) before inside condition behind) (p .1) 0))
-  pub means : condOf N condition ≡ met
-  pub lacks : left ≡ earlier lost (unknownIn N (length s) (namesC condition (gap behind (93 ∷ drop to s))))
-
 -- The node between two `~`, where every path or step is meant.
 abbrev pub dualSlots : Quantifier → Slot → List Slot
 dualSlots existential v = v ∷ []
@@ -104,26 +93,6 @@ headSlots N (until a b x d) = slot 8 (maskIn N x) 0 ∷ []
 headSlots N (untilThen a b x c d y e) = slot 9 (maskIn N x) (maskIn N y) ∷ []
 headSlots N (reach q) = dualSlots q (slot 8 (labelsOf N Action.any) 0)
 headSlots N (labelled q a b x d) = dualSlots q (slot 5 (maskIn N x) 0)
-
--- The bracket of EU.
-pub record UntilRead (N : List (List ℕ)) (s : List ℕ) (at lost to : ℕ) (node : Slot) (left : ℕ) : Type 0 where
-  pub value : Head
-  pub text : List ℕ → List ℕ
-  pub shows : (r : List ℕ) → showH value r ≡ 69 ∷ 85 ∷ text r
-  pub moves : Moves s at to text (λ k. afterUntil k 0) (λ k. termAt (tModal value k 0))
-  pub means : headSlots N value ≡ node ∷ []
-  pub lacks : left ≡ earlier lost (unknownIn N (length s) (namesH value (drop to s)))
-
--- The rest of DIA or BOX behind its first letter, with the bracket.
-pub record LabelledRead (N : List (List ℕ)) (s : List ℕ) (q : Quantifier) (at lost to : ℕ) (mask : Mask) (left : ℕ) : Type 0 where
-  pub before : ℕ
-  pub inside : ℕ
-  pub value : Set
-  pub behind : ℕ
-  pub moves : Moves s at to (λ r. second q ∷ third q ∷ gap before (91 ∷ gap inside (showS value (gap behind (93 ∷ r))))) (afterFirst q)
-      (λ k. termAt (tModal (labelled q before inside value behind) k 0))
-  pub means : mask ≡ maskIn N value
-  pub lacks : left ≡ earlier lost (unknownIn N (length s) (namesS value (gap behind (93 ∷ drop to s))))
 
 -- A keyword, and the nodes that it puts before its arm's.
 pub record HeadRead (N : List (List ℕ)) (s : List ℕ) (at lost to : ℕ) (slots : List Slot) (left : ℕ) : Type 0 where
