@@ -63,11 +63,11 @@
 
 /* The stack that each call takes at most, in bytes: measured on the inputs that take most, rounded up to a multiple of 16,384. */
 #define EXPLAINER_READ_TABLE_STACK 16384
-#define EXPLAINER_READ_FORMULA_STACK 311296
+#define EXPLAINER_READ_FORMULA_STACK 196608
 #define EXPLAINER_VERDICT_STACK 32768
 #define EXPLAINER_BUILD_STACK 98304
 #define EXPLAINER_ACCEPTS_STACK 49152
-#define EXPLAINER_EXPLAIN_STACK 311296
+#define EXPLAINER_EXPLAIN_STACK 196608
 
 #ifdef __cplusplus
 extern "C" {

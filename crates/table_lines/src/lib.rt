@@ -117,7 +117,10 @@ pub fn transition_line(text: &[u8], at: usize) -> TransitionLine
     requires { ⌜ at ≤ length (now text) ⌝ }
     ensures { λ r. ⌜ TransitionAnswer (now (text .entry)) at r ⌝ }
 {
-    let Pair::Numbers(from, label) = read_pair(text, at) else {
+    let Column::Number(from) = columns::read_column(text, at) else {
+        return TransitionLine::NoRow;
+    };
+    let Column::Number(label) = columns::read_column(text, at + 6) else {
         return TransitionLine::NoRow;
     };
     let Column::Number(to) = columns::read_column(text, at + 12) else {
