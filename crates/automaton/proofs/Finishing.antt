@@ -1,15 +1,14 @@
 -- From which positions a final one can be reached: from a node of class 1 where it holds, from one of class 2 where it does not, and
 -- from END. So a formula of class 1 holds exactly if it has a witness, and one of class 2 fails exactly if it has a counterexample.
 use mathlib.Core.Path.{_≡_, refl, sym, ap, _∙_, subst}
-use mathlib.Core.Logic.{_⊎_, inl, inr, _↔_}
-use mathlib.Core.Bool.{Bool, true, false, cond, not as negate, true≢false, false≢true}
+use mathlib.Core.Logic.{inl, inr, _↔_}
+use mathlib.Core.Bool.{Bool, true, false, not as negate, true≢false}
 use mathlib.Core.List.{List, [], _∷_}
-use Prim.Native.Nat.{ℕ, suc, _<_, _≤_}
+use Prim.Native.Nat.{ℕ, _<_, _≤_}
 use native.Mathlib.Decide.{decLt}
 use native.Mathlib.Omega.{arith}
-use lib.Dec.{eqb}
-use Rattle.lts.specs.Steps.{Step, Table, IsStep}
-use Rattle.lts.proofs.Booleans.{not-true, not-false}
+use Rattle.lts.specs.Steps.{Step, Table}
+use Rattle.lts.proofs.Booleans.{not-true, not-false, is-false}
 use Rattle.actl.specs.Formulas.{Formula, tru, size, classOf, At, root}
 use Rattle.actl.proofs.Subformulas.{at-node, node-at, node-past}
 use Rattle.actl.proofs.Classes.{class-types, HasClass, class-of-node}
@@ -18,12 +17,12 @@ use Rattle.satisfaction.specs.inner.Holds.{holds}
 use Rattle.satisfaction.proofs.Satisfaction.{holds-is-satisfaction}
 use Rattle.automaton.specs.Paths.{IsPath, wordOf}
 use Rattle.automaton.specs.Witnesses.{Witness, Counterexample}
-use Rattle.automaton.specs.Places.{FreeMoves, stay, Final, Leads}
-use Rattle.automaton.specs.Positions.{Position, at, rootAt, Joins, Walk, stop, go, CanFinish}
-use Rattle.automaton.specs.inner.Search.{nodeAt, explains, canFinish}
+use Rattle.automaton.specs.Places.{stay}
+use Rattle.automaton.specs.Positions.{Position, at, Joins, Walk, stop, go, CanFinish}
+use Rattle.automaton.specs.inner.Search.{explains, canFinish}
 use Rattle.automaton.proofs.Acceptance.{Accepting, halt, move, shown-is-accepting, broken-is-accepting}
 use Rattle.automaton.proofs.PathWords.{words-of-witnesses, words-of-counterexamples}
-use Rattle.automaton.proofs.States.{States, states-agree, is-false}
+use Rattle.automaton.proofs.States.{States, states-agree}
 
 pub step-finishes : {t : Table} {F : Formula} {p q : Position} {l : ℕ} → Joins t F p l q → CanFinish t F q → CanFinish t F p
 step-finishes {l} j (w, u) = (l ∷ w, go j u)

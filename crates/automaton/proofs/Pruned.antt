@@ -25,10 +25,7 @@ use Rattle.automaton.proofs.Moves.{moves-of}
 use Rattle.automaton.proofs.Among.{onRow, visits-onRow, into, from-among, visits-kept}
 use Rattle.automaton.proofs.Cuts.{search-stop, search-on, expand-more}
 use Rattle.automaton.proofs.Search.{Expanded, expanded, bounded, starting}
-
-pub is-dead : (b : Bool) → (b ≡ true → ⊥) → b ≡ false
-is-dead true h = absurd (h refl)
-is-dead false h = refl
+use Rattle.lts.proofs.Booleans.{is-false}
 
 module _ (t : Table) (F : Formula) (w : InRange t) (c : HasClass F) where
   abbrev live : Position → Bool
@@ -42,7 +39,7 @@ module _ (t : Table) (F : Formula) (w : InRange t) (c : HasClass F) where
   joins-live {p} {q} h j e = canFinish-is t F c p h .1 (step-finishes j (canFinish-is t F c q (leads-inside (j .1)) .0 e))
 
   pub dead-moves : (i : ℕ) (p : Position) → p .place ≤ size F → live p ≡ false → keep (into live) (movesFromAmong anyPosition t F i p) ≡ []
-  dead-moves i p h e = keep-none (into live) (movesFromAmong anyPosition t F i p) (λ m n. is-dead (live (m .goal)) (λ d. true≢false (sym (joins-live h (moves-of anyPosition t F i p n .joins) d) ∙ e)))
+  dead-moves i p h e = keep-none (into live) (movesFromAmong anyPosition t F i p) (λ m n. is-false (live (m .goal)) (λ d. true≢false (sym (joins-live h (moves-of anyPosition t F i p n .joins) d) ∙ e)))
 
   abbrev place : List Position → ℕ → ℕ
   place rows i = before live rows i

@@ -1,19 +1,18 @@
 -- Over the states of a table, a node of class 1 is shown exactly where it holds, and one of class 2 broken exactly where it does not.
-use mathlib.Core.Path.{_≡_, refl, sym, ap, _∙_, subst}
+use mathlib.Core.Path.{_≡_, refl, sym, _∙_}
 use mathlib.Core.Logic.{_⊎_, inl, inr, _↔_}
-use mathlib.Core.Bool.{Bool, true, false, true≢false, false≢true, not as negate, _&&_, _||_}
+use mathlib.Core.Bool.{Bool, true, false, true≢false, false≢true, not as negate, _&&_}
 use mathlib.Core.List.{List, [], _∷_, List·Memᴰ, List·Memᴰ·head, List·Memᴰ·tail}
 use Prim.Native.Nat.{ℕ}
-use lib.ListN.{length}
 use Rattle.lts.specs.Lists.{every}
 use Rattle.lts.specs.Steps.{Step, Table}
 use Rattle.lts.specs.inner.Steps.{stepsFrom}
-use Rattle.lts.proofs.Booleans.{or-true-of, or-true-left, or-true-right, not-true, not-false}
+use Rattle.lts.proofs.Booleans.{or-true-of, or-true-left, or-true-right, not-true, not-false, is-false}
 use Rattle.lts.proofs.StepsFrom.{From, steps-are}
-use Rattle.actl.specs.Actions.{Mask, inSet, Cond, meets, passes}
+use Rattle.actl.specs.Actions.{Mask, inSet, Cond, meets}
 use Rattle.actl.specs.Formulas.{Formula, tru, not, or, ex, ax, eu, euThen, isT}
 use Rattle.actl.proofs.Classes.{Witnessable, Refutable, arm-refutable}
-use Rattle.satisfaction.specs.inner.Holds.{within, enters, holds}
+use Rattle.satisfaction.specs.inner.Holds.{enters, holds}
 use Rattle.satisfaction.proofs.Leads.{within-is-leads}
 use Rattle.satisfaction.proofs.Leads as by
 use Rattle.satisfaction.proofs.Satisfaction.{some-step, every-step}
@@ -31,10 +30,6 @@ module _ (t : Table) (a : Mask) {P Q : ℕ → Type 0} (h : (s : ℕ) → P s �
   leads-until : {s : ℕ} → by.Leads t a P s → Until (States t) a Q s
   leads-until (by.now p) = now (h _ p)
   leads-until (by.later x e u) = later x e (leads-until u)
-
-pub is-false : (b : Bool) → (b ≡ true → ⊥) → b ≡ false
-is-false true n = absurd (n refl)
-is-false false n = refl
 
 and-false : (a b : Bool) → (a && b) ≡ false → (a ≡ false) ⊎ ((a ≡ true) × (b ≡ false))
 and-false true b e = inr (refl, e)

@@ -3,17 +3,17 @@ use mathlib.Core.Path.{_≡_, refl, sym, ap, _∙_, subst}
 use mathlib.Core.Logic.{_⊎_, inl, inr}
 use mathlib.Core.Bool.{Bool, true, false, cond}
 use mathlib.Core.List.{List, [], _∷_, _++_, map, append-nil, append-assoc, List·Memᴰ, List·Memᴰ·head, Memᴰ·cast, Memᴰ·append-right}
-use Prim.Native.Nat.{ℕ, zero, suc, _+_, _-_, _*_, _<_, _≤_}
+use Prim.Native.Nat.{ℕ, zero, suc, _+_, _-_, _<_, _≤_}
 use native.Mathlib.Decide.{decLt}
 use native.Mathlib.Omega.{arith}
 use lib.Dec.{ltb}
-use lib.ListN.{length, getD, length-append, length-map, List·getD-append}
+use lib.ListN.{length, getD, length-append, length-map}
 use lib.Seq.{getD-append-seam}
 use borrow.Author.Tests.{ltb-true}
 use Rattle.lts.specs.Steps.{Table}
 use Rattle.lts.specs.inner.Range.{InRange}
 use Rattle.lts.proofs.Lists.{getD-mem, mem-index, map-of, map-append, rising-unique}
-use Rattle.actl.specs.Formulas.{Formula, size}
+use Rattle.actl.specs.Formulas.{Formula}
 use Rattle.actl.proofs.Classes.{HasClass}
 use Rattle.automaton.specs.Places.{Final}
 use Rattle.automaton.specs.Positions.{Position, at, rootAt, Reached, begin, onward, Entered, stop, CanFinish}
@@ -22,16 +22,16 @@ use Rattle.automaton.specs.inner.Search.{expand, search, positions, move
 use Rattle.automaton.specs.Listing.{Row, Edge, Listing}
 use Rattle.automaton.specs.Listed.{rowAt, placed, IsRow, Listed}
 use Rattle.automaton.proofs.Tests.{final-is}
-use Rattle.automaton.proofs.Kept.{same-flag}
 use Rattle.automaton.proofs.Numbers.{number-append, number-past, number-mem, number-found, unseen}
 use Rattle.automaton.proofs.Inside.{room, reached-inside}
-use Rattle.automaton.proofs.Moves.{IsMove, upto-of}
+use Rattle.automaton.proofs.Moves.{upto-of}
 use Rattle.automaton.proofs.Visits.{visits-more, visits-to, visits-append}
 use Rattle.automaton.proofs.Cuts.{upto-split}
 use Rattle.automaton.proofs.Search.{Expanded, upto-next, expanded, starting}
-use Rattle.automaton.proofs.Rows.{ClosedRows, IsEdge, BeforeIn, edgesOf, move-finishes, edges-of, edges-to, edges-rising}
+use Rattle.automaton.proofs.Rows.{ClosedRows, BeforeIn, edgesOf, move-finishes, edges-of, edges-to, edges-rising}
 use Rattle.automaton.proofs.Listed.{Lists, row-down, row-up, edge-up, edge-down, rising-down, root-position, positions-to}
-use Rattle.automaton.proofs.Reading.{RowFor, row-for}
+use Rattle.automaton.proofs.Reading.{row-for}
+use Rattle.lts.proofs.Booleans.{same-truth}
 
 pub lex : (a b : ℕ) {X Y : Type 0} → (X → Y → ⊥) → (a < b) ⊎ ((a ≡ b) × X) → (b < a) ⊎ ((b ≡ a) × Y) → ⊥
 lex a b h (inl x) (inl y) = omega arith
@@ -240,7 +240,7 @@ module _ (t : Table) (F : Formula) (L : Listing) (h : Listed t F L) where
         let n = reached-inside t F w (closed .reached p (Memᴰ·cast (k .at-row i) (getD-mem R i (at 0 0) (row-down k b)))) in
         let f = final-is F (p .place) (n .0) in
         let g = h .marked i b in
-        same-flag (rowAt L i .final) (final F (p .place)) (λ e. f .1 (g .0 e)) (λ e. g .1 (f .0 e))
+        same-truth (rowAt L i .final) (final F (p .place)) (λ e. f .1 (g .0 e)) (λ e. g .1 (f .0 e))
 
     pub listed-is-listing : L ≡ listing t F
     unfolding listing

@@ -1,17 +1,16 @@
 -- Reading both texts into buffers of just their lengths.
 use mathlib.Core.Path.{_≡_, refl, sym, ap, _∙_, subst}
-use mathlib.Core.Bool.{Bool, true, false}
-use mathlib.Core.List.{List, [], _∷_, _++_, append-nil}
-use mathlib.Core.Option.{Option, none, some}
-use Prim.Native.Nat.{ℕ, _≤_, _<_}
+use mathlib.Core.List.{List, _++_, append-nil}
+use mathlib.Core.Option.{some}
+use Prim.Native.Nat.{ℕ, _≤_}
 use native.Mathlib.Omega.{arith}
 use lib.Dec.{leb}
-use lib.ListN.{length, drop, drop-of-length-le}
+use lib.ListN.{length, drop-of-length-le}
 use borrow.Author.Tests.{le-leb}
 use Rattle.actl.specs.Sizes.{formulaLength}
 use Rattle.lts.specs.Sizes.{tableLength}
-use Rattle.lts.specs.Reply.{Reply, accepted, refusal, unless, overwritten, leftIn, answers}
-use Rattle.lts.specs.Steps.{Table, labels}
+use Rattle.lts.specs.Reply.{Reply, accepted, refusal, overwritten, leftIn, answers}
+use Rattle.lts.specs.Steps.{Table}
 use Rattle.lts.specs.Reading.{readTable}
 use Rattle.lts.specs.Prepared.{tableBytes}
 use Rattle.lts.specs.inner.Prepared.{preparedTable}
@@ -37,6 +36,7 @@ use Rattle.explanations.specs.inner.BothTexts.{Read, readings}
 use Rattle.explainer.specs.declared.readings.BothRead.the-variants.{Ready, Refused}
 use Rattle.explanations.proofs.Readings.{reading-leaves-table, reading-leaves-formula}
 use Rattle.explainer.proofs.Answers.{refused-so}
+use Rattle.lts.proofs.Laws.Reading.{unless-to}
 
 -- A reply with the number 0 accepted; any other is the refusal that number and figure say.
 pub table-zero : (r : TableReply) → numberIn (lts.tableReply r) ≡ 0 → lts.tableReply r ≡ accepted tt
@@ -65,14 +65,10 @@ same-refusal f (refusal m h) n g e = let a : m ≡ n = cc in let b : h ≡ g = c
 all-written : (bytes buffer : List ℕ) → length bytes ≡ length buffer → overwritten bytes buffer ≡ bytes
 all-written bytes buffer e = let h : length buffer ≤ length bytes = omega arith in ap (λ l. bytes ++ l) (drop-of-length-le buffer h) ∙ append-nil bytes
 
-pub enough : {A : Type 0} (b : Bool) (n f : ℕ) (andThen : Reply A) → b ≡ true → unless b n f andThen ≡ andThen
-enough true n f andThen e = refl
-enough false n f andThen e = absurd (let z : _≡_ {A = ℕ} 0 1 = cc in omega arith)
-
 module _ (text buffer : List ℕ) (long : length buffer ≡ tableLength) where
   table-reading : tableReading text buffer ≡ readTable text
   unfolding tableReading
-  table-reading = enough (leb tableLength (length buffer)) 14 tableLength (readTable text) (le-leb tableLength (length buffer) (omega arith))
+  table-reading = unless-to (leb tableLength (length buffer)) 14 tableLength (readTable text) (le-leb tableLength (length buffer) (omega arith))
 
   pub table-refused : (r : TableReply) → lts.tableReply r ≡ tableReplied text buffer → {a : Answer} → Says (λ _. 0) (lts.tableReply r) a → (a .number ≡ 0 → ⊥)
       → readTable text ≡ refusal (a .number) (a .figure)
@@ -87,8 +83,8 @@ module _ (table text buffer : List ℕ) (long : length buffer ≡ formulaLength)
   formula-reading : formulaReading table text buffer ≡ readFormula (t .names) text
   unfolding formulaReading
   formula-reading =
-      enough (leb tableLength (length table)) 14 tableLength _ (le-leb tableLength (length table) (omega arith))
-      ∙ enough (leb formulaLength (length buffer)) 14 formulaLength _ (le-leb formulaLength (length buffer) (omega arith))
+      unless-to (leb tableLength (length table)) 14 tableLength _ (le-leb tableLength (length table) (omega arith))
+      ∙ unless-to (leb formulaLength (length buffer)) 14 formulaLength _ (le-leb formulaLength (length buffer) (omega arith))
       ∙ ap (λ o. withTable o (λ u. readFormula (u .names) text)) held
 
   pub formula-refused : (r : FormulaReply) → actl.formulaReply r ≡ formulaReplied table text buffer

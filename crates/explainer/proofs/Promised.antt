@@ -1,30 +1,24 @@
 -- The promise of `explain`, for each way that it returns.
-use mathlib.Core.Path.{_≡_, refl, sym, _∙_, subst₂, subst₃}
-use mathlib.Core.Bool.{Bool, true, false}
+use mathlib.Core.Path.{_≡_, sym, _∙_, subst₂, subst₃}
 use mathlib.Core.List.{List}
 use Prim.Native.Nat.{ℕ, _≤_, _<_}
-use native.Mathlib.Omega.{arith}
 use lib.Dec.{leb}
 use lib.ListN.{length}
 use borrow.Author.Tests.{le-leb, lt-leb}
 use Rattle.actl.specs.Sizes.{formulaLength}
 use Rattle.lts.specs.Sizes.{tableLength}
-use Rattle.lts.specs.Reply.{Reply, refusal, unless}
+use Rattle.lts.specs.Reply.{Reply, refusal}
 use Rattle.explanations.specs.InOneCall.{FromTexts}
 use Rattle.explanations.specs.Explanation.{Explanation, summary, explainReplied, tableExplained, formulaExplained, explanation, explaining}
 use Rattle.explainer.specs.Outcome.{Outcome}
 use Rattle.explainer.specs.Promise.{Promise}
 use Rattle.explainer.specs.declared.ExplainReply.{ExplainReply}
 use Rattle.explainer.specs.declared.ExplainReply.the-variants as replies
-use Rattle.explainer.proofs.BothTexts.{enough}
 use Rattle.explainer.proofs.Into.{same-outcome, refusal-outcome}
 use Rattle.explanations.proofs.Demands.{explain-explains}
 use Rattle.explanations.proofs.Grammatical.{explaining-longest}
-use Rattle.lts.proofs.Laws.Refusals.{answers-refused}
-
-stopped : {A : Type 0} (b : Bool) (n f : ℕ) (r : Reply A) → b ≡ false → unless b n f r ≡ refusal n f
-stopped true n f r e = absurd (let z : _≡_ {A = ℕ} 0 1 = cc in omega arith)
-stopped false n f r e = refl
+use Rattle.lts.proofs.Laws.Refusals.{answers-refused, unless-false}
+use Rattle.lts.proofs.Laws.Reading.{unless-to}
 
 module _ (tableText formulaText table formula rows edges : List ℕ) where
   abbrev E : Reply Explanation
@@ -46,19 +40,19 @@ module _ (tableText formulaText table formula rows edges : List ℕ) where
 
   pub short-table : length table < tableLength → E ≡ refusal 14 tableLength
   unfolding explaining
-  short-table h = stopped (leb tableLength (length table)) 14 tableLength _ (lt-leb tableLength (length table) h)
+  short-table h = unless-false (leb tableLength (length table)) 14 tableLength _ (lt-leb tableLength (length table) h)
 
   pub short-formula : tableLength ≤ length table → length formula < formulaLength → E ≡ refusal 14 formulaLength
   unfolding explaining
   short-formula g h =
-      enough (leb tableLength (length table)) 14 tableLength _ (le-leb tableLength (length table) g)
-      ∙ stopped (leb formulaLength (length formula)) 14 formulaLength _ (lt-leb formulaLength (length formula) h)
+      unless-to (leb tableLength (length table)) 14 tableLength _ (le-leb tableLength (length table) g)
+      ∙ unless-false (leb formulaLength (length formula)) 14 formulaLength _ (lt-leb formulaLength (length formula) h)
 
   pub long-enough : tableLength ≤ length table → formulaLength ≤ length formula → E ≡ explanation tableText formulaText rows edges
   unfolding explaining
   long-enough g h =
-      enough (leb tableLength (length table)) 14 tableLength _ (le-leb tableLength (length table) g)
-      ∙ enough (leb formulaLength (length formula)) 14 formulaLength _ (le-leb formulaLength (length formula) h)
+      unless-to (leb tableLength (length table)) 14 tableLength _ (le-leb tableLength (length table) g)
+      ∙ unless-to (leb formulaLength (length formula)) 14 formulaLength _ (le-leb formulaLength (length formula) h)
 
   pub promised-explanation : tableLength ≤ length table → formulaLength ≤ length formula → (r : ExplainReply) (table′ formula′ rows′ edges′ : List ℕ)
       → Outcome (explanation tableText formulaText rows edges) r table table′ formula formula′ rows rows′ edges edges′

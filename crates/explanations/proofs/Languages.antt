@@ -1,9 +1,9 @@
 -- Whether a listing has just the words of a language: sets of rows against derivatives of the language, one soundness law.
 use mathlib.Core.Path.{_≡_, refl, sym, ap, _∙_, subst}
 use mathlib.Core.Logic.{_⊎_, inl, inr, _↔_}
-use mathlib.Core.Bool.{Bool, true, false, cond, true≢false, false≢true, Bool·beq, _&&_, _||_}
+use mathlib.Core.Bool.{Bool, true, false, cond, true≢false, false≢true, Bool·beq, _&&_}
 use mathlib.Core.List.{List, [], _∷_, _++_, map, List·Memᴰ, List·Memᴰ·head, List·Memᴰ·tail, List·Memᴰ·not-nil, List·Memᴰ·cases-cons, List·Memᴰ·append-cases, Memᴰ·append-left, Memᴰ·append-right}
-use Prim.Native.Nat.{ℕ, zero, suc, _<_}
+use Prim.Native.Nat.{ℕ, zero, suc}
 use native.Mathlib.Omega.{arith}
 use lib.Dec.{eqb, ltb}
 use lib.ListN.{length, replicate}
@@ -12,20 +12,13 @@ use Rattle.columns.specs.Bytes.{sameBytes}
 use Rattle.lts.specs.inner.Lists.{consIf, keep}
 use Rattle.lts.specs.Lists.{every}
 use Rattle.lts.specs.Lists.{anyOf, bind}
-use Rattle.lts.proofs.Booleans.{and-true-of, and-true-to, or-true-of, or-true-left, or-true-right}
+use Rattle.lts.proofs.Booleans.{and-true-of, and-true-to}
 use Rattle.lts.proofs.Lists.{keep-of, keep-to, some-of, some-to, every-of, map-of, map-to}
 use Rattle.automaton.specs.Listing.{Listing, Edge}
-use Rattle.automaton.specs.Listed.{IsRow, rowAt}
+use Rattle.automaton.specs.Listed.{rowAt}
 use Rattle.automaton.specs.inner.Words.{Reads, ends, reads, Accepts}
 use Rattle.explanations.specs.BenchSheet.{Language, Member}
-
--- Equal tests are equal lists.
-pub same-bytes : (a b : List ℕ) → sameBytes a b ≡ true → a ≡ b
-same-bytes [] [] e = refl
-same-bytes [] (y ∷ b) e = absurd (false≢true e)
-same-bytes (x ∷ a) [] e = absurd (false≢true e)
-same-bytes (x ∷ a) (y ∷ b) e = let d = and-true-of (eqb x y) (sameBytes a b) e in
-    let h = eqb-true x y (d .0) in let t = same-bytes a b (d .1) in λ i. h i ∷ t i
+use Rattle.columns.proofs.Laws.Bytes.{same-of}
 
 abbrev sameWords : List (List ℕ) → List (List ℕ) → Bool
 sameWords [] [] = true
@@ -38,7 +31,7 @@ same-words [] [] e = refl
 same-words [] (y ∷ b) e = absurd (false≢true e)
 same-words (x ∷ a) [] e = absurd (false≢true e)
 same-words (x ∷ a) (y ∷ b) e = let d = and-true-of (sameBytes x y) (sameWords a b) e in
-    let h = same-bytes x y (d .0) in let t = same-words a b (d .1) in λ i. h i ∷ t i
+    let h = same-of x y (d .0) in let t = same-words a b (d .1) in λ i. h i ∷ t i
 
 pub same-tests : (a b : Bool) → Bool·beq a b ≡ true → a ≡ b
 same-tests true true e = refl
@@ -219,9 +212,9 @@ same-pair : (p q : Pair) → samePair p q ≡ true → p ≡ q
 same-pair p q e =
     let (a, d) = and-true-of (sameBytes (p .rows) (q .rows)) _ e in
     let (b, c) = and-true-of (sameWords (p .language .words) (q .language .words)) _ d in
-    let x = same-bytes (p .rows) (q .rows) a in
+    let x = same-of (p .rows) (q .rows) a in
     let y = same-words (p .language .words) (q .language .words) b in
-    let z = same-bytes (p .language .repeated) (q .language .repeated) c in
+    let z = same-of (p .language .repeated) (q .language .repeated) c in
     λ i. record { rows = x i; language = record { words = y i; repeated = z i } }
 
 abbrev onLetter : Listing → Pair → ℕ → Pair

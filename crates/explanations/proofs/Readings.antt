@@ -1,5 +1,5 @@
 -- Readings leave prepared bytes: what was read, written over a lent buffer.
-use mathlib.Core.Path.{_≡_, refl, sym, ap, _∙_, subst}
+use mathlib.Core.Path.{_≡_, sym, ap, _∙_, subst}
 use mathlib.Core.List.{List}
 use mathlib.Core.Option.{some}
 use Prim.Native.Nat.{ℕ, _≤_}
@@ -8,7 +8,7 @@ use lib.Dec.{leb}
 use lib.ListN.{length, drop, length-append}
 use lib.Seq.{take-at}
 use Rattle.lts.specs.Sizes.{tableLength}
-use Rattle.lts.specs.Reply.{Reply, accepted, refusal, overwritten, leftIn, answers}
+use Rattle.lts.specs.Reply.{accepted, overwritten, leftIn}
 use Rattle.lts.specs.Steps.{Table, labels}
 use Rattle.lts.specs.inner.Range.{InRange}
 use Rattle.lts.specs.Reading.{readTable}
@@ -27,7 +27,7 @@ use Rattle.actl.specs.FormulaReading.{withTable, formulaReading, formulaReplied
 use Rattle.actl.proofs.Laws.Accepted.{reading-leaves-form}
 use Rattle.actl.proofs.Laws.Forms.{length-form}
 use Rattle.actl.proofs.Laws.Prepared as prepared-formula
-use Rattle.actl.proofs.Laws.Replies.{refusal-is-not-accepted, unless-accepted, long-enough-accepted}
+use Rattle.actl.proofs.Laws.Replies.{unless-accepted, long-enough-accepted, accepted-answer}
 use Rattle.automaton.proofs.Accepted.{prepared-in-range}
 
 module _ (text : List ℕ) (t : Table) (e : readTable text ≡ accepted t) (buffer : List ℕ) where
@@ -54,11 +54,6 @@ module _ (t : Table) (w : InRange t) (text : List ℕ) (F : Formula) (e : readFo
 
   pub formula-long : formulaLength ≤ length formula-over
   formula-long = omega (arith, length-append (formulaBytes F) (drop (length (formulaBytes F)) buffer), length-form F (formula-form .few))
-
--- The two calls.
-accepted-answer : {A B : Type 0} (f : A → B) (r : Reply A) {b : B} → answers f r ≡ accepted b → (a : A) × (r ≡ accepted a)
-accepted-answer f (accepted a) e = (a, refl)
-accepted-answer f (refusal n g) e = absurd (refusal-is-not-accepted e)
 
 module _ (text buffer : List ℕ) where
   pub reading-leaves-table : tableReplied text buffer ≡ accepted tt → (t : Table) × (readTable text ≡ accepted t) × (preparedTable (tableLeft text buffer) ≡ some t)

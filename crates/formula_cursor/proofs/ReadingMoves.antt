@@ -3,7 +3,6 @@ use mathlib.Core.Path.{_≡_, refl, sym, ap, _∙_, subst}
 use mathlib.Core.Bool.{cond}
 use mathlib.Core.List.{List, [], _∷_}
 use Prim.Native.Nat.{ℕ, zero, suc, _+_, _-_, _≤_, _<_}
-use native.Mathlib.Nat.{add-zero}
 use native.Mathlib.Decide.{decLe}
 use native.Mathlib.Omega.{arith}
 use borrow.Author.Tests.{ne-eqb}
@@ -13,22 +12,12 @@ use Rattle.actl.specs.inner.Show.{gap}
 use Rattle.actl.specs.inner.Reader.{State, ReaderStep, go, stop, on, readByte, finish, proceed, run, refused}
 use Rattle.actl.specs.inner.Cursor.{peek, Token, Skipped, Moves, Fails, Marked, Tokened}
 use Rattle.formula_cursor.proofs.ReadingPlaces.{inside, byte-at, run-byte, run-stop}
+use Rattle.actl.proofs.Complete.{gaps}
 
 -- Blanks count up.
 abbrev up : ℕ → ℕ → ℕ
 up zero g = g
 up (suc n) g = up n (suc g)
-
-up-add : (n g : ℕ) → up n g ≡ n + g
-up-add zero g = omega arith
-up-add (suc n) g = up-add n (suc g) ∙ omega arith
-
-run-gap-up : (x : ℕ → State) → ((g : ℕ) → readByte (x g) 32 ≡ go (x (suc g))) → (n g : ℕ) (s : List ℕ) → run (gap n s) (x g) ≡ run s (x (up n g))
-run-gap-up x h zero g s = refl
-run-gap-up x h (suc n) g s = ap (λ v. proceed v (run (gap n s)) (refused (32 ∷ gap n s))) (h g) ∙ run-gap-up x h n (suc g) s
-
-run-gap : (x : ℕ → State) → ((g : ℕ) → readByte (x g) 32 ≡ go (x (suc g))) → (n : ℕ) (s : List ℕ) → run (gap n s) (x 0) ≡ run s (x n)
-run-gap x h n s = run-gap-up x h n 0 s ∙ ap (λ g. run s (x g)) (up-add n 0 ∙ add-zero n)
 
 pub on-other : (b m : ℕ) (y z : ReaderStep) → (b ≡ m → ⊥) → on b m y z ≡ z
 on-other b m y z h = ap (λ t. cond t y z) (ne-eqb b m h)
@@ -70,7 +59,7 @@ module _ {K : Type 0} {s : List ℕ} where
     up = k .up;
     within = k .within;
     text = k .blanks;
-    reads = λ i. ap (λ l. run l (x 0 i)) (k .blanks) ∙ run-gap (λ g. x g i) (λ g. h g i) (d - at) (drop d s);
+    reads = λ i. ap (λ l. run l (x 0 i)) (k .blanks) ∙ gaps (λ g. x g i) (λ g. h g i) (d - at) (drop d s);
   }
 
   pub stops : {at : ℕ} → at ≤ length s → {x : K → State} → ((k : K) → finish (x k) ≡ refused [])

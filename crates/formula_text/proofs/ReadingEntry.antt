@@ -1,6 +1,6 @@
 -- The entry: its tests in their order, and what the reading of a text gives.
 use mathlib.Core.Path.{_≡_, refl, sym, ap, _∙_}
-use mathlib.Core.Bool.{Bool, true, false}
+use mathlib.Core.Bool.{true, false}
 use mathlib.Core.List.{List, []}
 use mathlib.Core.Option.{Option, none, some}
 use Prim.Native.Nat.{ℕ, _≤_, _<_}
@@ -12,10 +12,9 @@ use Rattle.actl.specs.Sizes.{formulaLength, longestText}
 use Rattle.lts.specs.Sizes.{tableLength}
 use Rattle.lts.specs.Reply.{Reply, refusal, unless, leftIn, answers}
 use Rattle.lts.specs.Steps.{Table}
-use Rattle.lts.specs.inner.Prepared.{tableIn, preparedTable}
-use Rattle.lts.specs.inner.HoldsTable.{HoldsTable}
+use Rattle.lts.specs.inner.Prepared.{preparedTable}
 use Rattle.lts.specs.inner.Answers.{isSome}
-use Rattle.lts.proofs.Laws.Prepared.{prepared-in, prepared-holds}
+use Rattle.lts.proofs.Laws.Prepared.{prepared-in}
 use Rattle.actl.specs.Formulas.{Formula}
 use Rattle.actl.specs.inner.Reader.{read}
 use Rattle.actl.specs.inner.Mentions.{namesF}
@@ -29,14 +28,8 @@ use Rattle.actl.specs.inner.Meaning.{formulaF}
 use Rattle.formula_text.specs.inner.FormulaAnswers.{FormulaAnswered, FormulaAnsweredWith}
 use Rattle.formula_text.specs.declared.FormulaReply.{FormulaReply}
 use Rattle.formula_text.specs.declared.FormulaReply.the-variants.{TooLong, NotGrammatical, TableForeign, BufferShort}
-
-passes : {A : Type 0} (t : Bool) (number figure : ℕ) (a : Reply A) → t ≡ true → unless t number figure a ≡ a
-passes true number figure a e = refl
-passes false number figure a e = let z : _≡_ {A = ℕ} 0 1 = cc in absurd (omega arith)
-
-stops : {A : Type 0} (t : Bool) (number figure : ℕ) (a : Reply A) → t ≡ false → unless t number figure a ≡ refusal number figure
-stops true number figure a e = let z : _≡_ {A = ℕ} 0 1 = cc in absurd (omega arith)
-stops false number figure a e = refl
+use Rattle.lts.proofs.Laws.Reading.{unless-to}
+use Rattle.lts.proofs.Laws.Refusals.{unless-false}
 
 -- Two readings that are equal are answered alike.
 answered-as : {a b : Reply Formula} {e x : List ℕ} {r : FormulaReply} → a ≡ b → FormulaAnswered b e r x → FormulaAnswered a e r x
@@ -59,21 +52,21 @@ module _ (b s e : List ℕ) where
   pub short-table : length b < tableLength → FormulaAnswered (formulaReading b s e) e (BufferShort tableLength) e
   unfolding formulaReading
   short-table h =
-      refuses (BufferShort tableLength) 14 tableLength (stops (leb tableLength (length b)) 14 tableLength _ (lt-leb tableLength (length b) h)) refl
+      refuses (BufferShort tableLength) 14 tableLength (unless-false (leb tableLength (length b)) 14 tableLength _ (lt-leb tableLength (length b) h)) refl
 
   module _ (long : tableLength ≤ length b) where
     enough : {A : Type 0} (a : Reply A) → unless (leb tableLength (length b)) 14 tableLength a ≡ a
-    enough a = passes (leb tableLength (length b)) 14 tableLength a (le-leb tableLength (length b) long)
+    enough a = unless-to (leb tableLength (length b)) 14 tableLength a (le-leb tableLength (length b) long)
 
     pub short-formula : length e < formulaLength → FormulaAnswered (formulaReading b s e) e (BufferShort formulaLength) e
     unfolding formulaReading
     short-formula h = refuses (BufferShort formulaLength) 14 formulaLength
-        (enough _ ∙ stops (leb formulaLength (length e)) 14 formulaLength _ (lt-leb formulaLength (length e) h)) refl
+        (enough _ ∙ unless-false (leb formulaLength (length e)) 14 formulaLength _ (lt-leb formulaLength (length e) h)) refl
 
     module _ (room : formulaLength ≤ length e) where
       opened : formulaReading b s e ≡ withTable (preparedTable b) (λ t. readFormula (t .names) s)
       unfolding formulaReading
-      opened = enough _ ∙ passes (leb formulaLength (length e)) 14 formulaLength _ (le-leb formulaLength (length e) room)
+      opened = enough _ ∙ unless-to (leb formulaLength (length e)) 14 formulaLength _ (le-leb formulaLength (length e) room)
 
       pub foreign-table : isSome (preparedTable b) ≡ false → FormulaAnswered (formulaReading b s e) e TableForeign e
       foreign-table h =
@@ -83,20 +76,17 @@ module _ (b s e : List ℕ) where
           → FormulaAnswered (readFormula (namesIn b) s) e r x → FormulaAnswered (formulaReading b s e) e r x
       on-prepared h = answered-as (opened ∙ ap (λ o. withTable o (λ t. readFormula (t .names) s)) (prepared-in b h))
 
-pub table-held : (b : List ℕ) → isSome (preparedTable b) ≡ true → HoldsTable b
-table-held b h = prepared-holds b (tableIn b) (prepared-in b h)
-
 -- The text, over label names.
 module _ (N : List (List ℕ)) (s e : List ℕ) where
   pub long-text : 512 < length s → FormulaAnswered (readFormula N s) e (TooLong (length s)) e
   unfolding readFormula
   long-text h = refuses (TooLong (length s)) 5 (length s)
-      (stops (leb (length s) 512) 5 (length s) (onResult N s (read s)) (lt-leb (length s) 512 h)) refl
+      (unless-false (leb (length s) 512) 5 (length s) (onResult N s (read s)) (lt-leb (length s) 512 h)) refl
 
   module _ (short : length s ≤ longestText) where
     result : readFormula N s ≡ onResult N s (read s)
     unfolding readFormula
-    result = passes (leb (length s) 512) 5 (length s) (onResult N s (read s)) (le-leb (length s) 512 short)
+    result = unless-to (leb (length s) 512) 5 (length s) (onResult N s (read s)) (le-leb (length s) 512 short)
 
     pub refused-text : (n : ℕ) → RefusedAt s n → FormulaAnswered (readFormula N s) e (NotGrammatical n) e
     refused-text n h = refuses (NotGrammatical n) 6 n (result ∙ (ap (onResult N s) (h .reads) ∙ ap (refusal 6) (sym (h .figure)))) refl

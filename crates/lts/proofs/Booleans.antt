@@ -1,5 +1,5 @@
 -- Laws of tests.
-use mathlib.Core.Path.{_≡_, refl}
+use mathlib.Core.Path.{_≡_, refl, sym}
 use mathlib.Core.Logic.{_⊎_, inl, inr}
 use mathlib.Core.Bool.{Bool, true, false, true≢false, false≢true, not, _&&_, _||_}
 
@@ -31,3 +31,16 @@ not-true false e = refl
 pub not-false : (a : Bool) → not a ≡ true → a ≡ false
 not-false true e = absurd (false≢true e)
 not-false false e = refl
+
+pub is-false : (a : Bool) → (a ≡ true → ⊥) → a ≡ false
+is-false true h = absurd (h refl)
+is-false false h = refl
+
+pub same-truth : (a b : Bool) → (a ≡ true → b ≡ true) → (b ≡ true → a ≡ true) → a ≡ b
+same-truth true b f g = sym (f refl)
+same-truth false true f g = g refl
+same-truth false false f g = refl
+
+pub or-false : (a : Bool) → a ≡ (a || false)
+or-false true = refl
+or-false false = refl

@@ -11,7 +11,7 @@ use lib.ListN.{length}
 use borrow.Author.Tests.{leb-true, leb-false, le-leb, lt-leb}
 use Rattle.actl.specs.Sizes.{formulaLength, longestText}
 use Rattle.lts.specs.Sizes.{tableLength}
-use Rattle.lts.specs.Reply.{Reply, accepted, refusal, unless, answers}
+use Rattle.lts.specs.Reply.{Reply, accepted, refusal, unless}
 use Rattle.lts.specs.Steps.{Table}
 use Rattle.lts.specs.Marks.{Marks, marked}
 use Rattle.lts.specs.inner.Prepared.{preparedTable}
@@ -26,7 +26,7 @@ use Rattle.actl.specs.ByGrammar.{ReadBy, long, ungrammatical, grammatica
 use Rattle.actl.proofs.Grammar.{read-text, read-refused, refused-text}
 use Rattle.actl.proofs.Pieces.{text-shown, on-mentions}
 use Rattle.actl.proofs.Laws.Refusals.{tree-numbers}
-use Rattle.actl.proofs.Laws.Replies.{refusal-is-not-accepted, long-enough-accepted}
+use Rattle.actl.proofs.Laws.Replies.{refusal-is-not-accepted, long-enough-accepted, accepted-answer}
 
 -- There is one longest beginning.
 pub one-longest : (g : Marks) (text : List ℕ) (m n : ℕ) → Longest g text m → Longest g text n → m ≡ n
@@ -112,11 +112,6 @@ pub formula-by-grammar : (table text buffer : List ℕ) {r : Reply (Unit {0})} {
 unfolding formulaReading
 formula-by-grammar table text buffer e d = record { reading = λ t. readFormula (t .names) text; by-grammar = λ t. reading-is-by (t .names) text; replies = e; leaves = d }
 
--- A refusal that is neither 14 nor 10 is that of the text; and so is acceptance.
-answers-accepted : {A B : Type 0} (f : A → B) (a : Reply A) (b : B) → answers f a ≡ accepted b → (x : A) × (a ≡ accepted x)
-answers-accepted f (accepted x) b e = (x, refl)
-answers-accepted f (refusal m h) b e = let z : _≡_ {A = ℕ} 0 1 = cc in absurd (omega arith)
-
 module _ {A : Type 0} (k g : ℕ) where
   table-refused : (o : Option Table) (next : Table → Reply A) → (k ≡ 10 → ⊥) → withTable o next ≡ refusal k g → (t : Table) × (next t ≡ refusal k g)
   table-refused none next h e = absurd (h (sym (same-refusal e .0)))
@@ -151,6 +146,6 @@ module _ (table text buffer : List ℕ) {r : Reply (Unit {0})} {left : List ℕ}
 
   pub replied-accepted-grammatical : r ≡ accepted tt → (length text ≤ longestText) × Grammatical marked text
   replied-accepted-grammatical e =
-      let (F, d) = answers-accepted (λ F. tt) (onTable table buffer (h .reading)) tt (sym (h .replies) ∙ e) in
+      let (F, d) = accepted-answer (λ F. tt) (onTable table buffer (h .reading)) (sym (h .replies) ∙ e) in
       let (t, c) = table-accepted (preparedTable table) (h .reading) F (long-enough-accepted table buffer (withTable (preparedTable table) (h .reading)) d) in
       by-accepted-grammatical (t .names) text F (subst (ReadBy marked (t .names) text) c (h .by-grammar t))

@@ -25,12 +25,10 @@ use Rattle.actl.specs.FormulaReading.{withTable, withFormula, longEnough
 use Rattle.actl.specs.Foreign.{LongEnough, TableForeign, FormulaForeign, RefusesForeign}
 use Rattle.actl.proofs.Laws.Prepared.{prepared-form}
 use Rattle.actl.proofs.Laws.Refusals.{reading-numbers}
+use Rattle.actl.proofs.Laws.Replies.{same-some}
 
 abbrev pub NotTen : ℕ → Type 0
 NotTen n = n ≡ 10 → ⊥
-
-some-is : {A : Type 0} {a b : A} → some a ≡ some b → a ≡ b
-some-is e = cc
 
 not-some : {A B : Type 0} {o : Option A} {a : A} → o ≡ none → o ≡ some a → B
 not-some e d = let z : _≡_ {A = ℕ} 0 1 = cc in absurd (omega arith)
@@ -98,7 +96,7 @@ module _ (table formula : List ℕ) {A : Type 0} where
         let (l, d) = long-enough-of 1 (withTable (preparedTable table) onFormula) e in
         let (t, s, c) = table-one (preparedTable table) d in
         let h = prepared-left table .0 (t, s) in
-        let same : t ≡ h .1 = some-is (sym s ∙ left-prepared table h) in
+        let same : t ≡ h .1 = same-some (sym s ∙ left-prepared table h) in
         record {
           long = l;
           left = h;

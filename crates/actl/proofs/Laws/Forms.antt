@@ -1,9 +1,9 @@
 -- The one form of a formula: its length, its bytes, and the slots in it.
 use mathlib.Core.Path.{_≡_, refl, sym, ap, _∙_, subst}
-use mathlib.Core.List.{List, [], _∷_, _++_, map}
+use mathlib.Core.List.{List, [], _∷_, _++_}
 use Prim.Native.Nat.{ℕ, zero, suc, _+_, _*_, _-_, _/_, _%_, _^_, _≤_, _<_}
 use native.Mathlib.Omega.{arith}
-use lib.ListN.{length, getD, take, drop, replicate, length-append, length-replicate}
+use lib.ListN.{length, getD, take, drop, replicate, length-append}
 use lib.Seq.{drop-drop, getD-drop, getD-take, getD-append-add}
 use Rattle.actl.specs.Sizes.{mostNodes, nodeSlotLength, formulaLength}
 use Rattle.columns.specs.Bytes.{padded, lowFirst}
@@ -12,9 +12,10 @@ use Rattle.actl.specs.Formulas.{Formula, tru, size, nodes}
 use Rattle.actl.specs.Prepared.{Slot, slot, slotOf, slotBytes, formulaBytes}
 use Rattle.actl.specs.inner.Prepared.{number, slotAt}
 use Rattle.actl.proofs.Nodes.{length-nodes}
-use Rattle.actl.proofs.Laws.Numbers.{length-low-first, number-low-first, number-take}
-use Rattle.actl.proofs.Laws.Slots.{Shape, shape-of, node-shaped}
+use Rattle.actl.proofs.Laws.Numbers.{number-low-first, number-take}
+use Rattle.actl.proofs.Laws.Slots.{shape-of, node-shaped}
 use Rattle.actl.proofs.Laws.Widths.{length-parts, drop-parts}
+use Rattle.columns.proofs.Laws.Bytes.{padded-length, lowFirst-length}
 
 abbrev nodeBytes : Formula → List ℕ
 nodeBytes f = slotBytes (slotOf f)
@@ -22,18 +23,15 @@ nodeBytes f = slotBytes (slotOf f)
 length-slot : (s : Slot) → length (slotBytes s) ≡ 17
 length-slot s =
     let e = length-append (lowFirst 8 (s .first)) (lowFirst 8 (s .second)) in
-    let a = length-low-first 8 (s .first) in
-    let b = length-low-first 8 (s .second) in
+    let a = lowFirst-length 8 (s .first) in
+    let b = lowFirst-length 8 (s .second) in
     omega arith
-
-pub length-padded : (n : ℕ) (l : List ℕ) → length l ≤ n → length (padded n l) ≡ n
-length-padded n l h = omega (arith, length-append l (replicate (n - length l) 0), length-replicate {A = ℕ} (n - length l) 0)
 
 pub length-form : (F : Formula) → size F ≤ mostNodes → length (formulaBytes F) ≡ formulaLength
 unfolding formulaBytes
 length-form F h =
     let e = length-parts nodeBytes 17 (λ f. length-slot (slotOf f)) (nodes F) in
-    let d = length-padded (mostNodes * nodeSlotLength) (bind nodeBytes (nodes F)) (omega (arith, length-nodes F)) in
+    let d = padded-length (mostNodes * nodeSlotLength) (bind nodeBytes (nodes F)) (omega (arith, length-nodes F)) in
     ap suc d
 
 -- The slot at the front of a list.

@@ -3,45 +3,20 @@ use mathlib.Core.Path.{_≡_, refl, sym, ap, _∙_}
 use mathlib.Core.Bool.{Bool, true, false, false≢true}
 use mathlib.Core.List.{List, [], _∷_, _++_, map}
 use Prim.Native.Nat.{ℕ, zero, suc, _+_, _≤_, _<_}
-use native.Mathlib.Nat.{add-zero, add-suc, suc-add, zero-add}
+use native.Mathlib.Nat.{add-zero, add-suc, suc-add}
 use native.Mathlib.Numerals.{add-one}
 use native.Mathlib.Decide.{decLt}
 use native.Mathlib.Omega.{arith}
-use lib.Dec.{eqb}
 use lib.ListN.{length, getD, take, set}
 use lib.Seq.{take-suc-set}
-use borrow.Author.Tests.{eqb-true, eq-eqb}
-use Rattle.columns.specs.Bytes.{sameBytes}
 use Rattle.lts.specs.inner.Lists.{upFrom}
 use Rattle.lts.specs.Lists.{every}
-use Rattle.lts.proofs.Booleans.{and-true-of, and-true-to}
 use Rattle.lts.proofs.Lists.{upFrom-of, upFrom-to, upFrom-snoc, map-append, every-of, every-to}
-
-pub length-upFrom : (k n : ℕ) → length (upFrom k n) ≡ n
-length-upFrom k zero = refl
-length-upFrom k (suc n) = ap suc (length-upFrom (suc k) n)
 
 from-at : {A : Type 0} (g : ℕ → A) (j n k : ℕ) (d : A) → k < n → getD (map g (upFrom j n)) k d ≡ g (j + k)
 from-at g j zero k d h = absurd (omega arith)
 from-at g j (suc n) zero d h = ap g (sym (add-zero j))
 from-at g j (suc n) (suc k) d h = from-at g (suc j) n k d (omega arith) ∙ ap g (suc-add j k ∙ sym (add-suc j k))
-
-pub getD-upFrom : {A : Type 0} (g : ℕ → A) (n k : ℕ) (d : A) → k < n → getD (map g (upFrom 0 n)) k d ≡ g k
-getD-upFrom g n k d h = from-at g 0 n k d h ∙ ap g (zero-add k)
-
-pub same-bytes-of : (l m : List ℕ) → sameBytes l m ≡ true → l ≡ m
-same-bytes-of [] [] e = refl
-same-bytes-of [] (b ∷ m) e = absurd (false≢true e)
-same-bytes-of (a ∷ l) [] e = absurd (false≢true e)
-same-bytes-of (a ∷ l) (b ∷ m) e =
-    let (h, t) = and-true-of (eqb a b) (sameBytes l m) e in
-    let f = eqb-true a b h in
-    let g = same-bytes-of l m t in
-    λ i. f i ∷ g i
-
-pub same-bytes-refl : (l : List ℕ) → sameBytes l l ≡ true
-same-bytes-refl [] = refl
-same-bytes-refl (a ∷ l) = and-true-to (eqb a a) (sameBytes l l) (eq-eqb a a refl) (same-bytes-refl l)
 
 -- A list that is filled from the front with what a function gives.
 pub filled-more : (g : ℕ → ℕ) (l : List ℕ) (k : ℕ) → k < length l → take k l ≡ map g (upFrom 0 k) → take (k + 1) (set l k (g k)) ≡ map g (upFrom 0 (k + 1))

@@ -1,11 +1,10 @@
 -- Numbers in bytes, the low byte first: from the bytes to the number and back.
-use mathlib.Core.Path.{_≡_, refl, sym, ap, _∙_}
-use mathlib.Core.List.{List, [], _∷_, _++_}
-use Prim.Native.Nat.{ℕ, zero, suc, _+_, _*_, _/_, _%_, _^_, _≤_, _<_}
-use native.Mathlib.Nat.{add-zero, add-assoc, pow-suc, pow-zero, zero-add}
-use native.Mathlib.Numerals.{add-one}
+use mathlib.Core.Path.{_≡_, refl}
+use mathlib.Core.List.{List, _++_}
+use Prim.Native.Nat.{ℕ, zero, suc, _+_, _*_, _/_, _^_, _≤_, _<_}
+use native.Mathlib.Nat.{add-zero, add-assoc, pow-suc, pow-zero}
 use native.Mathlib.Omega.{arith}
-use lib.ListN.{length, getD, drop, take}
+use lib.ListN.{getD, drop, take}
 use lib.Seq.{drop-drop, getD-drop, getD-take}
 use Rattle.columns.specs.Bytes.{lowFirst}
 use Rattle.actl.specs.inner.Prepared.{number}
@@ -17,10 +16,6 @@ number-of-four b at = simp (drop-drop, getD-drop, add-zero, add-assoc) (omega ar
 
 pub number-of-eight : (b : List ℕ) (at : ℕ) → number 8 (drop at b) ≡ number 4 (drop at b) + number 4 (drop (at + 4) b) * 4294967296
 number-of-eight b at = simp (drop-drop, getD-drop, add-zero, add-assoc) (omega arith)
-
-pub length-low-first : (n x : ℕ) → length (lowFirst n x) ≡ n
-length-low-first zero x = refl
-length-low-first (suc n) x = ap suc (length-low-first n (x / 256))
 
 -- n bytes carry the numbers below 256 ^ n.
 pub number-low-first : (n x : ℕ) (rest : List ℕ) → x < 256 ^ n → number n (lowFirst n x ++ rest) ≡ x

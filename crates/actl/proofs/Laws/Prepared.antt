@@ -1,10 +1,10 @@
 -- What a prepared formula's bytes hold: the node count, and in slot k the node k.
 use mathlib.Core.Path.{_≡_, refl, sym, ap, _∙_, subst}
 use mathlib.Core.Logic.{_↔_}
-use mathlib.Core.Bool.{Bool, true, false, true≢false, cond, not, _&&_}
+use mathlib.Core.Bool.{Bool, true, false, true≢false, cond, not}
 use mathlib.Core.List.{List, [], _∷_, _++_, map, append-nil, List·Memᴰ}
 use mathlib.Core.Option.{Option, none, some}
-use Prim.Native.Nat.{ℕ, zero, suc, _+_, _*_, _^_, _≤_, _<_}
+use Prim.Native.Nat.{ℕ, suc, _^_, _≤_, _<_}
 use native.Mathlib.Nat.{lt-of-lt-of-le}
 use native.Mathlib.Omega.{arith}
 use lib.Dec.{leb, eqb}
@@ -18,21 +18,21 @@ use Rattle.lts.specs.inner.Answers.{isSome, Decides}
 use Rattle.columns.specs.Bytes.{sameBytes}
 use Rattle.lts.specs.inner.Lists.{upFrom}
 use Rattle.lts.specs.Lists.{every}
-use Rattle.lts.specs.Lists.{bind}
 use Rattle.lts.proofs.Laws.Prepared.{is-some-of}
 use Rattle.lts.proofs.Booleans.{and-true-of, and-true-to}
-use Rattle.lts.proofs.Lists.{every-of, every-to, getD-mem}
+use Rattle.lts.proofs.Lists.{every-of, every-to, getD-mem, upFrom-length}
 use Rattle.actl.specs.Actions.{Mask}
 use Rattle.actl.specs.Formulas.{Formula, tru, size, nodes, classOf}
 use Rattle.actl.specs.Prepared.{Slot, slot, slotOf, formulaBytes, maskWithin, slotWithin, IsForm, FormOfSome}
 use Rattle.actl.specs.inner.Prepared.{slotAt, isForm, treesIn, formed, preparedFormula}
 use Rattle.actl.specs.inner.Shaped.{shaped, firstUsed, secondUsed}
 use Rattle.actl.proofs.Nodes.{length-nodes}
-use Rattle.actl.proofs.Laws.Lists.{length-upFrom, getD-upFrom, same-bytes-of, same-bytes-refl}
 use Rattle.actl.proofs.Laws.Masks.{within-low}
 use Rattle.actl.proofs.Laws.Slots.{slot-by-parts, node-shaped}
-use Rattle.actl.proofs.Laws.Polish.{clean, slotsOf, trees-of, tree-of-slots}
+use Rattle.actl.proofs.Laws.Polish.{clean, trees-of, tree-of-slots}
 use Rattle.actl.proofs.Laws.Forms.{StandsFor, slot-of-form, slot-of-front, length-form}
+use Rattle.lts.proofs.Laws.Contents.{map-upFrom-at}
+use Rattle.columns.proofs.Laws.Bytes.{same-of, same-refl}
 
 formed-of : (n : ℕ) (b : List ℕ) (t : Option (List Formula)) {F : Formula} → formed n b t ≡ some F → (t ≡ some (F ∷ [])) × (isForm n b F ≡ true)
 formed-of n b none e = let z : _≡_ {A = ℕ} 0 1 = cc in absurd (omega arith)
@@ -50,7 +50,7 @@ is-form-of n b F e =
     let (s, c) = and-true-of _ (every _ (nodes F)) r in
     let (f, m) = and-true-of (sameBytes (take formulaLength b) (formulaBytes F)) (leb (size F) mostNodes) s in
     record {
-      form = same-bytes-of (take formulaLength b) (formulaBytes F) f;
+      form = same-of (take formulaLength b) (formulaBytes F) f;
       few = leb-true (size F) 40 m;
       classed = λ g h z. eqb-false (classOf g) 0 (not-true _ (every-of _ (nodes F) c g h)) z;
       within = every-of _ (nodes F) w;
@@ -78,14 +78,14 @@ module _ (n : ℕ) (b : List ℕ) {F : Formula} (e : preparedFormula n b ≡ som
 
   pub prepared-count : getD b 0 0 ≡ size F
   prepared-count =
-      sym (length-map (map (slotAt b) (upFrom 0 (getD b 0 0))) clean ∙ (length-map (upFrom 0 (getD b 0 0)) (slotAt b) ∙ length-upFrom 0 (getD b 0 0)))
+      sym (length-map (map (slotAt b) (upFrom 0 (getD b 0 0))) clean ∙ (length-map (upFrom 0 (getD b 0 0)) (slotAt b) ∙ upFrom-length 0 (getD b 0 0)))
       ∙ (ap length prepared-slots ∙ (length-map (nodes F) slotOf ∙ length-nodes F))
 
   pub prepared-slot : (k : ℕ) → k < size F → slotAt b k ≡ slotOf (getD (nodes F) k tru)
   prepared-slot k h =
       let f = getD (nodes F) k tru in
       let m = prepared-few in
-      let at : getD (map (slotAt b) (upFrom 0 (getD b 0 0))) k (slot 1 0 0) ≡ slotAt b k = getD-upFrom (slotAt b) (getD b 0 0) k (slot 1 0 0) (omega (arith, prepared-count)) in
+      let at : getD (map (slotAt b) (upFrom 0 (getD b 0 0))) k (slot 1 0 0) ≡ slotAt b k = map-upFrom-at (slotAt b) (getD b 0 0) k (slot 1 0 0) (omega (arith, prepared-count)) in
       let c : clean (slotAt b k) ≡ slotOf f =
       sym (List·getD-map clean (map (slotAt b) (upFrom 0 (getD b 0 0))) k (slot 1 0 0) ∙ ap clean at)
       ∙ (ap (λ l. getD l k (slot 1 0 0)) prepared-slots ∙ List·getD-map slotOf (nodes F) k tru) in
@@ -103,7 +103,7 @@ is-form-to n b F h =
     and-true-to _ (every (λ f. slotWithin n (slotOf f)) (nodes F))
     (and-true-to _ (every (λ f. not (eqb (classOf f) 0)) (nodes F))
     (and-true-to (sameBytes (take formulaLength b) (formulaBytes F)) (leb (size F) mostNodes)
-    (rw (h .form) (same-bytes-refl (formulaBytes F)))
+    (rw (h .form) (same-refl (formulaBytes F)))
     (le-leb (size F) mostNodes (h .few)))
     (every-to (λ f. not (eqb (classOf f) 0)) (nodes F) (λ f m. ap not (ne-eqb (classOf f) 0 (h .classed f m)))))
     (every-to (λ f. slotWithin n (slotOf f)) (nodes F) (h .within))
@@ -125,9 +125,9 @@ module _ (n : ℕ) (b : List ℕ) (F : Formula) (h : IsForm n b F) where
 
   form-slots : n ≤ 63 → map (slotAt b) (upFrom 0 (getD b 0 0)) ≡ map slotOf (nodes F)
   form-slots few =
-      let c : length (map (slotAt b) (upFrom 0 (getD b 0 0))) ≡ size F = length-map (upFrom 0 (getD b 0 0)) (slotAt b) ∙ (length-upFrom 0 (getD b 0 0) ∙ form-count) in
+      let c : length (map (slotAt b) (upFrom 0 (getD b 0 0))) ≡ size F = length-map (upFrom 0 (getD b 0 0)) (slotAt b) ∙ (upFrom-length 0 (getD b 0 0) ∙ form-count) in
       ext-getD (slot 1 0 0) (map (slotAt b) (upFrom 0 (getD b 0 0))) (map slotOf (nodes F)) (c ∙ sym (length-map (nodes F) slotOf ∙ length-nodes F))
-      (λ k l. getD-upFrom (slotAt b) (getD b 0 0) k (slot 1 0 0) (omega (arith, form-count)) ∙ (form-slot few k (omega arith) ∙ sym (List·getD-map slotOf (nodes F) k tru)))
+      (λ k l. map-upFrom-at (slotAt b) (getD b 0 0) k (slot 1 0 0) (omega (arith, form-count)) ∙ (form-slot few k (omega arith) ∙ sym (List·getD-map slotOf (nodes F) k tru)))
 
   pub prepared-to : n ≤ 63 → preparedFormula n b ≡ some F
   unfolding preparedFormula

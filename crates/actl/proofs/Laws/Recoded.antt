@@ -1,26 +1,23 @@
 -- Bytes whose slots are those of a formula's nodes, with zeros behind them, are the formula's one form.
-use mathlib.Core.Path.{_≡_, refl, sym, ap, _∙_, subst}
-use mathlib.Core.Bool.{Bool, true, false}
+use mathlib.Core.Path.{_≡_, refl, sym, ap, _∙_}
+use mathlib.Core.Bool.{true}
 use mathlib.Core.List.{List, [], _∷_, _++_, map, append-nil}
 use Prim.Native.Nat.{ℕ, zero, suc, _+_, _*_, _-_, _/_, _%_, _≤_, _<_}
 use native.Mathlib.Nat.{suc-mul, zero-mul}
 use native.Mathlib.Omega.{arith}
 use lib.Dec.{eqb}
-use lib.ListN.{length, getD, take, drop, replicate, length-append, length-drop, length-map, length-replicate, getD-replicate}
-use lib.Seq.{drop-cons, drop-drop, take-add, take-nil, length-take-le, getD-take, getD-drop, ext-getD}
+use lib.ListN.{length, getD, take, drop, replicate, length-drop, length-replicate, getD-replicate}
+use lib.Seq.{drop-cons, drop-drop, take-add, length-take-le, getD-take, getD-drop, ext-getD}
 use borrow.Author.Tests.{eqb-true}
 use Rattle.actl.specs.Sizes.{mostNodes, nodeSlotLength, formulaLength}
 use Rattle.columns.specs.Bytes.{padded, lowFirst}
 use Rattle.lts.specs.inner.Lists.{upFrom}
-use Rattle.lts.specs.Lists.{every}
 use Rattle.lts.specs.Lists.{bind}
 use Rattle.lts.proofs.Lists.{upFrom-to, upFrom-snoc, every-of, bind-append}
 use Rattle.actl.specs.Formulas.{Formula, size, nodes}
 use Rattle.actl.specs.Prepared.{Slot, slotOf, slotBytes, formulaBytes}
 use Rattle.actl.specs.inner.Prepared.{number, slotAt}
 use Rattle.actl.specs.inner.Check.{zerosFrom}
-use Rattle.actl.proofs.Nodes.{length-nodes}
-use Rattle.actl.proofs.Laws.Lists.{length-upFrom}
 
 abbrev pub Bytes : List ℕ → Type 0
 Bytes l = (i : ℕ) → getD l i 0 < 256

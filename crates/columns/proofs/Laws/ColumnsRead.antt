@@ -15,7 +15,8 @@ use Rattle.columns.specs.Columns.{digitsWithin, decimal, column, valueFr
 use Rattle.columns.specs.inner.Read.{columnAt, columnIf, lead}
 use Rattle.columns.specs.declared.Column.the-variants.{Number, Bad}
 pub use Rattle.columns.proofs.Laws.Columns.{column-length, value-column}
-use Rattle.columns.proofs.Laws.Compared.{same-equal, same-of-unequal, unequal-of-same, Each, each-append, each-take}
+use Rattle.columns.proofs.Laws.Compared.{same-of-unequal, unequal-of-same, Each, each-append, each-take}
+use Rattle.columns.proofs.Laws.Bytes.{same-of}
 
 -- A byte of a column: a blank or a digit.
 abbrev pub Figure : ℕ → Type 0
@@ -128,7 +129,7 @@ column-found s at v e = step (sameBytes (take 6 (drop at s)) (column (valueAt at
     step : (t : Bool) → sameBytes (take 6 (drop at s)) (column (valueAt at s)) ≡ t → columnIf t (valueAt at s) ≡ Number v → ColumnAt s at v
     step true d h =
         let same : valueAt at s ≡ v = cc in
-        let b = same-equal (take 6 (drop at s)) (column (valueAt at s)) d ∙ ap column same in
+        let b = same-of (take 6 (drop at s)) (column (valueAt at s)) d ∙ ap column same in
         record { bytes = b; small = column-is-narrow (drop at s) v b }
     step false d h = let z : _≡_ {A = ℕ} 0 1 = cc in absurd (omega arith)
 

@@ -11,8 +11,9 @@ use lib.Seq.{take-suc, drop-cons, take-at, getD-at, getD-take, getD-drop, length
 use Rattle.columns.specs.Bytes.{sameBytes}
 use Rattle.columns.specs.Columns.{column, valueFrom, valueAt}
 use Rattle.columns.specs.inner.Read.{lead}
-use Rattle.columns.proofs.Laws.Compared.{same-of-equal, same-of-unequal}
+use Rattle.columns.proofs.Laws.Compared.{same-of-unequal}
 use Rattle.columns.proofs.Laws.ColumnsRead.{leads, leads-length, column-leads}
+use Rattle.columns.proofs.Laws.Bytes.{same-to}
 
 -- The six bytes at a place.
 abbrev six : List ℕ → ℕ → List ℕ
@@ -111,4 +112,4 @@ module _ (s : List ℕ) (at v : ℕ) (h : at + 6 ≤ length s) where
       }
 
   pub compare-ends : (n : ℕ) → Compared s at v n 0 → true ≡ sameBytes (take 6 (drop at s)) (column v)
-  compare-ends n r = sym (same-of-equal (six s at) (column v) (r .tells refl))
+  compare-ends n r = sym (same-to (six s at) (column v) (r .tells refl))

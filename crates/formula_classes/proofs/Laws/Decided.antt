@@ -12,7 +12,7 @@ use borrow.Author.Tests.{eq-eqb}
 use Rattle.actl.specs.Sizes.{mostNodes, nodeSlotLength, formulaLength}
 use Rattle.lts.specs.inner.Lists.{upFrom}
 use Rattle.lts.specs.inner.Answers.{isSome, Decides}
-use Rattle.lts.proofs.Lists.{upFrom-of, every-of, every-to, getD-mem, map-of, map-to}
+use Rattle.lts.proofs.Lists.{upFrom-of, every-of, every-to, getD-mem, map-of, map-to, upFrom-length}
 use Rattle.lts.proofs.Booleans.{and-true-of, and-true-to}
 use Rattle.actl.specs.Formulas.{Formula, tru, size, nodes}
 use Rattle.actl.specs.Prepared.{Slot, slotOf, slotWithin, IsForm}
@@ -25,7 +25,6 @@ use Rattle.actl.proofs.Laws.Skeletons.{class-by-kinds}
 use Rattle.actl.proofs.Laws.Classed.{nodes-classed, root-among-nodes}
 use Rattle.actl.proofs.Laws.Parsing.{decoded}
 use Rattle.actl.proofs.Laws.Forms.{length-form, form-zeros}
-use Rattle.actl.proofs.Laws.Lists.{length-upFrom}
 use Rattle.actl.proofs.Laws.Prepared.{prepared-of, prepared-few, prepared-count, prepared-slot, prepared-shaped, is-form-to}
 use Rattle.actl.proofs.Laws.Recoded.{Bytes, form-of-bytes}
 use Rattle.formula_classes.proofs.Laws.Walked.{kinds-prepared}
@@ -97,7 +96,7 @@ module _ (n : ℕ) (b : List ℕ) where
     all-passed (f, e, c) =
         let d = decoded slots f (kinds-of-slots ∙ sym e) (λ s m. slot-passed s m .0) in
         let F = d .formula in
-        let slots = length-map (upFrom 0 (getD b 0 0)) (slotAt b) ∙ length-upFrom 0 (getD b 0 0) in
+        let slots = length-map (upFrom 0 (getD b 0 0)) (slotAt b) ∙ upFrom-length 0 (getD b 0 0) in
         let size-is : getD b 0 0 ≡ size F = sym slots ∙ (ap length (d .slots-are) ∙ (length-map (nodes F) slotOf ∙ length-nodes F)) in
         let form : IsForm n b F = record {
           form = form-of-bytes b long bytes F size-is (omega arith) zeros (d .slots-are);

@@ -23,12 +23,13 @@ use Rattle.formula_classes.specs.declared.Walked.{Walked}
 use Rattle.formula_classes.specs.declared.Walked.the-variants.{Broken, Node}
 use Rattle.actl.proofs.Nodes.{length-nodes}
 use Rattle.actl.proofs.Laws.Skeletons.{size-by-kinds, class-by-kinds, ends-by-kinds, classes-by-kinds}
-use Rattle.actl.proofs.Laws.Lists.{length-upFrom, getD-upFrom}
 use Rattle.actl.proofs.Laws.Prepared.{prepared-count, prepared-slot}
 use Rattle.actl.proofs.Laws.Sets.{getD-sets}
 use Rattle.actl.proofs.Laws.Table.{class-of-arm}
 use Rattle.actl.proofs.Laws.Unique.{same-behind}
 use Rattle.actl.proofs.Laws.Walks.{length-kinds, length-ends, length-classes}
+use Rattle.lts.proofs.Laws.Contents.{map-upFrom-at}
+use Rattle.lts.proofs.Lists.{upFrom-length}
 
 -- What the whole walk leaves.
 pub record Noted (E E' C C' : List ℕ) (F : Formula) : Type 0 where
@@ -109,12 +110,12 @@ pub kinds-prepared : (n : ℕ) (b : List ℕ) {F : Formula} → preparedFormula 
 kinds-prepared n b {F} e =
     let count = prepared-count n b e in
     let kind : ℕ → ℕ = λ k. getD b (1 + k * nodeSlotLength) 0 in
-    let long : length (kindsIn b (getD b 0 0)) ≡ getD b 0 0 = length-map (upFrom 0 (getD b 0 0)) kind ∙ length-upFrom 0 (getD b 0 0) in
+    let long : length (kindsIn b (getD b 0 0)) ≡ getD b 0 0 = length-map (upFrom 0 (getD b 0 0)) kind ∙ upFrom-length 0 (getD b 0 0) in
     ext-getD 1 (kindsIn b (getD b 0 0)) (kindsOf F) (long ∙ (count ∙ sym (length-kinds F)))
-    (λ k l. getD-upFrom kind (getD b 0 0) k 1 (omega arith) ∙ (ap (λ s. s .kind) (prepared-slot n b e k (omega arith)) ∙ sym (List·getD-map kindOf (nodes F) k tru)))
+    (λ k l. map-upFrom-at kind (getD b 0 0) k 1 (omega arith) ∙ (ap (λ s. s .kind) (prepared-slot n b e k (omega arith)) ∙ sym (List·getD-map kindOf (nodes F) k tru)))
 
 pub length-kinds-in : (b : List ℕ) (n : ℕ) → length (kindsIn b n) ≡ n
-length-kinds-in b n = length-map (upFrom 0 n) (λ k. getD b (1 + k * nodeSlotLength) 0) ∙ length-upFrom 0 n
+length-kinds-in b n = length-map (upFrom 0 n) (λ k. getD b (1 + k * nodeSlotLength) 0) ∙ upFrom-length 0 n
 
 -- A walk over the kinds in a prepared formula leaves its shape.
 pub shape-noted : (n : ℕ) (b : List ℕ) {F : Formula} → preparedFormula n b ≡ some F

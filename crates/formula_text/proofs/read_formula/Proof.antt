@@ -13,9 +13,10 @@ use Rattle.actl.proofs.Laws.ByGrammar.{formula-by-grammar}
 use Rattle.formula_text.specs.Replies.{formulaReply}
 use Rattle.formula_text.specs.inner.FormulaAnswers.{FormulaAnswered}
 use Rattle.formula_text.specs.declared.FormulaReply.{FormulaReply}
-use Rattle.formula_text.proofs.ReadingEntry.{short-table, short-formula, foreign-table, on-prepared, table-held}
+use Rattle.formula_text.proofs.ReadingEntry.{short-table, short-formula, foreign-table, on-prepared}
 use Rattle.formula_text.proofs.read_formula.Statement.{statement}
 use Rattle.formula_text.proofs.read_formula.Tie as tie
+use Rattle.lts.proofs.Laws.Prepared.{found-holds}
 
 -- The reply and the bytes, by the definitions and by the grammar.
 both : {b s e : List ℕ} {r : FormulaReply} {x : List ℕ} → FormulaAnswered (formulaReading b s e) e r x
@@ -54,7 +55,7 @@ module _ (c : tie.Else3) where
 read-text-over-requires : tie.Need-read-text-over-requires
 read-text-over-requires c κs =
     let tested = c .before in
-    (table-held (start tested .args .table .now) (prepared tested), tested .before .before .if2 .left)
+    (found-holds (start tested .args .table .now) (prepared tested), tested .before .before .if2 .left)
 
 same-length : tie.Need-same-length
 same-length c = search needs

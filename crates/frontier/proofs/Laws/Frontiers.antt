@@ -11,12 +11,11 @@ use lib.ListN.{length, getD, set, length-set}
 use lib.Seq.{getD-set-same, getD-set-other}
 use borrow.Author.Tests.{eq-eqb, ne-eqb}
 use Rattle.frontier.specs.inner.Sizes.{frontierLength}
-use Rattle.lts.proofs.Booleans.{or-true-right}
+use Rattle.lts.proofs.Booleans.{or-true-right, or-false}
 use Rattle.target_masks.specs.inner.Masks.{bitAt}
 use Rattle.target_masks.proofs.Laws.MasksFound.{bit-or, bit-zero, bit-pow}
 use Rattle.target_masks.proofs.Laws.Places.{zeros-at}
 use Rattle.frontier.specs.inner.Frontier.{marksAt, hasState, placesAt, nowhere, emptied, brought, FirstFrom}
-use Rattle.frontier.proofs.Laws.Through.{or-none}
 
 -- Place q of state v is reached.
 abbrev pub reachedAt : List ℕ → ℕ → ℕ → Bool
@@ -115,7 +114,7 @@ module _ (s m : ℕ) (frontier : List ℕ) where
         ap (λ n. bitAt n (v % 64)) (ap (λ i. getD (brought s m frontier) i 0) word ∙ getD-set-same (set frontier s places) (256 + s / 64) marks 0 within)
         ∙ (bit-or (marksAt frontier s) (2 ^ (s % 64)) (v % 64)
         ∙ (ap (λ b. bitAt (marksAt frontier s) (v % 64) || b) (bit-pow (s % 64) (v % 64) ∙ apart)
-        ∙ (sym (or-none _) ∙ ap (λ i. bitAt (getD frontier i 0) (v % 64)) (sym word))))
+        ∙ (sym (or-false _) ∙ ap (λ i. bitAt (getD frontier i 0) (v % 64)) (sym word))))
     state-other v h n (no e) =
         ap (λ n. bitAt n (v % 64))
         (getD-set-other (set frontier s places) (256 + s / 64) (256 + v / 64) marks 0 (λ u. e (omega arith)) ∙ getD-set-other frontier s (256 + v / 64) places 0 (λ u. omega arith))
@@ -139,7 +138,7 @@ module _ (s m : ℕ) (frontier : List ℕ) where
             ∙ (ap (λ b. reachedAt frontier s q || b) (and-yes (bitAt m q) ∙ ap (λ b. bitAt m q && b) (sym (eq-eqb v s e))) ∙ ap (λ x. reachedAt frontier x q || (bitAt m q && eqb v s)) (sym e))))
         case (no e) =
             ap (λ n. bitAt n q) (places-other v h e)
-            ∙ (or-none (reachedAt frontier v q) ∙ ap (λ b. reachedAt frontier v q || b) (and-no (bitAt m q) ∙ ap (λ b. bitAt m q && b) (sym (ne-eqb v s e))))
+            ∙ (or-false (reachedAt frontier v q) ∙ ap (λ b. reachedAt frontier v q || b) (and-no (bitAt m q) ∙ ap (λ b. bitAt m q && b) (sym (ne-eqb v s e))))
 
 -- The states of one of the four masks, from v on.
 module _ (frontier : List ℕ) (s v k : ℕ) (few : v < 256) (from : s ≤ v) (past : (j : ℕ) → s ≤ j → j < v → hasState frontier j ≡ false) (h : FirstFrom (bitAt (marksAt frontier v)) (v % 64) 64 k) where

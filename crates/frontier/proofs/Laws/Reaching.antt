@@ -17,7 +17,7 @@ use Rattle.lts.specs.Steps.{Step, Table, IsStep}
 use Rattle.lts.specs.inner.Steps.{Carried, stepsFrom}
 use Rattle.lts.specs.inner.Range.{InRange}
 use Rattle.lts.proofs.Lists.{some-of, some-to, upFrom-of, upFrom-to}
-use Rattle.lts.proofs.Booleans.{and-true-of, and-true-to}
+use Rattle.lts.proofs.Booleans.{and-true-of, and-true-to, or-false}
 use Rattle.lts.proofs.StepsFrom.{steps-are}
 use Rattle.actl.specs.Formulas.{Formula, size}
 use Rattle.automaton.specs.inner.Search.{leads, onLabel}
@@ -29,7 +29,7 @@ use Rattle.automaton.proofs.Moves.{leaving}
 use Rattle.automaton.proofs.Tests.{leads-of, leads-to}
 use Rattle.frontier.specs.inner.Frontier.{hasState, emptied, brought, placesAdded, allPlaces}
 use Rattle.frontier.specs.inner.Reached.{targetsAdded, targetsOf, stepTaken, stepsTaken, placesRead, stateRead, letterRead}
-use Rattle.frontier.proofs.Laws.Through.{or-none, through-adds, through-good}
+use Rattle.frontier.proofs.Laws.Through.{through-adds, through-good}
 use Rattle.frontier.proofs.Laws.Frontiers.{reachedAt, reached-of, reached-to, and-no, emptied-reached, length-emptied, length-brought, brought-reached}
 
 -- The places of all states.
@@ -40,7 +40,7 @@ all-reached frontier q =
   where
     adds : (s m : ℕ) (b : Bool) → bitAt (cond b (bitOr m (getD frontier s 0)) m) q ≡ (bitAt m q || bitAt (cond b (getD frontier s 0) 0) q)
     adds s m true = bit-or m (getD frontier s 0) q
-    adds s m false = or-none (bitAt m q) ∙ ap (λ b. bitAt m q || b) (sym (bit-zero q))
+    adds s m false = or-false (bitAt m q) ∙ ap (λ b. bitAt m q || b) (sym (bit-zero q))
 
 -- The target places of a set of places.
 module _ (masks : List ℕ) (places l q : ℕ) where
@@ -54,7 +54,7 @@ module _ (masks : List ℕ) (places l q : ℕ) where
     where
       adds : (k m : ℕ) (b : Bool) → bitAt (cond b (bitOr m (maskOn masks k l)) m) q ≡ (bitAt m q || (b && bitAt (maskOn masks k l) q))
       adds k m true = bit-or m (maskOn masks k l) q
-      adds k m false = or-none (bitAt m q)
+      adds k m false = or-false (bitAt m q)
 
 -- A step with label l enters v.
 abbrev enters : ℕ → ℕ → Step → Bool
@@ -85,12 +85,12 @@ module _ (l m : ℕ) where
       where
         case : (b : Bool) → reachedAt (cond b (brought (st .to) m next) next) v q ≡ (reachedAt next v q || bitAt m q && (b && eqb v (st .to)))
         case true = brought-reached (st .to) m next h e v q few
-        case false = or-none (reachedAt next v q) ∙ ap (λ b. reachedAt next v q || b) (and-no (bitAt m q))
+        case false = or-false (reachedAt next v q) ∙ ap (λ b. reachedAt next v q || b) (and-no (bitAt m q))
 
     steps-add : (steps : List Step) (next : List ℕ) → ((st : Step) → List·Memᴰ st steps → st .to < 256) → length next ≡ frontierLength
         → reachedAt (stepsTaken l m steps next) v q ≡ (reachedAt next v q || bitAt m q && anyOf (enters l v) steps)
     unfolding stepsTaken
-    steps-add [] next h e = or-none (reachedAt next v q) ∙ ap (λ b. reachedAt next v q || b) (and-no (bitAt m q))
+    steps-add [] next h e = or-false (reachedAt next v q) ∙ ap (λ b. reachedAt next v q || b) (and-no (bitAt m q))
     steps-add (st ∷ steps) next h e =
         steps-add steps (stepTaken l m st next) (λ x i. h x (List·Memᴰ·tail i)) (length-taken st next ∙ e)
         ∙ (ap (λ b. b || bitAt m q && anyOf (enters l v) steps) (step-adds st next (h st (List·Memᴰ·head refl)) e)
@@ -133,7 +133,7 @@ module _ (t : Table) (w : InRange t) (masks : List ℕ) (l : ℕ) where
             → reachedAt (cond b next (stepsTaken l (targetsOn places) (stepsFrom t s) next)) v q ≡ (reachedAt next v q || bitAt (targetsOn places) q && anyOf (enters l v) (stepsFrom t s))
         case true d =
             let none : bitAt (targetsOn places) q ≡ false = ap (λ m. bitAt m q) (eqb-true (targetsOn places) 0 d) ∙ bit-zero q in
-            or-none (reachedAt next v q) ∙ ap (λ b. reachedAt next v q || b && anyOf (enters l v) (stepsFrom t s)) (sym none)
+            or-false (reachedAt next v q) ∙ ap (λ b. reachedAt next v q || b && anyOf (enters l v) (stepsFrom t s)) (sym none)
         case false d = steps-add l (targetsOn places) v q few (stepsFrom t s) next (stay s h) e
 
     state-adds : (reached : List ℕ) (s : ℕ) (next : List ℕ) → s < 256 → length next ≡ frontierLength
@@ -143,7 +143,7 @@ module _ (t : Table) (w : InRange t) (masks : List ℕ) (l : ℕ) where
         case : (b : Bool) → reachedAt (cond b (placesRead (stepsFrom t s) masks (getD reached s 0) l next) next) v q
             ≡ (reachedAt next v q || b && (bitAt (targetsOn (getD reached s 0)) q && anyOf (enters l v) (stepsFrom t s)))
         case true = places-add (getD reached s 0) s next h e
-        case false = or-none (reachedAt next v q)
+        case false = or-false (reachedAt next v q)
 
     letter-reached : (reached next : List ℕ) → length next ≡ frontierLength → reachedAt (letterRead (stepsFrom t) masks l reached next) v q ≡ anyOf (brings reached) (upFrom 0 256)
     letter-reached reached next e =

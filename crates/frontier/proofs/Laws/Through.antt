@@ -8,6 +8,7 @@ use native.Mathlib.Omega.{arith}
 use Rattle.lts.specs.inner.Lists.{upFrom}
 use Rattle.lts.specs.Lists.{anyOf}
 use Rattle.frontier.specs.inner.Frontier.{through, FirstFrom}
+use Rattle.lts.proofs.Booleans.{or-false}
 
 -- Numbers below n that are not gone through yet, from k on.
 module _ {A : Type 0} (f : ℕ → A → A) (n : ℕ) where
@@ -48,17 +49,13 @@ or-assoc : (a b c : Bool) → (a || b || c) ≡ (a || (b || c))
 or-assoc true b c = refl
 or-assoc false b c = refl
 
-pub or-none : (a : Bool) → a ≡ (a || false)
-or-none true = refl
-or-none false = refl
-
 -- A test that number k adds h k to, of what is good.
 module _ {A : Type 0} (f : ℕ → A → A) (g : A → Bool) (h : ℕ → Bool) (Good : A → Type 0) (limit : ℕ)
     (good : (k : ℕ) (a : A) → k < limit → Good a → Good (f k a))
     (adds : (k : ℕ) (a : A) → k < limit → Good a → g (f k a) ≡ (g a || h k)) where
   pub through-adds : (n k : ℕ) (a : A) → k + n ≤ limit → Good a → g (through f n k a) ≡ (g a || anyOf h (upFrom k n))
   unfolding through
-  through-adds zero k a b x = or-none (g a)
+  through-adds zero k a b x = or-false (g a)
   through-adds (suc n) k a b x =
       let here : k < limit = omega arith in
       through-adds n (suc k) (f k a) (omega arith) (good k a here x)

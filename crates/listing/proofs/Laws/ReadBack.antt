@@ -10,9 +10,9 @@ use lib.ListN.{length, getD}
 use Rattle.columns.specs.inner.Write.{pasted}
 use Rattle.automaton.specs.Listing.{Row, Edge}
 use Rattle.automaton.specs.Bytes.{rowLength, edgeLength, rowBytes, edgeBytes, bitOf, rowState, rowFinal, edgeAt}
-use Rattle.automaton.proofs.Bytes.{two-bytes}
 use Rattle.listing.specs.inner.Places.{rowPlace, putRow, putEdge}
 use Rattle.listing.proofs.Laws.Pasted.{pasted-there, pasted-before, pasted-behind}
+use Rattle.columns.proofs.Laws.Bytes.{pair-value}
 
 -- Byte j of a part of w bytes in place n, if a part of as many bytes is written there, or in another place.
 module _ (w n : ℕ) (part out : List ℕ) (len : length part ≡ w) (room : n * w + w ≤ length out) where
@@ -65,8 +65,8 @@ module _ (n : ℕ) (e : Edge) (out : List ℕ) (room : n * edgeLength + edgeLeng
   edge-read-back r t =
       let first = first-there edgeLength n (edgeBytes e) out refl room (omega arith) in
       let there = byte-there edgeLength n (edgeBytes e) out refl room in
-      let row = (λ i. first i + there 1 (omega arith) i * 256) ∙ two-bytes (e .row) r in
-      let target = (λ i. there 3 (omega arith) i + there 4 (omega arith) i * 256) ∙ two-bytes (e .target) t in
+      let row = (λ i. first i + there 1 (omega arith) i * 256) ∙ pair-value (e .row) r in
+      let target = (λ i. there 3 (omega arith) i + there 4 (omega arith) i * 256) ∙ pair-value (e .target) t in
       λ i. record { row = row i; label = there 2 (omega arith) i; target = target i }
 
   pub edge-kept : (m : ℕ) → m ≢ n → edgeAt (putEdge n e out) m ≡ edgeAt out m

@@ -8,7 +8,7 @@ use lib.ListN.{length, getD, take, drop, take-append-drop}
 use lib.Seq.{drop-at, length-take-le}
 use Rattle.columns.specs.Bytes.{sameBytes}
 use Rattle.columns.specs.Columns.{column, valueAt}
-use Rattle.columns.proofs.Laws.Compared.{each-append, each-weaken, same-equal, same-of-equal}
+use Rattle.columns.proofs.Laws.Compared.{each-append, each-weaken}
 use Rattle.columns.proofs.Laws.ColumnsRead.{ColumnAt}
 use Rattle.lts.specs.Names.{isName}
 use Rattle.lts.specs.inner.NameEnds.{nameLength, nameEnd}
@@ -16,10 +16,11 @@ use Rattle.lts.specs.Text.{labelLine}
 use Rattle.lts.specs.Reading.{firstLine}
 use Rattle.lts.specs.inner.Reading.{labelLaidOut}
 use Rattle.lts.specs.inner.Lines.{NoLineAt, Labelled}
-use Rattle.lts.proofs.Booleans.{and-true-of, and-true-to}
+use Rattle.lts.proofs.Booleans.{and-true-of, and-true-to, is-false}
 use Rattle.lts.proofs.Laws.LinesRead.{NoEnd, line-here, line-parts, drop-further, column-front, column-back, byte-within, byte-front, byte-back, column-peeled}
 use Rattle.lts.proofs.Laws.NameRuns.{High, name-high, name-short, run-is-name, name-is-run}
-use Rattle.lts.proofs.Laws.Layout.{no-end, never, value-first, drop-later}
+use Rattle.lts.proofs.Laws.Layout.{no-end, value-first, drop-later}
+use Rattle.columns.proofs.Laws.Bytes.{same-of, same-to}
 
 module _ (s : List ℕ) (at : ℕ) where
   module _ (number end : ℕ) (a : ColumnAt s at number) (blank : getD s (at + 6) 256 ≡ 32)
@@ -60,7 +61,7 @@ module _ (s : List ℕ) (at : ℕ) where
         is-line = ap firstLine label-text ∙ line-here label-line (drop (end + 1) s)
             (each-append NoEnd (column number) (32 ∷ name) (no-end number) (λ z. omega arith, each-weaken High NoEnd (λ b h z. omega arith) name (name-high name is-name)));
         laid-out = and-true-to (sameBytes label-line (labelLine (valueAt 0 label-line) (drop 7 label-line))) (isName (drop 7 label-line))
-            (same-of-equal label-line (labelLine (valueAt 0 label-line) (drop 7 label-line)) (sym (ap₂ labelLine number-first name-behind)))
+            (same-to label-line (labelLine (valueAt 0 label-line) (drop 7 label-line)) (sym (ap₂ labelLine number-first name-behind)))
             (ap isName name-behind ∙ is-name);
         within = omega (arith, byte-within s end 10 (omega arith) e);
       };
@@ -72,9 +73,9 @@ module _ (s : List ℕ) (at : ℕ) where
 
   pub no-label : ((a : ℕ) (name rest : List ℕ) → take 6 (drop at s) ≡ column a → getD s (at + 6) 256 ≡ 32 → isName name ≡ true → drop (at + 7) s ≡ name ++ (10 ∷ rest) → ⊥)
       → NoLineAt labelLaidOut s at
-  no-label h l rest e = never (labelLaidOut l) (λ d.
+  no-label h l rest e = is-false (labelLaidOut l) (λ d.
       let both = and-true-of (sameBytes l (labelLine (valueAt 0 l) (drop 7 l))) (isName (drop 7 l)) d in
-      let laid = same-equal l (labelLine (valueAt 0 l) (drop 7 l)) (both .0) in
+      let laid = same-of l (labelLine (valueAt 0 l) (drop 7 l)) (both .0) in
       let first = column-peeled l (32 ∷ drop 7 l) laid in
       let text : drop at s ≡ column (valueAt 0 l) ++ (32 ∷ (drop 7 l ++ (10 ∷ rest))) =
       line-parts (drop at s) l rest e ∙ ap (λ x. x ++ (10 ∷ rest)) laid ∙ append-assoc (column (valueAt 0 l)) (32 ∷ drop 7 l) (10 ∷ rest) in

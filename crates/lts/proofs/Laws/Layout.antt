@@ -1,19 +1,20 @@
 -- Laws of the three kinds of lines: what the columns and bytes at a place say of the line there, and the line of them.
 use mathlib.Core.Path.{_≡_, refl, sym, ap, _∙_}
-use mathlib.Core.Bool.{Bool, true, false}
 use mathlib.Core.List.{List, [], _∷_, _++_, append-assoc, append-nil}
 use Prim.Native.Nat.{ℕ, _+_, _<_}
 use native.Mathlib.Omega.{arith}
 use lib.ListN.{getD, take, drop}
 use lib.Seq.{drop-drop, take-at, take-all, drop-append-add}
 use Rattle.columns.specs.Columns.{column, valueFrom, valueAt}
-use Rattle.columns.proofs.Laws.Compared.{Each, each-append, each-weaken, same-equal, same-of-equal}
+use Rattle.columns.proofs.Laws.Compared.{Each, each-append, each-weaken}
 use Rattle.columns.proofs.Laws.ColumnsRead.{Figure, ColumnAt, column-figures, column-length, value-column}
 use Rattle.lts.specs.Steps.{Step}
 use Rattle.lts.specs.Text.{headerLine, transitionLine}
 use Rattle.lts.specs.Reading.{Header, firstLine, headerOf, headerLaidOut, stepOf, stepLaidOut}
 use Rattle.lts.specs.inner.Lines.{LineAt, NoLineAt}
 use Rattle.lts.proofs.Laws.LinesRead.{NoEnd, line-here, line-parts, column-front, column-back, byte-within, byte-front, byte-back, column-peeled}
+use Rattle.columns.proofs.Laws.Bytes.{same-of, same-to}
+use Rattle.lts.proofs.Booleans.{is-false}
 
 pub no-end : (v : ℕ) → Each NoEnd (column v)
 no-end v = each-weaken Figure NoEnd (λ b h e. omega arith) (column v) (column-figures v)
@@ -31,11 +32,6 @@ module _ (v : ℕ) (k : v < 1000000) where
 
   value-later : (m : List ℕ) (i : ℕ) → valueAt (6 + i) (column v ++ m) ≡ valueAt i m
   value-later m i = ap (λ l. valueFrom 0 (take 6 l)) (drop-later m i)
-
--- A test that no line passes.
-pub never : (t : Bool) → (t ≡ true → ⊥) → t ≡ false
-never true h = absurd (h refl)
-never false h = refl
 
 -- Transitions.
 module _ (s : List ℕ) (at : ℕ) where
@@ -63,7 +59,7 @@ module _ (s : List ℕ) (at : ℕ) where
         is-line = ap firstLine transition-text ∙ line-here (transitionLine t) (drop (at + 19) s)
             (each-append NoEnd (column (t .from)) (column (t .label) ++ column (t .to)) (no-end (t .from))
             (each-append NoEnd (column (t .label)) (column (t .to)) (no-end (t .label)) (no-end (t .to))));
-        laid-out = same-of-equal (transitionLine t) (transitionLine (stepOf (transitionLine t))) (ap transitionLine (sym transition-values));
+        laid-out = same-to (transitionLine t) (transitionLine (stepOf (transitionLine t))) (ap transitionLine (sym transition-values));
         within = omega (arith, byte-within s (at + 18) 10 (omega arith) e);
       },
       transition-values,
@@ -71,8 +67,8 @@ module _ (s : List ℕ) (at : ℕ) where
 
   pub no-transition : ((a b c : ℕ) → take 6 (drop at s) ≡ column a → take 6 (drop (at + 6) s) ≡ column b → take 6 (drop (at + 12) s) ≡ column c → getD s (at + 18) 256 ≡ 10 → ⊥)
       → NoLineAt stepLaidOut s at
-  no-transition h l rest e = never (stepLaidOut l) (λ d.
-      let laid = same-equal l (transitionLine (stepOf l)) d in
+  no-transition h l rest e = is-false (stepLaidOut l) (λ d.
+      let laid = same-of l (transitionLine (stepOf l)) d in
       let first = column-peeled l (column (valueAt 6 l) ++ column (valueAt 12 l)) laid in
       let second = column-peeled (drop 6 l) (column (valueAt 12 l)) (first .1) in
       let third = column-peeled (drop 12 l) [] (sym (drop-drop 6 6 l) ∙ second .1 ∙ sym (append-nil (column (valueAt 12 l)))) in
@@ -117,7 +113,7 @@ module _ (s : List ℕ) where
         is-line = ap firstLine header-text ∙ line-here header-line (drop 25 s)
             (each-append NoEnd (column (h .states)) _ (no-end (h .states)) (each-append NoEnd (column (h .labels)) _ (no-end (h .labels))
             (each-append NoEnd (column (h .transitions)) (column (h .start)) (no-end (h .transitions)) (no-end (h .start)))));
-        laid-out = same-of-equal header-line _ (ap (λ (g : Header). headerLine (g .states) (g .labels) (g .transitions) (g .start)) (sym header-values));
+        laid-out = same-to header-line _ (ap (λ (g : Header). headerLine (g .states) (g .labels) (g .transitions) (g .start)) (sym header-values));
         within = omega (arith, byte-within s 24 10 (omega arith) e);
       },
       header-values,
@@ -125,8 +121,8 @@ module _ (s : List ℕ) where
 
   pub no-header : ((a b c d : ℕ) → take 6 (drop 0 s) ≡ column a → take 6 (drop 6 s) ≡ column b → take 6 (drop 12 s) ≡ column c → take 6 (drop 18 s) ≡ column d → getD s 24 256 ≡ 10 → ⊥)
       → NoLineAt (λ l. headerLaidOut (headerOf l) l) s 0
-  no-header h l rest e = never (headerLaidOut (headerOf l) l) (λ f.
-      let laid = same-equal l (headerLine (valueAt 0 l) (valueAt 6 l) (valueAt 12 l) (valueAt 18 l)) f in
+  no-header h l rest e = is-false (headerLaidOut (headerOf l) l) (λ f.
+      let laid = same-of l (headerLine (valueAt 0 l) (valueAt 6 l) (valueAt 12 l) (valueAt 18 l)) f in
       let first = column-peeled l (column (valueAt 6 l) ++ (column (valueAt 12 l) ++ column (valueAt 18 l))) laid in
       let second = column-peeled (drop 6 l) (column (valueAt 12 l) ++ column (valueAt 18 l)) (first .1) in
       let third = column-peeled (drop 12 l) (column (valueAt 18 l)) (sym (drop-drop 6 6 l) ∙ second .1) in

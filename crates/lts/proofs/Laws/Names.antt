@@ -10,7 +10,7 @@ use lib.ListN.{length, getD, drop, length-take, length-drop}
 use lib.Seq.{length-take-le, getD-take, getD-drop}
 use Rattle.lts.specs.Sizes.{nameSlotLength}
 use Rattle.columns.specs.Bytes.{sameBytes}
-use Rattle.columns.proofs.Laws.Compared.{same-of-unequal, same-equal}
+use Rattle.columns.proofs.Laws.Compared.{same-of-unequal}
 use Rattle.lts.specs.inner.Lists.{upFrom}
 use Rattle.lts.specs.inner.Sizes.{longestName}
 use Rattle.lts.specs.Names.{findFrom, lookup}
@@ -20,6 +20,7 @@ use Rattle.lts.specs.inner.Slots.{storedName, storedNames}
 use Rattle.lts.specs.inner.Answers.{isSome}
 use Rattle.lts.proofs.Laws.NameRuns.{IsStem}
 use Rattle.lts.proofs.Laws.NameDirections.{three-names}
+use Rattle.columns.proofs.Laws.Bytes.{same-of}
 
 -- The name in slot k, and one of another length or of the same.
 module _ (b : List ℕ) (k : ℕ) (name : List ℕ) (inside : k * nameSlotLength + nameSlotLength ≤ length b) (short : length name ≤ longestName) where
@@ -83,7 +84,7 @@ found-name k (x ∷ l) name a e = case (sameBytes x name) refl e (found-name (su
     case true s d again =
         let z : k ≡ a = cc in
         let none : a - k ≡ 0 = omega arith in
-        (omega arith, ap (λ i. getD (x ∷ l) i []) none ∙ same-equal x name s)
+        (omega arith, ap (λ i. getD (x ∷ l) i []) none ∙ same-of x name s)
     case false s d again =
         let h = again d in
         let more : a - k ≡ suc (a - suc k) = omega (arith, h .0) in

@@ -1,7 +1,7 @@
 -- Which numbers a reply may refuse with; reading a table: 1 to 4.
 use mathlib.Core.Path.{_≡_, refl, sym, subst}
 use mathlib.Core.Logic.{_↔_}
-use mathlib.Core.Bool.{Bool, true, false, not}
+use mathlib.Core.Bool.{Bool, true, false, not, true≢false}
 use mathlib.Core.List.{List, [], _∷_, _++_}
 use Prim.Native.Nat.{ℕ, zero, suc, _≤_}
 use native.Mathlib.Omega.{arith}
@@ -81,3 +81,7 @@ unfolding readTableWith
 table-numbers text = line-numbers 1 (firstLine text) _ (λ l rest.
     numbered-unless TableNumber (headerLaidOut (headerOf l) l) 1 1 _ (omega arith, omega arith)
     (numbered-unless TableNumber (headerInRange (headerOf l)) 2 1 _ (omega arith, omega arith) (labels-numbers (headerOf l) (headerOf l .labels) [] rest)))
+
+pub unless-false : {A : Type 0} (b : Bool) (n f : ℕ) (next : Reply A) → b ≡ false → unless b n f next ≡ refusal n f
+unless-false true n f next e = absurd (true≢false e)
+unless-false false n f next e = refl

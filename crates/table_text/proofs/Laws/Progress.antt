@@ -1,11 +1,11 @@
 -- Laws of reading one more line: what the line says of the reading from there.
 use mathlib.Core.Path.{_≡_, refl, ap, _∙_}
-use mathlib.Core.Bool.{Bool, true, false, not, _&&_}
+use mathlib.Core.Bool.{Bool, true, false, not}
 use mathlib.Core.List.{List, [], _∷_, _++_}
-use Prim.Native.Nat.{ℕ, suc, _+_, _<_, _≤_}
+use Prim.Native.Nat.{ℕ, suc, _+_}
 use native.Mathlib.Omega.{arith}
-use borrow.Author.Tests.{eq-eqb, ne-eqb, ltb-true, leb-true}
-use lib.Dec.{eqb, ltb, leb}
+use borrow.Author.Tests.{eq-eqb, ne-eqb}
+use lib.Dec.{eqb}
 use lib.ListN.{length, drop}
 use Rattle.columns.specs.Columns.{valueAt}
 use Rattle.lts.specs.Reply.{Reply, refusal, unless}
@@ -16,7 +16,6 @@ use Rattle.lts.specs.Reading.{readTransitions, readLabelsWith}
 use Rattle.lts.specs.inner.Reading.{readLabels}
 use Rattle.lts.specs.inner.Lines.{LineAt, NoLineAt}
 use Rattle.table_text.specs.inner.Progress.{Refuses, numberRefused}
-use Rattle.lts.proofs.Booleans.{and-true-of}
 use Rattle.table_text.specs.declared.TableReply.the-variants.{NotLaidOut, OutOfRange, NameRepeated, NotRising}
 
 -- A line that is not laid out, and one that is.
@@ -138,9 +137,3 @@ module _ (h : Header) (s : List ℕ) (at left : ℕ) (names : List (List ℕ)) (
       → stepInRange h st ≡ false → (n : ℕ) → n ≡ length names + length steps + 2 → Refuses (steps-left) (numberRefused laid n)
   transition-number-refused to st true x y d n f = let (l, g, v) = x refl in transition-out-of-range to l g st v n f d
   transition-number-refused to st false x y d n f = transition-refused n f (y refl)
-
-pub in-range : (h : Header) (st : Step) → stepInRange h st ≡ true → (st .from < h .states) × (st .label ≤ h .labels) × (st .to < h .states)
-in-range h st e =
-    let a = and-true-of (ltb (st .from) (h .states) && leb (st .label) (h .labels)) (ltb (st .to) (h .states)) e in
-    let b = and-true-of (ltb (st .from) (h .states)) (leb (st .label) (h .labels)) (a .0) in
-    (ltb-true (st .from) (h .states) (b .0), leb-true (st .label) (h .labels) (b .1), ltb-true (st .to) (h .states) (a .1))

@@ -8,7 +8,7 @@ use Prim.Native.Nat.{ℕ, suc, _+_, _*_}
 use lib.ListN.{drop}
 use native.Mathlib.Omega.{arith}
 use Rattle.lts.specs.Sizes.{transitionLength}
-use Rattle.table_text.proofs.Laws.Progress.{transition-refused, transition-number-refused, transition-not-rising, transition-accepted, in-range}
+use Rattle.table_text.proofs.Laws.Progress.{transition-refused, transition-number-refused, transition-not-rising, transition-accepted}
 use Rattle.lts.proofs.Laws.SlotBytes.{step-written, rises-stored}
 use Rattle.columns.specs.inner.Write.{pasted}
 use Rattle.table_lines.specs.inner.LineReplies.{TransitionAnswer, NumbersAt, header}
@@ -20,6 +20,7 @@ use Rattle.lts.specs.Prepared.{transitionSlot}
 use Rattle.tables.specs.declared.prepared.Transition.{Transition}
 use Rattle.table_text.proofs.read_transition.Statement.{statement}
 use Rattle.table_text.proofs.read_transition.Tie as tie
+use Rattle.lts.proofs.Laws.Tests.{step-range-of}
 
 -- The numbers that were read.
 abbrev entry : tie.After-known-told → tie.Start
@@ -91,7 +92,7 @@ write-transition-requires : tie.Need-write-transition-requires
 write-transition-requires c κs =
     let ranged = c .before .before .before .before .before in
     let row = known ranged in
-    let r = in-range (header (entry row .args .counts)) (stepIn (read row)) (in-bounds ranged) in
+    let r = step-range-of (header (entry row .args .counts)) (stepIn (read row)) (in-bounds ranged) in
     let p = entry row .pre in
     omega arith
 

@@ -1,19 +1,16 @@
 -- `below` meets its contract: the first of the three that differs decides.
-use mathlib.Core.Path.{_≡_, refl, sym, ap, _∙_}
-use mathlib.Core.Bool.{Bool, true, false, _&&_, _||_}
+use mathlib.Core.Path.{_≡_, sym, ap, _∙_}
+use mathlib.Core.Bool.{Bool, _&&_, _||_}
 use Prim.Native.Nat.{ℕ}
 use native.Mathlib.Omega.{arith}
 use lib.Dec.{ltb, eqb}
 use borrow.Author.Tests.{le-ltb, eq-eqb, ne-eqb}
 use Rattle.tables.proofs.prepared.below.Statement.{statement}
 use Rattle.tables.proofs.prepared.below.Tie as tie
-
-or-none : (t : Bool) → t ≡ (t || false)
-or-none true = refl
-or-none false = refl
+use Rattle.lts.proofs.Booleans.{or-false}
 
 differs : (x y : ℕ) (z : Bool) → (x ≡ y → ⊥) → ltb x y ≡ (ltb x y || (eqb x y && z))
-differs x y z n = or-none (ltb x y) ∙ ap (λ (t : Bool). ltb x y || (t && z)) (sym (ne-eqb x y n))
+differs x y z n = or-false (ltb x y) ∙ ap (λ (t : Bool). ltb x y || (t && z)) (sym (ne-eqb x y n))
 
 same : (x y : ℕ) (z : Bool) → x ≡ y → z ≡ (ltb x y || (eqb x y && z))
 same x y z e = sym (ap (λ (t : Bool). t || (eqb x y && z)) (le-ltb x y (omega arith)) ∙ ap (λ (t : Bool). t && z) (eq-eqb x y e))
