@@ -2,53 +2,12 @@
 use mathlib.Core.Path.{_≡_, refl, sym, ap, _∙_}
 use mathlib.Core.List.{List, [], _∷_, _++_, append-assoc, append-nil}
 use Prim.Native.Nat.{ℕ, suc, _+_, _-_, _/_, _%_, _≤_, _<_}
-use native.Mathlib.Nat.{add-zero}
 use native.Mathlib.Omega.{arith}
-use lib.ListN.{length, take, drop, set, length-append, take-append-drop}
-use lib.Seq.{length-take-le, take-at, drop-append-add, drop-drop}
+use lib.ListN.{length, set, length-append}
 use Rattle.columns.specs.inner.Write.{pasted}
-use Rattle.columns.proofs.Laws.Pasting.{pasted-length, set-pasted}
+use Rattle.columns.proofs.Laws.Pasted.{pasted-none, pasted-then, pasted-byte, pasted-length, set-pasted}
 use Rattle.columns.specs.Bytes.{lowFirst}
 use Rattle.actl.specs.Prepared.{slot, slotBytes}
-
-pub pasted-none : (at : ℕ) (e : List ℕ) → e ≡ pasted e at []
-pasted-none at e = sym (ap (λ i. take at e ++ drop i e) (add-zero at) ∙ take-append-drop at e)
-
--- A part behind another.
-pub pasted-then : (at i : ℕ) (l j e x y : List ℕ) → x ≡ pasted e at l → i ≡ at + length l → at + length l ≤ length e → y ≡ pasted x i j → y ≡ pasted e at (l ++ j)
-pasted-then at i l j e x y p z h q =
-    let u = take at e ++ l in
-    let d = drop (at + length l) e in
-    let a = length-take-le at e (omega arith) in
-    let b : length u ≡ i = length-append (take at e) l ∙ omega arith in
-    let c : x ≡ u ++ d = p ∙ sym (append-assoc (take at e) l d) in
-    let f : take i x ≡ u = ap (take i) c ∙ take-at u d i b in
-    let k : length u + length j ≡ i + length j = omega arith in
-    let v : at + length l + length j ≡ at + length (l ++ j) = omega (arith, length-append l j) in
-    let g : drop (i + length j) x ≡ drop (at + length (l ++ j)) e =
-    ap (λ n. drop n x) (sym k) ∙ (ap (drop (length u + length j)) c ∙ (drop-append-add u d (length j) ∙ (drop-drop (length j) (at + length l) e ∙ ap (λ n. drop n e) v))) in
-    q ∙ ((λ n. f n ++ (j ++ g n)) ∙ (append-assoc (take at e) l (j ++ drop (at + length (l ++ j)) e)
-    ∙ ap (λ r. take at e ++ r) (sym (append-assoc l j (drop (at + length (l ++ j)) e)))))
-
--- A longer part in the place of another.
-pub pasted-over : (at : ℕ) (l j e x : List ℕ) → x ≡ pasted e at l → length l ≤ length j → at + length j ≤ length e → pasted x at j ≡ pasted e at j
-pasted-over at l j e x p h w =
-    let u = take at e ++ l in
-    let d = drop (at + length l) e in
-    let a = length-take-le at e (omega arith) in
-    let b : length u ≡ at + length l = length-append (take at e) l ∙ omega arith in
-    let c : x ≡ u ++ d = p ∙ sym (append-assoc (take at e) l d) in
-    let f : take at x ≡ take at e = ap (take at) p ∙ take-at (take at e) (l ++ d) at a in
-    let k : at + length j ≡ length u + (length j - length l) = omega arith in
-    let v : at + length l + (length j - length l) ≡ at + length j = omega arith in
-    let g : drop (at + length j) x ≡ drop (at + length j) e =
-    ap (λ n. drop n x) k ∙ (ap (drop (length u + (length j - length l))) c
-    ∙ (drop-append-add u d (length j - length l) ∙ (drop-drop (length j - length l) (at + length l) e ∙ ap (λ n. drop n e) v))) in
-    λ i. f i ++ (j ++ g i)
-
--- One byte more.
-pub pasted-byte : (at i b : ℕ) (l e x : List ℕ) → x ≡ pasted e at l → i ≡ at + length l → i < length e → set x i b ≡ pasted e at (l ++ (b ∷ []))
-pasted-byte at i b l e x p z h = pasted-then at i l (b ∷ []) e x _ p z (omega arith) (set-pasted x i b (omega (arith, ap length p, pasted-length e at l (omega arith))))
 
 -- A mask's bytes, low byte first.
 pub record Masked (mask at : ℕ) (e : List ℕ) (i rest : ℕ) (x : List ℕ) : Type 0 where

@@ -7,15 +7,14 @@ use native.Mathlib.Omega.{arith}
 use lib.ListN.{length, getD, take, drop, set, length-append, length-take, length-drop, take-append-drop, drop-of-length-le, List·getD-append}
 use lib.Seq.{length-take-le, take-suc, drop-cons, take-append-le, take-at, drop-at, set-at, getD-take, take-take}
 use Rattle.columns.specs.inner.Write.{pasted}
-use Rattle.columns.proofs.Laws.Pasting.{pasted-length}
+use Rattle.columns.proofs.Laws.Pasted.{pasted-length, pasted-none, pasted-then, pasted-over}
 use Rattle.actl.specs.Sizes.{mostNodes, nodeSlotLength, formulaLength}
 use Rattle.lts.proofs.Lists.{bind-append}
 use Rattle.actl.specs.Formulas.{Formula, size, nodes}
-use Rattle.actl.specs.Prepared.{Slot, slot, slotOf, slotBytes}
-use Rattle.actl.specs.inner.NodeBytes.{bytesOfNodes, putAt, NodesWritten, NodesEnclosed, orBytes, notBytes, andBytes}
+use Rattle.actl.specs.Prepared.{slot, slotOf, slotBytes}
+use Rattle.actl.specs.inner.NodeBytes.{bytesOfNodes, NodesWritten, NodesEnclosed, notBytes, andBytes}
 use Rattle.actl.proofs.Nodes.{length-nodes}
 use Rattle.actl.proofs.Laws.Widths.{length-parts}
-use Rattle.actl.proofs.ReadingBytes.{pasted-none, pasted-then, pasted-over}
 
 -- Bytes while those below `top` move up by w: the ones from i on have moved.
 abbrev pub moved : ℕ → ℕ → ℕ → List ℕ → List ℕ

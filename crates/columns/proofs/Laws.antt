@@ -6,5 +6,6 @@ pub mod Compared
 pub mod Copying
 pub mod Decimal
 pub mod Figures
+pub mod Pasted
 pub mod Pasting
 pub mod Scan

@@ -1,11 +1,11 @@
 -- Laws of writing a listing: lines of one width, one behind the other.
-use mathlib.Core.Path.{_≡_, refl, sym, ap, _∙_, subst}
+use mathlib.Core.Path.{_≡_, sym, ap, _∙_, subst}
 use mathlib.Core.List.{List, [], _∷_, _++_, append-nil, append-assoc}
-use Prim.Native.Nat.{ℕ, zero, suc, _+_, _*_, _≤_, _<_}
+use Prim.Native.Nat.{ℕ, suc, _+_, _*_, _≤_, _<_}
 use native.Mathlib.Numerals.{add-one}
 use native.Mathlib.Omega.{arith}
 use native.Mathlib.Nat.{zero-add}
-use lib.ListN.{length, getD, drop, length-append}
+use lib.ListN.{length, length-append}
 use Rattle.columns.specs.Columns.{column}
 use Rattle.columns.specs.Lines.{numbersLine}
 use Rattle.columns.specs.inner.Write.{pasted}
@@ -15,7 +15,7 @@ use Rattle.lts.specs.inner.Lists.{upFrom}
 use Rattle.lts.specs.Lists.{bind}
 use Rattle.lts.specs.Reply.{overwritten}
 use Rattle.lts.proofs.Lists.{upFrom-snoc, bind-append}
-use Rattle.explanations.specs.inner.Printed.{rowText, edgeText}
+use Rattle.lts.proofs.Laws.Pasted.{pasted-start}
 
 pub three-wide : (a b c : ℕ) → a < 1000000 → b < 1000000 → c < 1000000 → length (numbersLine (a ∷ b ∷ c ∷ [])) ≡ 19
 three-wide a b c h i j =
@@ -51,10 +51,6 @@ lines-more {line} {width} {buffer} {at} {out} {end} {i} l out′ end′ e d w h 
   where
     more : (i + 1) * width ≡ i * width + width
     more = let z : (i + 1) * width ≡ suc i * width = ap (λ k. k * width) (add-one i) in z ∙ native.Mathlib.Nat.suc-mul i width
-
--- At the start of a buffer.
-pub pasted-start : (buffer text : List ℕ) → pasted buffer 0 text ≡ overwritten text buffer
-pasted-start buffer text = ap (λ k. text ++ drop k buffer) (zero-add (length text))
 
 -- Three texts, each behind the one before.
 pub three-texts : (buffer a b c : List ℕ) {out₁ out₂ out₃ : List ℕ} {e₁ e₂ e₃ : ℕ} → e₃ ≤ length buffer → e₁ ≤ e₂ → e₂ ≤ e₃

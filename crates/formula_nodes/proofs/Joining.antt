@@ -8,7 +8,7 @@ use lib.Seq.{length-take-le}
 use Rattle.columns.specs.inner.Write.{pasted}
 use Rattle.actl.specs.Sizes.{mostNodes, nodeSlotLength, formulaLength}
 use Rattle.actl.specs.inner.NodeBytes.{NodesWritten, NodesMoved, NodesEnclosed}
-use Rattle.actl.proofs.ReadingBytes.{pasted-then}
+use Rattle.columns.proofs.Laws.Pasted.{pasted-then}
 
 -- The same place, counted in another way.
 pub written-to : {n m k : ℕ} {e x l : List ℕ} → m ≡ k → NodesWritten n m e x l → NodesWritten n k e x l

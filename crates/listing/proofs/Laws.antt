@@ -1,4 +1,3 @@
 -- Laws of rows and edges in their places.
-pub mod Pasted
 pub mod ReadBack
 pub mod Stores

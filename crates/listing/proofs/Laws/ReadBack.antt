@@ -11,7 +11,7 @@ use Rattle.columns.specs.inner.Write.{pasted}
 use Rattle.automaton.specs.Listing.{Row, Edge}
 use Rattle.automaton.specs.Bytes.{rowLength, edgeLength, rowBytes, edgeBytes, bitOf, rowState, rowFinal, edgeAt}
 use Rattle.listing.specs.inner.Places.{rowPlace, putRow, putEdge}
-use Rattle.listing.proofs.Laws.Pasted.{pasted-there, pasted-before, pasted-behind}
+use Rattle.columns.proofs.Laws.Pasted.{pasted-there, pasted-before, pasted-behind}
 use Rattle.columns.proofs.Laws.Bytes.{pair-value}
 
 -- Byte j of a part of w bytes in place n, if a part of as many bytes is written there, or in another place.

@@ -1,5 +1,5 @@
 -- Stores at neighbouring places of a list, as one part put in place.
-use mathlib.Core.Path.{_≡_, refl, ap, _∙_}
+use mathlib.Core.Path.{_≡_, refl, _∙_}
 use mathlib.Core.List.{List, [], _∷_, append-assoc}
 use Prim.Native.Nat.{ℕ, _+_, _*_, _≤_}
 use native.Mathlib.Numerals.{add-one, add-two}
@@ -8,7 +8,8 @@ use lib.ListN.{length, set, take, drop}
 use lib.Seq.{sets, sets-eq}
 use Rattle.columns.specs.Bytes.{lowFirst}
 use Rattle.columns.specs.inner.Write.{pasted}
-use Rattle.columns.proofs.Laws.Pasting.{pasting-none, pasting-more, pasting-length, set-pasted}
+use Rattle.columns.proofs.Laws.Pasting.{pasting-none, pasting-more, pasting-length}
+use Rattle.columns.proofs.Laws.Pasted.{set-pasted}
 use Rattle.automaton.specs.Listing.{Edge}
 use Rattle.automaton.specs.Bytes.{edgeLength}
 use Rattle.listing.specs.inner.Places.{putEdge}

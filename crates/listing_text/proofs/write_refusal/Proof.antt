@@ -5,7 +5,7 @@ use Rattle.listing_text.proofs.write_refusal.Tie as tie
 use mathlib.Core.Path.{_∙_}
 use native.Mathlib.Nat.{zero-add}
 use Rattle.explanations.specs.Printed.{refusalLine}
-use Rattle.explanations.proofs.Printing.{pasted-start}
+use Rattle.lts.proofs.Laws.Pasted.{pasted-start}
 
 write-numbers-requires : tie.Need-write-numbers-requires
 write-numbers-requires c κs = search needs

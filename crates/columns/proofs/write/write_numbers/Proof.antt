@@ -8,7 +8,8 @@ use lib.ListN.{length, getD, take, set, length-set}
 use Rattle.columns.specs.Columns.{column}
 use Rattle.columns.specs.Lines.{numbersLine}
 use Rattle.columns.specs.inner.Write.{pasted}
-use Rattle.columns.proofs.Laws.Pasting.{Pasting, pasting-none, pasting-more, pasting-length, set-pasted, columns, columns-more, columns-line}
+use Rattle.columns.proofs.Laws.Pasting.{Pasting, pasting-none, pasting-more, pasting-length, columns, columns-more, columns-line}
+use Rattle.columns.proofs.Laws.Pasted.{set-pasted}
 use Rattle.columns.proofs.write.write_numbers.Statement.{statement}
 use Rattle.columns.proofs.write.write_numbers.Tie as tie
 
