@@ -39,7 +39,8 @@ module _ (t : Table) (F : Formula) (w : InRange t) (c : HasClass F) where
   joins-live {p} {q} h j e = canFinish-is t F c p h .1 (step-finishes j (canFinish-is t F c q (leads-inside (j .1)) .0 e))
 
   pub dead-moves : (i : ℕ) (p : Position) → p .place ≤ size F → live p ≡ false → keep (into live) (movesFromAmong anyPosition t F i p) ≡ []
-  dead-moves i p h e = keep-none (into live) (movesFromAmong anyPosition t F i p) (λ m n. is-false (live (m .goal)) (λ d. true≢false (sym (joins-live h (moves-of anyPosition t F i p n .joins) d) ∙ e)))
+  dead-moves i p h e = keep-none (into live) (movesFromAmong anyPosition t F i p)
+      (λ m n. is-false (live (m .goal)) (λ d. true≢false (sym (joins-live h (moves-of anyPosition t F i p n .joins) d) ∙ e)))
 
   abbrev place : List Position → ℕ → ℕ
   place rows i = before live rows i

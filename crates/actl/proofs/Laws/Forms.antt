@@ -1,7 +1,7 @@
 -- The one form of a formula: its length, its bytes, and the slots in it.
 use mathlib.Core.Path.{_≡_, refl, sym, ap, _∙_, subst}
 use mathlib.Core.List.{List, [], _∷_, _++_}
-use Prim.Native.Nat.{ℕ, zero, suc, _+_, _*_, _-_, _/_, _%_, _^_, _≤_, _<_}
+use Prim.Native.Nat.{ℕ, zero, suc, _+_, _*_, _-_, _^_, _≤_, _<_}
 use native.Mathlib.Omega.{arith}
 use lib.ListN.{length, getD, take, drop, replicate, length-append}
 use lib.Seq.{drop-drop, getD-drop, getD-take, getD-append-add}
@@ -15,7 +15,7 @@ use Rattle.actl.proofs.Nodes.{length-nodes}
 use Rattle.actl.proofs.Laws.Numbers.{number-low-first, number-take}
 use Rattle.actl.proofs.Laws.Slots.{shape-of, node-shaped}
 use Rattle.actl.proofs.Laws.Widths.{length-parts, drop-parts}
-use Rattle.columns.proofs.Laws.Bytes.{padded-length, lowFirst-length}
+use Rattle.columns.proofs.Laws.Bytes.{Bytes, bytes-none, bytes-cons, bytes-append, bytes-at, padded-bytes, lowFirst-bytes, padded-length, lowFirst-length}
 
 abbrev nodeBytes : Formula → List ℕ
 nodeBytes f = slotBytes (slotOf f)
@@ -80,41 +80,18 @@ slot-of-front b k h =
     λ i. slot (e i) (f i) (g i)
 
 -- Every one of the form's numbers is a byte.
-abbrev Bytes : List ℕ → Type 0
-Bytes l = (i : ℕ) → getD l i 0 < 256
-
-bytes-cons : (x : ℕ) (l : List ℕ) → x < 256 → Bytes l → Bytes (x ∷ l)
-bytes-cons x l h b zero = h
-bytes-cons x l h b (suc i) = b i
-
-bytes-append : (l m : List ℕ) → Bytes l → Bytes m → Bytes (l ++ m)
-bytes-append [] m a b = b
-bytes-append (x ∷ l) m a b = bytes-cons x (l ++ m) (a 0) (bytes-append l m (λ i. a (suc i)) b)
-
-bytes-low-first : (n x : ℕ) → Bytes (lowFirst n x)
-bytes-low-first zero x = λ i. omega arith
-bytes-low-first (suc n) x = bytes-cons (x % 256) (lowFirst n (x / 256)) (omega arith) (bytes-low-first n (x / 256))
-
-bytes-zeros : (n : ℕ) → Bytes (replicate n 0)
-bytes-zeros zero = λ i. omega arith
-bytes-zeros (suc n) = bytes-cons 0 (replicate n 0) (omega arith) (bytes-zeros n)
-
 bytes-node : (f : Formula) → Bytes (nodeBytes f)
 bytes-node f =
     let h = shape-of (slotOf f) (node-shaped f) .high in
-    bytes-cons (slotOf f .kind) (lowFirst 8 (slotOf f .first) ++ lowFirst 8 (slotOf f .second)) (omega arith)
-    (bytes-append (lowFirst 8 (slotOf f .first)) (lowFirst 8 (slotOf f .second)) (bytes-low-first 8 (slotOf f .first)) (bytes-low-first 8 (slotOf f .second)))
+    bytes-cons (omega arith) (bytes-append (lowFirst 8 (slotOf f .first)) (lowFirst-bytes 8 (slotOf f .first)) (lowFirst-bytes 8 (slotOf f .second)))
 
 bytes-nodes : (l : List Formula) → Bytes (bind nodeBytes l)
-bytes-nodes [] = λ i. omega arith
-bytes-nodes (f ∷ l) = bytes-append (nodeBytes f) (bind nodeBytes l) (bytes-node f) (bytes-nodes l)
+bytes-nodes [] = bytes-none
+bytes-nodes (f ∷ l) = bytes-append (nodeBytes f) (bytes-node f) (bytes-nodes l)
 
 pub form-bytes : (F : Formula) → size F ≤ mostNodes → (i : ℕ) → getD (formulaBytes F) i 0 < 256
 unfolding formulaBytes
-form-bytes F h =
-    let all = bind nodeBytes (nodes F) in
-    bytes-cons (size F) (padded (mostNodes * nodeSlotLength) all) (omega arith)
-    (bytes-append all (replicate ((mostNodes * nodeSlotLength) - length all) 0) (bytes-nodes (nodes F)) (bytes-zeros ((mostNodes * nodeSlotLength) - length all)))
+form-bytes F h = bytes-at (formulaBytes F) (bytes-cons (omega arith) (padded-bytes (mostNodes * nodeSlotLength) (bind nodeBytes (nodes F)) (bytes-nodes (nodes F))))
 
 -- Zeros past the last slot.
 zero-at : (m i : ℕ) → getD {A = ℕ} (replicate m 0) i 0 ≡ 0

@@ -19,14 +19,14 @@ use Rattle.actl.specs.Prepared.{Slot, slotOf, slotBytes, formulaBytes}
 use Rattle.actl.specs.inner.Prepared.{number, slotAt}
 use Rattle.actl.specs.inner.Check.{zerosFrom}
 
-abbrev pub Bytes : List ℕ → Type 0
-Bytes l = (i : ℕ) → getD l i 0 < 256
+abbrev pub BytesAt : List ℕ → Type 0
+BytesAt l = (i : ℕ) → getD l i 0 < 256
 
-bytes-drop : (n : ℕ) (l : List ℕ) → Bytes l → Bytes (drop n l)
+bytes-drop : (n : ℕ) (l : List ℕ) → BytesAt l → BytesAt (drop n l)
 bytes-drop n l h i = rw getD-drop (h (n + i))
 
 -- n bytes are those of the number in them.
-low-first-number : (n : ℕ) (l : List ℕ) → n ≤ length l → Bytes l → lowFirst n (number n l) ≡ take n l
+low-first-number : (n : ℕ) (l : List ℕ) → n ≤ length l → BytesAt l → lowFirst n (number n l) ≡ take n l
 low-first-number zero [] h b = refl
 low-first-number zero (x ∷ l) h b = refl
 low-first-number (suc n) [] h b = absurd (omega arith)
@@ -41,7 +41,7 @@ bind-map : {A : Type 0} (g : Slot → List ℕ) (h : A → Slot) (l : List A) �
 bind-map g h [] = refl
 bind-map g h (x ∷ l) = ap (λ z. g (h x) ++ z) (bind-map g h l)
 
-module _ (b : List ℕ) (long : formulaLength ≤ length b) (bytes : Bytes b) where
+module _ (b : List ℕ) (long : formulaLength ≤ length b) (bytes : BytesAt b) where
   slot-bytes : (k : ℕ) → k < mostNodes → slotBytes (slotAt b k) ≡ take 17 (drop (1 + k * nodeSlotLength) b)
   slot-bytes k h =
       let Z = drop (2 + k * nodeSlotLength) b in

@@ -1,13 +1,13 @@
 -- Laws of lists of bytes: equality as a test, zeros behind a list, numbers as bytes.
 use mathlib.Core.Path.{_≡_, refl, ap, ap₂, _∙_}
 use mathlib.Core.Bool.{Bool, true, false, false≢true, _&&_}
-use mathlib.Core.List.{List, [], _∷_, _++_, List·Memᴰ, List·Memᴰ·not-nil, List·Memᴰ·cases-cons, List·Memᴰ·append-cases}
+use mathlib.Core.List.{List, [], _∷_, _++_, List·Memᴰ, List·Memᴰ·head, List·Memᴰ·tail, List·Memᴰ·not-nil, List·Memᴰ·cases-cons, List·Memᴰ·append-cases}
 use mathlib.Core.Logic.{_⊎_, inl, inr}
 use Prim.Native.Nat.{ℕ, zero, suc, _+_, _-_, _*_, _/_, _%_, _≤_, _<_}
 use native.Mathlib.Nat.{add-mul-mod-self-right, mod-eq-of-lt, div-add-mod'}
 use native.Mathlib.Omega.{arith}
 use lib.Dec.{eqb}
-use lib.ListN.{length, replicate, length-append, length-replicate}
+use lib.ListN.{length, getD, replicate, length-append, length-replicate}
 use borrow.Author.Tests.{eqb-true, eq-eqb}
 use Rattle.columns.specs.Bytes.{sameBytes, padded, lowFirst}
 
@@ -31,6 +31,11 @@ bytes-append l {m} r s b d = step (List·Memᴰ·append-cases l d)
     step : List·Memᴰ b l ⊎ List·Memᴰ b m → b < 256
     step (inl n) = r b n
     step (inr n) = s b n
+
+pub bytes-at : (l : List ℕ) → Bytes l → (i : ℕ) → getD l i 0 < 256
+bytes-at [] h i = omega arith
+bytes-at (x ∷ l) h zero = h x (List·Memᴰ·head refl)
+bytes-at (x ∷ l) h (suc i) = bytes-at l (λ b m. h b (List·Memᴰ·tail m)) i
 
 pub replicate-mem : (n a : ℕ) {b : ℕ} → List·Memᴰ b (replicate n a) → b ≡ a
 replicate-mem zero a m = absurd (List·Memᴰ·not-nil m)

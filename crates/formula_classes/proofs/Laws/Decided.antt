@@ -26,7 +26,7 @@ use Rattle.actl.proofs.Laws.Classed.{nodes-classed, root-among-nodes}
 use Rattle.actl.proofs.Laws.Parsing.{decoded}
 use Rattle.actl.proofs.Laws.Forms.{length-form, form-zeros}
 use Rattle.actl.proofs.Laws.Prepared.{prepared-of, prepared-few, prepared-count, prepared-slot, prepared-shaped, is-form-to}
-use Rattle.actl.proofs.Laws.Recoded.{Bytes, form-of-bytes}
+use Rattle.actl.proofs.Laws.Recoded.{BytesAt, form-of-bytes}
 use Rattle.formula_classes.proofs.Laws.Walked.{kinds-prepared}
 
 none-prepared : (o : Option Formula) → ((F : Formula) → o ≡ some F → ⊥) → isSome o ≡ false
@@ -71,7 +71,7 @@ module _ (n : ℕ) (b : List ℕ) where
   spelled-prepared {F} e = (F, sym (kinds-prepared n b e), prepared-of n b e .classed F (root-among-nodes F))
 
   -- All tests passed.
-  module _ (long : formulaLength ≤ length b) (bytes : Bytes b) (few : getD b 0 0 ≤ mostNodes)
+  module _ (long : formulaLength ≤ length b) (bytes : BytesAt b) (few : getD b 0 0 ≤ mostNodes)
       (fit : slotsFit n b (getD b 0 0) ≡ true) (zeros : zerosFrom b (1 + getD b 0 0 * nodeSlotLength) ≡ true) where
     slots : List Slot
     slots = map (slotAt b) (upFrom 0 (getD b 0 0))
