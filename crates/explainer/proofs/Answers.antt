@@ -2,7 +2,8 @@
 use mathlib.Core.Path.{_≡_, sym, ap, _∙_}
 use Prim.Native.Nat.{ℕ}
 use Rattle.lts.specs.Reply.{Reply, accepted, refusal}
-use Rattle.replies.specs.Interface.{numberIn, figureIn, keptIn, Says}
+use Rattle.replies.specs.Interface.{numberIn, figureIn, keptIn}
+use Rattle.replies.specs.inner.Says.{Says}
 use Rattle.replies.specs.declared.Answer.{Answer}
 
 module _ {A : Type 0} {x y : Reply A} where

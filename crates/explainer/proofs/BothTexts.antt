@@ -28,7 +28,8 @@ use Rattle.actl.specs.FormulaReading.{withTable, formulaReading, formulaReplied
 use Rattle.formula_text.specs.declared.FormulaReply.{FormulaReply}
 use Rattle.formula_text.specs.declared.FormulaReply.the-variants as formulas
 use Rattle.actl.proofs.Laws.Forms.{length-form}
-use Rattle.replies.specs.Interface.{numberIn, Says}
+use Rattle.replies.specs.Interface.{numberIn}
+use Rattle.replies.specs.inner.Says.{Says}
 use Rattle.replies.specs.declared.Answer.{Answer}
 use Rattle.explanations.specs.Explanation.{andThen}
 use Rattle.explainer.specs.inner.Readings.{ReadBoth}

@@ -26,7 +26,8 @@ use Rattle.building.specs.Replies.{buildReply}
 use Rattle.automaton.specs.Build.{fitted, built, counts, buildReplied, rowsLeft, edgesLeft}
 use Rattle.building.specs.declared.BuildReply.{BuildReply}
 use Rattle.building.specs.declared.BuildReply.the-variants as replies
-use Rattle.replies.specs.Interface.{edgesIn, Says}
+use Rattle.replies.specs.Interface.{edgesIn}
+use Rattle.replies.specs.inner.Says.{Says}
 use Rattle.replies.specs.declared.Answer.{Answer}
 use Rattle.explanations.specs.Explanation.{Explanation}
 use Rattle.explainer.specs.Outcome.{Outcome}

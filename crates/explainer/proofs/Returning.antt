@@ -3,7 +3,7 @@ use mathlib.Core.List.{List}
 use Prim.Native.Nat.{ℕ}
 use Rattle.lts.specs.Reply.{Reply}
 use Rattle.explanations.specs.Explanation.{Summary, explaining}
-use Rattle.replies.specs.Interface.{Says}
+use Rattle.replies.specs.inner.Says.{Says}
 use Rattle.replies.specs.declared.Answer.{Answer}
 use Rattle.explainer.specs.Interface.{Returned}
 use Rattle.explainer.specs.Promise.{Promise}

@@ -1,9 +1,7 @@
 -- What the C functions return and write: the refusal's number, or 0; and the figure.
-use mathlib.Core.Path.{_≡_}
 use Prim.Native.Nat.{ℕ}
 use Rattle.lts.specs.Reply.{Reply, accepted, refusal}
 use Rattle.automaton.specs.Build.{Counts}
-use Rattle.replies.specs.declared.Answer.{Answer}
 
 abbrev pub numberIn : {A : Type 0} → Reply A → ℕ
 numberIn (accepted a) = 0
@@ -13,11 +11,6 @@ numberIn (refusal number figure) = number
 abbrev pub figureIn : {A : Type 0} → (A → ℕ) → Reply A → ℕ
 figureIn value (accepted a) = value a
 figureIn value (refusal number figure) = figure
-
--- Both, as the functions of this crate answer them.
-pub record Says {A : Type 0} (value : A → ℕ) (reply : Reply A) (a : Answer) : Type 0 where
-  pub number-said : a .number ≡ numberIn reply
-  pub figure-said : a .figure ≡ figureIn value reply
 
 -- A value that only an accepted call writes, and that held `before`: what it holds afterwards.
 abbrev pub keptIn : {A : Type 0} → (A → ℕ) → ℕ → Reply A → ℕ

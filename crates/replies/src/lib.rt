@@ -6,7 +6,8 @@ ghost use Rattle.formula_check.specs.Inputs.{unpreparedNumber, unpreparedFigure
 ghost use Rattle.labelling.specs.Replies.{verdictReply};
 ghost use Rattle.building.specs.Replies.{buildReply};
 ghost use Rattle.words.specs.Replies.{wordReply};
-ghost use Rattle.replies.specs.Interface.{Says, edgesIn};
+ghost use Rattle.replies.specs.inner.Says.{Says};
+ghost use Rattle.replies.specs.Interface.{edgesIn};
 use building::BuildReply;
 use formula_check::inputs::Unprepared;
 use formula_text::FormulaReply;
