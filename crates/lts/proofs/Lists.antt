@@ -156,7 +156,8 @@ module _ {A B : Type 0} where
   map-split f (a ∷ l) (b ∷ pre) post y e =
       let r : map f l ≡ pre ++ (y ∷ post) = cc in more (map-split f l pre post y r)
     where
-      more : (p : List A) × (x : A) × (q : List A) × (l ≡ p ++ (x ∷ q)) × (map f p ≡ pre) × (f x ≡ y) → (p : List A) × (x : A) × (q : List A) × (a ∷ l ≡ p ++ (x ∷ q)) × (map f p ≡ b ∷ pre) × (f x ≡ y)
+      more : (p : List A) × (x : A) × (q : List A) × (l ≡ p ++ (x ∷ q)) × (map f p ≡ pre) × (f x ≡ y)
+          → (p : List A) × (x : A) × (q : List A) × (a ∷ l ≡ p ++ (x ∷ q)) × (map f p ≡ b ∷ pre) × (f x ≡ y)
       more (p, x, q, d, g, h) = (a ∷ p, x, q, ap (λ m. a ∷ m) d, (cc), h)
 
   pub bind-of : (f : A → List B) (l : List A) {y : B} → List·Memᴰ y (bind f l) → (x : A) × List·Memᴰ x l × List·Memᴰ y (f x)

@@ -59,7 +59,8 @@ module _ (b : List ℕ) (long : formulaLength ≤ length b) (bytes : BytesAt b) 
   all-slots zero h = ap (λ n. take n (drop 1 b)) (sym (zero-mul 17))
   all-slots (suc c) h =
       let g : ℕ → List ℕ = λ k. slotBytes (slotAt b k) in
-      let snoc : bind g (upFrom 0 (suc c)) ≡ bind g (upFrom 0 c) ++ g c = ap (bind g) (upFrom-snoc c) ∙ (bind-append g (upFrom 0 c) (c ∷ []) ∙ ap (λ l. bind g (upFrom 0 c) ++ l) (append-nil (g c))) in
+      let snoc : bind g (upFrom 0 (suc c)) ≡ bind g (upFrom 0 c) ++ g c =
+      ap (bind g) (upFrom-snoc c) ∙ (bind-append g (upFrom 0 c) (c ∷ []) ∙ ap (λ l. bind g (upFrom 0 c) ++ l) (append-nil (g c))) in
       let there : take 17 (drop (1 + c * nodeSlotLength) b) ≡ take 17 (drop (c * nodeSlotLength) (drop 1 b)) = ap (take 17) (sym (drop-drop (c * nodeSlotLength) 1 b)) in
       snoc ∙ ((λ i. all-slots c (omega arith) i ++ (slot-bytes c (omega arith) ∙ there) i) ∙ (sym (take-add (c * nodeSlotLength) 17 (drop 1 b)) ∙ ap (λ n. take n (drop 1 b)) (sym (suc-mul c 17))))
 
