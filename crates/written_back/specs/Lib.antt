@@ -1,0 +1,4 @@
+pub mod Brackets
+pub mod FormulaText
+pub mod FormulaWriting
+pub mod ReadBack
