@@ -37,11 +37,11 @@ abbrev pub keptFrom : ℕ → List Name → Mask → List Name
 keptFrom a [] m = []
 keptFrom a (n ∷ K) m = cond (inSet m a) (n ∷ keptFrom (suc a) K m) (keptFrom (suc a) K m)
 
-abbrev joinedTo : Set → List Name → Set
+abbrev pub joinedTo : Set → List Name → Set
 joinedTo x [] = x
 joinedTo x (n ∷ l) = joinedTo (union x 0 0 (name n)) l
 
-abbrev unionOf : List Name → Set
+abbrev pub unionOf : List Name → Set
 unionOf [] = operand any
 unionOf (n ∷ l) = joinedTo (operand (name n)) l
 
@@ -103,7 +103,7 @@ kept-few a (n ∷ K) m = case (inSet m a) (kept-few (suc a) K m)
     case true h = omega arith
     case false h = omega arith
 
-kept-all : (a : ℕ) (K : List Name) (m : Mask) → length (keptFrom a K m) ≡ length K → (b : ℕ) → a ≤ b → b < a + length K → inSet m b ≡ true
+pub kept-all : (a : ℕ) (K : List Name) (m : Mask) → length (keptFrom a K m) ≡ length K → (b : ℕ) → a ≤ b → b < a + length K → inSet m b ≡ true
 kept-all a [] m e b l h = absurd (omega arith)
 kept-all a (n ∷ K) m e b l h = case (inSet m a) refl e (decLt a b) (kept-all (suc a) K m)
   where
@@ -113,7 +113,7 @@ kept-all a (n ∷ K) m e b l h = case (inSet m a) refl e (decLt a b) (kept-all (
     case true d z (no w) ih = let same : b ≡ a = omega arith in ap (inSet m) same ∙ d
     case false d z w ih = absurd (omega (arith, kept-few (suc a) K m))
 
-kept-none : (a : ℕ) (K : List Name) (m : Mask) → length (keptFrom a K m) ≡ 0 → (b : ℕ) → a ≤ b → b < a + length K → inSet m b ≡ false
+pub kept-none : (a : ℕ) (K : List Name) (m : Mask) → length (keptFrom a K m) ≡ 0 → (b : ℕ) → a ≤ b → b < a + length K → inSet m b ≡ false
 kept-none a [] m e b l h = absurd (omega arith)
 kept-none a (n ∷ K) m e b l h = case (inSet m a) refl e (decLt a b) (kept-none (suc a) K m)
   where
@@ -133,7 +133,7 @@ found-alike : (look other : List ℕ → Option ℕ) (a : ℕ) (K : List Name) �
 found-alike look other a [] h r = tt
 found-alike look other a (n ∷ K) h (e, r) = (h n (List·Memᴰ·head refl) ∙ e, found-alike look other (suc a) K (λ k d. h k (List·Memᴰ·tail d)) r)
 
-names-found : (a : ℕ) (K : List Name) → Rising Differ (bytesOf K) → FoundFrom (findFrom a (bytesOf K)) a K
+pub names-found : (a : ℕ) (K : List Name) → Rising Differ (bytesOf K) → FoundFrom (findFrom a (bytesOf K)) a K
 unfolding findFrom
 names-found a [] r = tt
 names-found a (n ∷ K) (r, s) =
@@ -144,32 +144,35 @@ names-found a (n ∷ K) (r, s) =
     (names-found (suc a) K s))
 
 -- Which labels the names of a set stand for.
+abbrev pub isOne : (List ℕ → Option ℕ) → ℕ → Name → Bool
+isOne look b n = eqb b (labelNumber (look (n .bytes)))
+
 module _ (look : List ℕ → Option ℕ) (m : Mask) (b : ℕ) where
-  abbrev isOne : Name → Bool
-  isOne n = eqb b (labelNumber (look (n .bytes)))
+  abbrev isB : Name → Bool
+  isB n = isOne look b n
 
-  not-here : (n : Name) (a : ℕ) (l : List Name) → look (n .bytes) ≡ some a → (b ≡ a → ⊥) → (isOne n || anyOf isOne l) ≡ anyOf isOne l
-  not-here n a l e h = ap (λ o. eqb b (labelNumber o) || anyOf isOne l) e ∙ ap (λ t. t || anyOf isOne l) (ne-eqb b a h)
+  not-here : (n : Name) (a : ℕ) (l : List Name) → look (n .bytes) ≡ some a → (b ≡ a → ⊥) → (isB n || anyOf isB l) ≡ anyOf isB l
+  not-here n a l e h = ap (λ o. eqb b (labelNumber o) || anyOf isB l) e ∙ ap (λ t. t || anyOf isB l) (ne-eqb b a h)
 
-  kept-below : (a : ℕ) (K : List Name) → FoundFrom look a K → b < a → anyOf isOne (keptFrom a K m) ≡ false
+  kept-below : (a : ℕ) (K : List Name) → FoundFrom look a K → b < a → anyOf isB (keptFrom a K m) ≡ false
   kept-below a [] r h = refl
   kept-below a (n ∷ K) (e, r) h = case (inSet m a) (kept-below (suc a) K r (omega arith))
     where
-      case : (t : Bool) → anyOf isOne (keptFrom (suc a) K m) ≡ false → anyOf isOne (cond t (n ∷ keptFrom (suc a) K m) (keptFrom (suc a) K m)) ≡ false
+      case : (t : Bool) → anyOf isB (keptFrom (suc a) K m) ≡ false → anyOf isB (cond t (n ∷ keptFrom (suc a) K m) (keptFrom (suc a) K m)) ≡ false
       case true ih = not-here n a (keptFrom (suc a) K m) e (λ z. omega arith) ∙ ih
       case false ih = ih
 
-  kept-at : (a : ℕ) (K : List Name) → FoundFrom look a K → a ≤ b → b < a + length K → anyOf isOne (keptFrom a K m) ≡ inSet m b
+  pub kept-at : (a : ℕ) (K : List Name) → FoundFrom look a K → a ≤ b → b < a + length K → anyOf (isOne look b) (keptFrom a K m) ≡ inSet m b
   kept-at a [] r l h = absurd (omega arith)
   kept-at a (n ∷ K) (e, r) l h = case (inSet m a) refl (decLt a b) (kept-at (suc a) K r)
     where
-      case : (t : Bool) → inSet m a ≡ t → Dec (a < b) → (suc a ≤ b → b < suc a + length K → anyOf isOne (keptFrom (suc a) K m) ≡ inSet m b)
-          → anyOf isOne (cond t (n ∷ keptFrom (suc a) K m) (keptFrom (suc a) K m)) ≡ inSet m b
+      case : (t : Bool) → inSet m a ≡ t → Dec (a < b) → (suc a ≤ b → b < suc a + length K → anyOf isB (keptFrom (suc a) K m) ≡ inSet m b)
+          → anyOf isB (cond t (n ∷ keptFrom (suc a) K m) (keptFrom (suc a) K m)) ≡ inSet m b
       case true d (yes w) ih = not-here n a (keptFrom (suc a) K m) e (λ z. omega arith) ∙ ih (omega arith) (omega arith)
       case true d (no w) ih =
           let same : b ≡ a = omega arith in
-          ap (λ o. eqb b (labelNumber o) || anyOf isOne (keptFrom (suc a) K m)) e
-          ∙ (ap (λ t. t || anyOf isOne (keptFrom (suc a) K m)) (eq-eqb b a same) ∙ sym (ap (inSet m) same ∙ d))
+          ap (λ o. eqb b (labelNumber o) || anyOf isB (keptFrom (suc a) K m)) e
+          ∙ (ap (λ t. t || anyOf isB (keptFrom (suc a) K m)) (eq-eqb b a same) ∙ sym (ap (inSet m) same ∙ d))
       case false d (yes w) ih = ih (omega arith) (omega arith)
       case false d (no w) ih =
           let same : b ≡ a = omega arith in
