@@ -1,3 +1,4 @@
 pub mod Masks
 pub mod SetMasks
 pub mod SetTrees
+pub mod Trees

@@ -60,16 +60,21 @@ set-read K m r few within =
     (λ a l h. set-satisfied N (labelDirection N) a K m (names-found 1 K r) l (omega arith))
 
 -- Pieces none of whose names is lacking.
-abbrev pub Clear : List (List ℕ) → List Piece → Type 0
-Clear N l = (i : ℕ) → unknownFrom N i l ≡ none
+pub record Clear (N : List (List ℕ)) (l : List Piece) : Type 0 where
+  pub none-lacking : (i : ℕ) → unknownFrom N i l ≡ none
 
 abbrev Found : List (List ℕ) → List Name → Type 0
 Found N [] = Unit {0}
 Found N (n ∷ l) = ((a : ℕ) × (lookup N (n .bytes) ≡ some a)) × Found N l
 
 module _ (N : List (List ℕ)) where
-  clear-name : (n : Name) (l : List Piece) → (a : ℕ) × (lookup N (n .bytes) ≡ some a) → Clear N l → Clear N (named n ∷ l)
-  clear-name n l (a, e) h i = ap (λ o. unknownAt o i (unknownFrom N (i + length (n .bytes)) l)) e ∙ h (i + length (n .bytes))
+  pub clear-byte : (b : ℕ) {l : List Piece} → Clear N l → Clear N (byte b ∷ l)
+  clear-byte b h = record { none-lacking = λ i. h .none-lacking (suc i) }
+
+  clear-name : (n : Name) {l : List Piece} → (a : ℕ) × (lookup N (n .bytes) ≡ some a) → Clear N l → Clear N (named n ∷ l)
+  clear-name n {l} (a, e) h = record {
+    none-lacking = λ i. ap (λ o. unknownAt o i (unknownFrom N (i + length (n .bytes)) l)) e ∙ h .none-lacking (i + length (n .bytes));
+  }
 
   kept-found : (a : ℕ) (K : List Name) (m : Mask) → FoundFrom (lookup N) a K → Found N (keptFrom a K m)
   kept-found a [] m r = tt
@@ -82,16 +87,16 @@ module _ (N : List (List ℕ)) where
   joined-clear : (x : Set) (l : List Name) → Found N l → ((p : List Piece) → Clear N p → Clear N (piecesS x p))
       → (p : List Piece) → Clear N p → Clear N (piecesS (joinedTo x l) p)
   joined-clear x [] r h p c = h p c
-  joined-clear x (n ∷ l) (e, r) h p c = joined-clear (union x 0 0 (name n)) l r (λ q k. h (byte 124 ∷ named n ∷ q) (λ i. clear-name n q e k (suc i))) p c
+  joined-clear x (n ∷ l) (e, r) h p c = joined-clear (union x 0 0 (name n)) l r (λ q k. h (byte 124 ∷ named n ∷ q) (clear-byte 124 (clear-name n e k))) p c
 
   union-clear : (l : List Name) → Found N l → (p : List Piece) → Clear N p → Clear N (piecesS (unionOf l) p)
-  union-clear [] r p c = λ i. c (suc i)
-  union-clear (n ∷ l) (e, r) p c = joined-clear (operand (name n)) l r (λ q k. clear-name n q e k) p c
+  union-clear [] r p c = clear-byte 42 c
+  union-clear (n ∷ l) (e, r) p c = joined-clear (operand (name n)) l r (λ q k. clear-name n e k) p c
 
   pub set-clear : (K : List Name) (m : Mask) → FoundFrom (lookup N) 1 K → (p : List Piece) → Clear N p → Clear N (piecesS (setTree K m) p)
   set-clear K m r p c = case (eqb (length (keptFrom 1 K m)) (length K)) (eqb (length (keptFrom 1 K m)) 0)
     where
       case : (s t : Bool) → Clear N (piecesS (cond s (operand any) (cond t (operand (except 0 any)) (unionOf (keptFrom 1 K m)))) p)
-      case true t = λ i. c (suc i)
-      case false true = λ i. c (suc (suc i))
+      case true t = clear-byte 42 c
+      case false true = clear-byte 126 (clear-byte 42 c)
       case false false = union-clear (keptFrom 1 K m) (kept-found 1 K m r) p c
