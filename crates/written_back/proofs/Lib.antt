@@ -1,4 +1,5 @@
 pub mod Masks
+pub mod ReadBack
 pub mod SetMasks
 pub mod SetTrees
 pub mod Trees
