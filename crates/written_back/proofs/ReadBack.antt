@@ -1,8 +1,8 @@
 -- A written formula reads back: its text restores it, in prepared bytes too, and over one table the text tells the formula.
 use mathlib.Core.Path.{_≡_, refl, sym, ap, _∙_, subst}
-use mathlib.Core.Bool.{Bool, true, cond}
-use mathlib.Core.List.{List, [], _∷_, map, append-nil, List·Memᴰ, List·Memᴰ·head, List·Memᴰ·tail}
-use mathlib.Core.Option.{Option, none, some}
+use mathlib.Core.Bool.{true, cond}
+use mathlib.Core.List.{List, [], _∷_, append-nil, List·Memᴰ, List·Memᴰ·head, List·Memᴰ·tail}
+use mathlib.Core.Option.{none, some}
 use Prim.Native.Nat.{ℕ, suc, _≤_}
 use lib.Dec.{leb}
 use lib.ListN.{length, take, length-map}
@@ -16,14 +16,14 @@ use Rattle.lts.specs.inner.Range.{Differ, InRange}
 use Rattle.lts.specs.inner.Prepared.{preparedTable}
 use Rattle.lts.proofs.Laws.Prepared.{prepared-of as table-of, prepared-length}
 use Rattle.actl.specs.Sizes.{mostNodes, longestText, formulaLength}
-use Rattle.actl.specs.Formulas.{Formula, size, nodes, classOf, hasNoClass, highestFrom, highestWithoutClass}
-use Rattle.actl.specs.Grammar.{Name, piecesF}
+use Rattle.actl.specs.Formulas.{Formula, size, nodes, classOf, highestFrom, highestWithoutClass}
+use Rattle.actl.specs.Grammar.{Name}
 use Rattle.actl.specs.Base.{typed}
 use Rattle.actl.specs.Meaning.{formulaOf}
 use Rattle.actl.specs.WrittenOut.{writtenOut}
-use Rattle.actl.specs.Reading.{unlessFound, withClasses, onTree}
+use Rattle.actl.specs.Reading.{unlessFound, withClasses}
 use Rattle.actl.specs.Prepared.{formulaBytes, IsForm}
-use Rattle.actl.specs.FormulaReading.{withTable, formulaReading, formulaReplied, formulaLeft}
+use Rattle.actl.specs.FormulaReading.{withTable, formulaReading}
 use Rattle.actl.specs.inner.Prepared.{preparedFormula}
 use Rattle.actl.specs.inner.Reading.{onResult, readUnlimited, readFormula}
 use Rattle.actl.proofs.Expansion.{typed-written}
@@ -64,8 +64,8 @@ as-names (n ∷ N) h =
     (record { bytes = n; fits = h n (List·Memᴰ·head refl) } ∷ K, ap (λ l. n ∷ l) e)
 
 -- Over names that differ.
-restores-named : (K : List Name) → Rising Differ (bytesOf K) → length K ≤ mostLabels → (F : Formula) → size F ≤ mostNodes → ClassedNodes F → Within (length K) F
-    → Restores (bytesOf K) F
+restores-named : (K : List Name) → Rising Differ (bytesOf K) → length K ≤ mostLabels
+    → (F : Formula) → size F ≤ mostNodes → ClassedNodes F → Within (length K) F → Restores (bytesOf K) F
 restores-named K differ short F few classed within =
     let g = treeOf K F in
     let clear = formula-clear K differ F [] (record { none-lacking = λ i. refl }) .none-lacking 0 in
@@ -74,7 +74,8 @@ restores-named K differ short F few classed within =
       base = shown-text (typed g) (formula-shown K F [] ∙ append-nil (formulaText (bytesOf K) F));
       reads =
           ap (λ o. unlessFound o 7 (withClasses (formulaOf (bytesOf K) (writtenOut (typed g))))) clear
-          ∙ (ap withClasses (ap (formulaOf (bytesOf K)) (typed-written g) ∙ formula-read K differ short F within) ∙ classes-pass F few classed);
+          ∙ (ap (λ b. withClasses (formulaOf (bytesOf K) b)) (typed-written g)
+          ∙ (ap withClasses (formula-read K differ short F within) ∙ classes-pass F few classed));
     }
 
 -- Over a table in range: of at most 40 nodes, each with a class, and sets within the labels.
@@ -86,7 +87,8 @@ restores t r F few classed within =
     let short = subst (λ n. n ≤ mostLabels) count (r .few-labels) in
     subst (λ N. Restores N F) e (restores-named K differ short F few classed (subst (λ n. Within n F) count within))
 
-module _ (table formula : List ℕ) (t : Table) (F : Formula) (is-table : preparedTable table ≡ some t) (is-formula : preparedFormula (labels t) formula ≡ some F) where
+module _ (table formula : List ℕ) (t : Table) (F : Formula)
+    (is-table : preparedTable table ≡ some t) (is-formula : preparedFormula (labels t) formula ≡ some F) where
   form : IsForm (labels t) formula F
   form = prepared-of (labels t) formula is-formula
 
@@ -122,8 +124,8 @@ module _ (table formula : List ℕ) (t : Table) (F : Formula) (is-table : prepar
   reads-back = (t, F, is-table, is-formula, (prepared-restores, restores-bytes))
 
 -- Formulas of the same text are the same, and so are those of the same bytes.
-pub same-text : (table formula other : List ℕ) (t : Table) (F G : Formula) → preparedTable table ≡ some t → preparedFormula (labels t) formula ≡ some F
-    → preparedFormula (labels t) other ≡ some G → SameText table formula other
+pub same-text : (table formula other : List ℕ) (t : Table) (F G : Formula) → preparedTable table ≡ some t
+    → preparedFormula (labels t) formula ≡ some F → preparedFormula (labels t) other ≡ some G → SameText table formula other
 same-text table formula other t F G e p q = (t, F, e, p, (t, G, e, q, (same-bytes, same-formula)))
   where
     h : IsForm (labels t) formula F

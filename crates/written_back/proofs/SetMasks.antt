@@ -1,8 +1,8 @@
 -- Over names that differ: the mask of a set's tree is the set, and none of its names is lacking.
 use mathlib.Core.Path.{_≡_, refl, sym, ap, _∙_}
-use mathlib.Core.Bool.{Bool, true, false, cond, _||_}
+use mathlib.Core.Bool.{Bool, true, false, cond, _||_, or-assoc}
 use mathlib.Core.List.{List, [], _∷_}
-use mathlib.Core.Option.{Option, none, some}
+use mathlib.Core.Option.{none, some}
 use Prim.Native.Nat.{ℕ, suc, _+_, _≤_}
 use native.Mathlib.Omega.{arith}
 use lib.Dec.{eqb}
@@ -13,33 +13,31 @@ use Rattle.lts.specs.Lists.{anyOf, Rising}
 use Rattle.lts.specs.Names.{lookup}
 use Rattle.lts.specs.Directions.{Direction, labelDirection}
 use Rattle.lts.specs.inner.Range.{Differ}
+use Rattle.lts.proofs.Booleans.{or-false}
 use Rattle.actl.specs.Actions.{satisfies, Mask, inSet}
 use Rattle.actl.specs.Grammar.{Name, Set, operand, union, name, any, except, Piece, byte, named, piecesS}
-use Rattle.actl.specs.Meaning.{labelNumber, actionOfSet, maskIn}
+use Rattle.actl.specs.Meaning.{actionOfSet, maskIn}
 use Rattle.actl.specs.Prepared.{maskWithin}
 use Rattle.actl.specs.Reading.{unknownAt, unknownFrom}
 use Rattle.written_back.proofs.Masks.{mask-by-labels}
-use Rattle.written_back.proofs.SetTrees.{bytesOf, keptFrom, joinedTo, unionOf, setTree, kept-all, kept-none, FoundFrom, names-found, isOne, kept-at}
-
-or-assoc : (a b c : Bool) → ((a || b) || c) ≡ (a || (b || c))
-or-assoc true b c = refl
-or-assoc false b c = refl
+use Rattle.written_back.proofs.SetTrees.{bytesOf, keptFrom, joinedTo, unionOf, setTree, kept-all, kept-none}
+use Rattle.written_back.proofs.SetTrees.{FoundFrom, names-found, isOne, kept-at}
 
 module _ (N : List (List ℕ)) (d : ℕ → Direction) (b : ℕ) where
-  joined-satisfied : (x : Set) (l : List Name) → satisfies d b (actionOfSet N (joinedTo x l)) ≡ (satisfies d b (actionOfSet N x) || anyOf (isOne (lookup N) b) l)
-  joined-satisfied x [] = or-false (satisfies d b (actionOfSet N x))
-    where
-      or-false : (t : Bool) → t ≡ (t || false)
-      or-false true = refl
-      or-false false = refl
-  joined-satisfied x (n ∷ l) =
-      joined-satisfied (union x 0 0 (name n)) l ∙ or-assoc (satisfies d b (actionOfSet N x)) (isOne (lookup N) b n) (anyOf (isOne (lookup N) b) l)
+  abbrev isB : Name → Bool
+  isB n = isOne (lookup N) b n
 
-  union-satisfied : (l : List Name) → (length l ≡ 0 → ⊥) → satisfies d b (actionOfSet N (unionOf l)) ≡ anyOf (isOne (lookup N) b) l
+  joined-satisfied : (x : Set) (l : List Name)
+      → satisfies d b (actionOfSet N (joinedTo x l)) ≡ (satisfies d b (actionOfSet N x) || anyOf isB l)
+  joined-satisfied x [] = or-false (satisfies d b (actionOfSet N x))
+  joined-satisfied x (n ∷ l) = joined-satisfied (union x 0 0 (name n)) l ∙ or-assoc (satisfies d b (actionOfSet N x)) (isB n) (anyOf isB l)
+
+  union-satisfied : (l : List Name) → (length l ≡ 0 → ⊥) → satisfies d b (actionOfSet N (unionOf l)) ≡ anyOf isB l
   union-satisfied [] h = absurd (h refl)
   union-satisfied (n ∷ l) h = joined-satisfied (operand (name n)) l
 
-  set-satisfied : (K : List Name) (m : Mask) → FoundFrom (lookup N) 1 K → 1 ≤ b → b ≤ length K → satisfies d b (actionOfSet N (setTree K m)) ≡ inSet m b
+  set-satisfied : (K : List Name) (m : Mask) → FoundFrom (lookup N) 1 K → 1 ≤ b → b ≤ length K
+      → satisfies d b (actionOfSet N (setTree K m)) ≡ inSet m b
   set-satisfied K m r l h = case (eqb (length k) (length K)) refl (eqb (length k) 0) refl
     where
       k : List Name
@@ -56,7 +54,8 @@ pub set-read : (K : List Name) (m : Mask) → Rising Differ (bytesOf K) → leng
 set-read K m r few within =
     let N = bytesOf K in
     let count : length K ≡ length N = sym (length-map K (λ n. n .bytes)) in
-    mask-by-labels (labelDirection N) (length N) m (actionOfSet N (setTree K m)) (omega arith) (ap (λ n. maskWithin n m) (sym count) ∙ within)
+    mask-by-labels (labelDirection N) (length N) m (actionOfSet N (setTree K m)) (omega arith)
+    (ap (λ n. maskWithin n m) (sym count) ∙ within)
     (λ a l h. set-satisfied N (labelDirection N) a K m (names-found 1 K r) l (omega arith))
 
 -- Pieces none of whose names is lacking.
@@ -87,7 +86,8 @@ module _ (N : List (List ℕ)) where
   joined-clear : (x : Set) (l : List Name) → Found N l → ((p : List Piece) → Clear N p → Clear N (piecesS x p))
       → (p : List Piece) → Clear N p → Clear N (piecesS (joinedTo x l) p)
   joined-clear x [] r h p c = h p c
-  joined-clear x (n ∷ l) (e, r) h p c = joined-clear (union x 0 0 (name n)) l r (λ q k. h (byte 124 ∷ named n ∷ q) (clear-byte 124 (clear-name n e k))) p c
+  joined-clear x (n ∷ l) (e, r) h p c =
+      joined-clear (union x 0 0 (name n)) l r (λ q k. h (byte 124 ∷ named n ∷ q) (clear-byte 124 (clear-name n e k))) p c
 
   union-clear : (l : List Name) → Found N l → (p : List Piece) → Clear N p → Clear N (piecesS (unionOf l) p)
   union-clear [] r p c = clear-byte 42 c

@@ -1,32 +1,25 @@
--- A set's tree over names that differ: its text is the set's, its mask is the set, and the table has all its names.
+-- A set's tree over names that differ: its text is the set's, and the names in it are those of the set's labels.
 use mathlib.Core.Path.{_≡_, refl, sym, ap, _∙_}
-use mathlib.Core.Logic.{_⊎_, inl, inr}
-use mathlib.Core.Bool.{Bool, true, false, cond, not, _||_}
+use mathlib.Core.Bool.{Bool, true, false, cond, _||_}
 use mathlib.Core.List.{List, [], _∷_, _++_, map, append-assoc, List·Memᴰ, List·Memᴰ·head, List·Memᴰ·tail}
-use mathlib.Core.Option.{Option, none, some}
-use Prim.Native.Nat.{ℕ, zero, suc, _+_, _≤_, _<_}
+use mathlib.Core.Option.{Option, some}
+use Prim.Native.Nat.{ℕ, suc, _+_, _≤_, _<_}
 use native.Mathlib.Decide.{decLt}
 use native.Mathlib.Omega.{arith}
 use lib.Dec.{eqb}
 use lib.ListN.{length, length-map}
-use borrow.Author.Tests.{eq-eqb, ne-eqb, eqb-true, eqb-false}
-use Rattle.columns.specs.Bytes.{sameBytes}
+use borrow.Author.Tests.{eq-eqb, ne-eqb, eqb-false}
 use Rattle.columns.proofs.Laws.Bytes.{same-refl}
 use Rattle.columns.proofs.Laws.Compared.{same-of-unequal}
-use Rattle.lts.specs.Sizes.{mostLabels}
 use Rattle.lts.specs.Lists.{anyOf, Rising, bind}
-use Rattle.lts.specs.Names.{findFrom, lookup}
-use Rattle.lts.specs.Directions.{Direction, labelDirection}
+use Rattle.lts.specs.Names.{findFrom}
 use Rattle.lts.specs.inner.Range.{Differ}
 use Rattle.lts.proofs.Lists.{map-to}
-use Rattle.actl.specs.Actions.{satisfies, Mask, inSet}
-use Rattle.actl.specs.Grammar.{Name, Set, operand, union, Operand, name, any, except, Piece, piecesS}
-use Rattle.actl.specs.Meaning.{labelNumber, actionOfSet, maskIn}
-use Rattle.actl.specs.Prepared.{maskWithin}
-use Rattle.actl.specs.Reading.{unknownAt, unknownFrom}
+use Rattle.actl.specs.Actions.{Mask, inSet}
+use Rattle.actl.specs.Grammar.{Name, Set, operand, union, name, any, except}
+use Rattle.actl.specs.Meaning.{labelNumber}
 use Rattle.actl.specs.inner.Show.{showS}
-use Rattle.written_back.specs.FormulaText.{membersFrom, members, joined, setText}
-use Rattle.written_back.proofs.Masks.{mask-by-labels}
+use Rattle.written_back.specs.FormulaText.{membersFrom, joined, setText}
 
 -- The names of a table, as bytes.
 abbrev pub bytesOf : List Name → List (List ℕ)
@@ -91,19 +84,21 @@ set-shown K m s =
     let kept : length l ≡ length (bytesOf l) = sym (length-map l (λ n. n .bytes)) in
     set-of-shown (length K) l s
     ∙ ((λ i. cond (eqb (kept i) (count i)) (42 ∷ []) (cond (eqb (kept i) 0) (126 ∷ 42 ∷ []) (joined (bytesOf l))) ++ s)
-    ∙ ap (λ (k : List (List ℕ)). cond (eqb (length k) (length (bytesOf K))) (42 ∷ []) (cond (eqb (length k) 0) (126 ∷ 42 ∷ []) (joined k)) ++ s)
-    (sym (members-kept 1 K m)))
+    ∙ ap (λ (k : List (List ℕ)). cond (eqb (length k) (length (bytesOf K))) (42 ∷ [])
+    (cond (eqb (length k) 0) (126 ∷ 42 ∷ []) (joined k)) ++ s) (sym (members-kept 1 K m)))
 
 -- How many names are kept: all of them, or none.
 kept-few : (a : ℕ) (K : List Name) (m : Mask) → length (keptFrom a K m) ≤ length K
 kept-few a [] m = omega arith
 kept-few a (n ∷ K) m = case (inSet m a) (kept-few (suc a) K m)
   where
-    case : (t : Bool) → length (keptFrom (suc a) K m) ≤ length K → length (cond t (n ∷ keptFrom (suc a) K m) (keptFrom (suc a) K m)) ≤ suc (length K)
+    case : (t : Bool) → length (keptFrom (suc a) K m) ≤ length K
+        → length (cond t (n ∷ keptFrom (suc a) K m) (keptFrom (suc a) K m)) ≤ suc (length K)
     case true h = omega arith
     case false h = omega arith
 
-pub kept-all : (a : ℕ) (K : List Name) (m : Mask) → length (keptFrom a K m) ≡ length K → (b : ℕ) → a ≤ b → b < a + length K → inSet m b ≡ true
+pub kept-all : (a : ℕ) (K : List Name) (m : Mask) → length (keptFrom a K m) ≡ length K
+    → (b : ℕ) → a ≤ b → b < a + length K → inSet m b ≡ true
 kept-all a [] m e b l h = absurd (omega arith)
 kept-all a (n ∷ K) m e b l h = case (inSet m a) refl e (decLt a b) (kept-all (suc a) K m)
   where
@@ -113,7 +108,8 @@ kept-all a (n ∷ K) m e b l h = case (inSet m a) refl e (decLt a b) (kept-all (
     case true d z (no w) ih = let same : b ≡ a = omega arith in ap (inSet m) same ∙ d
     case false d z w ih = absurd (omega (arith, kept-few (suc a) K m))
 
-pub kept-none : (a : ℕ) (K : List Name) (m : Mask) → length (keptFrom a K m) ≡ 0 → (b : ℕ) → a ≤ b → b < a + length K → inSet m b ≡ false
+pub kept-none : (a : ℕ) (K : List Name) (m : Mask) → length (keptFrom a K m) ≡ 0
+    → (b : ℕ) → a ≤ b → b < a + length K → inSet m b ≡ false
 kept-none a [] m e b l h = absurd (omega arith)
 kept-none a (n ∷ K) m e b l h = case (inSet m a) refl e (decLt a b) (kept-none (suc a) K m)
   where
@@ -131,17 +127,20 @@ FoundFrom look a (n ∷ K) = (look (n .bytes) ≡ some a) × FoundFrom look (suc
 found-alike : (look other : List ℕ → Option ℕ) (a : ℕ) (K : List Name) → ((n : Name) → List·Memᴰ n K → other (n .bytes) ≡ look (n .bytes))
     → FoundFrom look a K → FoundFrom other a K
 found-alike look other a [] h r = tt
-found-alike look other a (n ∷ K) h (e, r) = (h n (List·Memᴰ·head refl) ∙ e, found-alike look other (suc a) K (λ k d. h k (List·Memᴰ·tail d)) r)
+found-alike look other a (n ∷ K) h (e, r) =
+    (h n (List·Memᴰ·head refl) ∙ e, found-alike look other (suc a) K (λ k d. h k (List·Memᴰ·tail d)) r)
 
 pub names-found : (a : ℕ) (K : List Name) → Rising Differ (bytesOf K) → FoundFrom (findFrom a (bytesOf K)) a K
 unfolding findFrom
 names-found a [] r = tt
 names-found a (n ∷ K) (r, s) =
-    let N = bytesOf K in
-    (ap (λ t. cond t (some a) (findFrom (suc a) N (n .bytes))) (same-refl (n .bytes)),
-    found-alike (findFrom (suc a) N) (findFrom a (n .bytes ∷ N)) (suc a) K
-    (λ k d. ap (λ t. cond t (some a) (findFrom (suc a) N (k .bytes))) (same-of-unequal (n .bytes) (k .bytes) (r (k .bytes) (map-to (λ (n : Name). n .bytes) d))))
-    (names-found (suc a) K s))
+    let N = bytesOf K in (
+      ap (λ t. cond t (some a) (findFrom (suc a) N (n .bytes))) (same-refl (n .bytes)),
+      found-alike (findFrom (suc a) N) (findFrom a (n .bytes ∷ N)) (suc a) K
+          (λ k d. ap (λ t. cond t (some a) (findFrom (suc a) N (k .bytes)))
+          (same-of-unequal (n .bytes) (k .bytes) (r (k .bytes) (map-to (λ (n : Name). n .bytes) d))))
+          (names-found (suc a) K s),
+    )
 
 -- Which labels the names of a set stand for.
 abbrev pub isOne : (List ℕ → Option ℕ) → ℕ → Name → Bool
@@ -158,15 +157,18 @@ module _ (look : List ℕ → Option ℕ) (m : Mask) (b : ℕ) where
   kept-below a [] r h = refl
   kept-below a (n ∷ K) (e, r) h = case (inSet m a) (kept-below (suc a) K r (omega arith))
     where
-      case : (t : Bool) → anyOf isB (keptFrom (suc a) K m) ≡ false → anyOf isB (cond t (n ∷ keptFrom (suc a) K m) (keptFrom (suc a) K m)) ≡ false
+      case : (t : Bool) → anyOf isB (keptFrom (suc a) K m) ≡ false
+          → anyOf isB (cond t (n ∷ keptFrom (suc a) K m) (keptFrom (suc a) K m)) ≡ false
       case true ih = not-here n a (keptFrom (suc a) K m) e (λ z. omega arith) ∙ ih
       case false ih = ih
 
-  pub kept-at : (a : ℕ) (K : List Name) → FoundFrom look a K → a ≤ b → b < a + length K → anyOf (isOne look b) (keptFrom a K m) ≡ inSet m b
+  pub kept-at : (a : ℕ) (K : List Name) → FoundFrom look a K → a ≤ b → b < a + length K
+      → anyOf (isOne look b) (keptFrom a K m) ≡ inSet m b
   kept-at a [] r l h = absurd (omega arith)
   kept-at a (n ∷ K) (e, r) l h = case (inSet m a) refl (decLt a b) (kept-at (suc a) K r)
     where
-      case : (t : Bool) → inSet m a ≡ t → Dec (a < b) → (suc a ≤ b → b < suc a + length K → anyOf isB (keptFrom (suc a) K m) ≡ inSet m b)
+      case : (t : Bool) → inSet m a ≡ t → Dec (a < b)
+          → (suc a ≤ b → b < suc a + length K → anyOf isB (keptFrom (suc a) K m) ≡ inSet m b)
           → anyOf isB (cond t (n ∷ keptFrom (suc a) K m) (keptFrom (suc a) K m)) ≡ inSet m b
       case true d (yes w) ih = not-here n a (keptFrom (suc a) K m) e (λ z. omega arith) ∙ ih (omega arith) (omega arith)
       case true d (no w) ih =

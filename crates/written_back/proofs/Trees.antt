@@ -1,17 +1,16 @@
 -- A formula's tree in the base notation, over names that differ: its text is the formula's, and what it stands for is the formula.
 use mathlib.Core.Path.{_≡_, refl, sym, ap, _∙_}
-use mathlib.Core.Bool.{Bool, true, false}
+use mathlib.Core.Bool.{true}
 use mathlib.Core.List.{List, [], _∷_, _++_, append-assoc, List·Memᴰ·tail, Memᴰ·append-left, Memᴰ·append-right}
-use Prim.Native.Nat.{ℕ, suc, _≤_}
+use Prim.Native.Nat.{ℕ, _≤_}
 use lib.ListN.{length}
 use Rattle.lts.specs.Sizes.{mostLabels}
 use Rattle.lts.specs.Lists.{Rising}
-use Rattle.lts.specs.Names.{lookup}
 use Rattle.lts.specs.inner.Range.{Differ}
 use Rattle.lts.proofs.Booleans.{and-true-of}
 use Rattle.actl.specs.Actions.{Mask, Cond, silent, labels}
 use Rattle.actl.specs.Formulas.{Formula, tru, not, or, ex, ax, eu, euThen, nodes}
-use Rattle.actl.specs.Grammar.{Name, Condition, dot, set, Quantifier, existential, universal, Piece, byte, piecesS, piecesC, piecesF, piecesT}
+use Rattle.actl.specs.Grammar.{Name, Condition, dot, set, existential, universal, Piece, byte, piecesS, piecesC, piecesF, piecesT}
 use Rattle.actl.specs.Base.{BaseHead, Base, BaseTerm, typed, typedTerm}
 use Rattle.actl.specs.Meaning.{maskIn, condOf, formulaOf, formulaOfTerm}
 use Rattle.actl.specs.Prepared.{slotOf, maskWithin}
@@ -76,7 +75,8 @@ module _ (K : List Name) where
   next-shown : (c : Cond) (f : Formula) (s : List ℕ) {r : List ℕ} → r ≡ asArm f (text f) ++ s
       → showC (condTree K c) (93 ∷ 32 ∷ r) ≡ ((condText (bytesOf K) c ++ (93 ∷ 32 ∷ [])) ++ asArm f (text f)) ++ s
   next-shown c f s {r} e =
-      cond-shown K c (93 ∷ 32 ∷ r) ∙ (ap (λ l. condText (bytesOf K) c ++ (93 ∷ 32 ∷ l)) e ∙ square-shut (condText (bytesOf K) c) (asArm f (text f)) s)
+      let inside = condText (bytesOf K) c in
+      cond-shown K c (93 ∷ 32 ∷ r) ∙ (ap (λ l. inside ++ (93 ∷ 32 ∷ l)) e ∙ square-shut inside (asArm f (text f)) s)
 
   pub formula-shown : (F : Formula) (s : List ℕ) → showF (typed (treeOf K F)) s ≡ formulaText (bytesOf K) F ++ s
   unfolding formulaText
@@ -100,10 +100,14 @@ arm-read N (Base.or f a b t) = refl
 
 module _ (K : List Name) (differ : Rising Differ (bytesOf K)) where
   module _ (few : length K ≤ mostLabels) where
-    root-within : (F : Formula) → Within (length K) F → (maskWithin (length K) (slotOf F .first) ≡ true) × (maskWithin (length K) (slotOf F .second) ≡ true)
-    root-within F h = and-true-of (maskWithin (length K) (slotOf F .first)) (maskWithin (length K) (slotOf F .second)) (h F (root-among-nodes F))
+    abbrev Fits : Mask → Type 0
+    Fits m = maskWithin (length K) m ≡ true
 
-    mask-read : (m : Mask) → maskWithin (length K) m ≡ true → maskIn (bytesOf K) (setTree K m) ≡ m
+    root-within : (F : Formula) → Within (length K) F → Fits (slotOf F .first) × Fits (slotOf F .second)
+    root-within F h =
+        and-true-of (maskWithin (length K) (slotOf F .first)) (maskWithin (length K) (slotOf F .second)) (h F (root-among-nodes F))
+
+    mask-read : (m : Mask) → Fits m → maskIn (bytesOf K) (setTree K m) ≡ m
     mask-read m h = set-read K m differ few h
 
     ex-read : (c : Cond) (f : Formula) → Within (length K) (ex c f) → condOf (bytesOf K) (condTree K c) ≡ c
@@ -124,8 +128,12 @@ module _ (K : List Name) (differ : Rising Differ (bytesOf K)) where
         let left = formula-read f (λ x d. h x (List·Memᴰ·tail (Memᴰ·append-left (nodes g) d))) in
         let right = arm-of g (formula-read g (λ x d. h x (List·Memᴰ·tail (Memᴰ·append-right (nodes f) d)))) in
         λ i. or (left i) (right i)
-    formula-read (ex c f) h = let under = arm-of f (formula-read f (λ g d. h g (List·Memᴰ·tail d))) in λ i. ex (ex-read c f h i) (under i)
-    formula-read (ax c f) h = let under = arm-of f (formula-read f (λ g d. h g (List·Memᴰ·tail d))) in λ i. ax (ax-read c f h i) (under i)
+    formula-read (ex c f) h =
+        let under = arm-of f (formula-read f (λ g d. h g (List·Memᴰ·tail d))) in
+        λ i. ex (ex-read c f h i) (under i)
+    formula-read (ax c f) h =
+        let under = arm-of f (formula-read f (λ g d. h g (List·Memᴰ·tail d))) in
+        λ i. ax (ax-read c f h i) (under i)
     formula-read (eu a f) h =
         let under = arm-of f (formula-read f (λ g d. h g (List·Memᴰ·tail d))) in
         λ i. eu (mask-read a (root-within (eu a f) h .0) i) (under i)
@@ -135,28 +143,34 @@ module _ (K : List Name) (differ : Rising Differ (bytesOf K)) where
         λ i. euThen (mask-read a one i) (mask-read b two i) (under i)
 
   -- The table has its names.
-  in-set-clear : (m : Mask) {p : List Piece} → Clear (bytesOf K) p → Clear (bytesOf K) (piecesS (setTree K m) p)
-  in-set-clear m {p} c = set-clear (bytesOf K) K m (names-found 1 K differ) p c
+  abbrev Has : List Piece → Type 0
+  Has p = Clear (bytesOf K) p
 
-  cond-clear : (x : Cond) {p : List Piece} → Clear (bytesOf K) p → Clear (bytesOf K) (piecesC (condTree K x) p)
-  cond-clear silent c = clear-byte (bytesOf K) 46 c
-  cond-clear (labels m) c = in-set-clear m c
+  typing : (b : ℕ) {p : List Piece} → Has p → Has (byte b ∷ p)
+  typing b c = clear-byte (bytesOf K) b c
 
-  arm-clear : (g : Base) → ((p : List Piece) → Clear (bytesOf K) p → Clear (bytesOf K) (piecesF (typed g) p))
-      → {p : List Piece} → Clear (bytesOf K) p → Clear (bytesOf K) (piecesT (typedTerm (asTerm g)) p)
-  arm-clear (Base.term t) h {p} c = h p c
-  arm-clear (Base.or f a b t) h {p} c = clear-byte (bytesOf K) 40 (h (byte 41 ∷ p) (clear-byte (bytesOf K) 41 c))
+  has-set : (m : Mask) {p : List Piece} → Has p → Has (piecesS (setTree K m) p)
+  has-set m {p} c = set-clear (bytesOf K) K m (names-found 1 K differ) p c
 
-  behind : (f : Formula) → ((p : List Piece) → Clear (bytesOf K) p → Clear (bytesOf K) (piecesF (typed (treeOf K f)) p))
-      → {p : List Piece} → Clear (bytesOf K) p → Clear (bytesOf K) (byte 93 ∷ byte 32 ∷ piecesT (typedTerm (asTerm (treeOf K f))) p)
-  behind f h c = clear-byte (bytesOf K) 93 (clear-byte (bytesOf K) 32 (arm-clear (treeOf K f) h c))
+  has-cond : (x : Cond) {p : List Piece} → Has p → Has (piecesC (condTree K x) p)
+  has-cond silent c = typing 46 c
+  has-cond (labels m) c = has-set m c
+
+  has-arm : (g : Base) → ((p : List Piece) → Has p → Has (piecesF (typed g) p))
+      → {p : List Piece} → Has p → Has (piecesT (typedTerm (asTerm g)) p)
+  has-arm (Base.term t) h {p} c = h p c
+  has-arm (Base.or f a b t) h {p} c = typing 40 (h (byte 41 ∷ p) (typing 41 c))
+
+  has-behind : (g : Base) → ((p : List Piece) → Has p → Has (piecesF (typed g) p))
+      → {p : List Piece} → Has p → Has (byte 93 ∷ byte 32 ∷ piecesT (typedTerm (asTerm g)) p)
+  has-behind g h c = typing 93 (typing 32 (has-arm g h c))
 
   pub formula-clear : (F : Formula) (p : List Piece) → Clear (bytesOf K) p → Clear (bytesOf K) (piecesF (typed (treeOf K F)) p)
-  formula-clear tru p c = clear-byte (bytesOf K) 84 c
-  formula-clear (not f) p c = clear-byte (bytesOf K) 126 (arm-clear (treeOf K f) (formula-clear f) c)
-  formula-clear (or f g) p c = formula-clear f _ (clear-byte (bytesOf K) 124 (arm-clear (treeOf K g) (formula-clear g) c))
-  formula-clear (ex x f) p c = clear-byte (bytesOf K) 69 (clear-byte (bytesOf K) 88 (clear-byte (bytesOf K) 91 (cond-clear x (behind f (formula-clear f) c))))
-  formula-clear (ax x f) p c = clear-byte (bytesOf K) 65 (clear-byte (bytesOf K) 88 (clear-byte (bytesOf K) 91 (cond-clear x (behind f (formula-clear f) c))))
-  formula-clear (eu a f) p c = clear-byte (bytesOf K) 69 (clear-byte (bytesOf K) 85 (clear-byte (bytesOf K) 91 (in-set-clear a (behind f (formula-clear f) c))))
+  formula-clear tru p c = typing 84 c
+  formula-clear (not f) p c = typing 126 (has-arm (treeOf K f) (formula-clear f) c)
+  formula-clear (or f g) p c = formula-clear f _ (typing 124 (has-arm (treeOf K g) (formula-clear g) c))
+  formula-clear (ex x f) p c = typing 69 (typing 88 (typing 91 (has-cond x (has-behind (treeOf K f) (formula-clear f) c))))
+  formula-clear (ax x f) p c = typing 65 (typing 88 (typing 91 (has-cond x (has-behind (treeOf K f) (formula-clear f) c))))
+  formula-clear (eu a f) p c = typing 69 (typing 85 (typing 91 (has-set a (has-behind (treeOf K f) (formula-clear f) c))))
   formula-clear (euThen a b f) p c =
-      clear-byte (bytesOf K) 69 (clear-byte (bytesOf K) 85 (clear-byte (bytesOf K) 91 (in-set-clear a (clear-byte (bytesOf K) 59 (in-set-clear b (behind f (formula-clear f) c))))))
+      typing 69 (typing 85 (typing 91 (has-set a (typing 59 (has-set b (has-behind (treeOf K f) (formula-clear f) c))))))
