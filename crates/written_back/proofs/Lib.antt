@@ -1,3 +1,4 @@
+pub mod Laws
 pub mod Masks
 pub mod ReadBack
 pub mod SetMasks
