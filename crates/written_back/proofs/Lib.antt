@@ -1,3 +1,4 @@
+pub mod Examples
 pub mod Laws
 pub mod Masks
 pub mod ReadBack
