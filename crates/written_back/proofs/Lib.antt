@@ -1,4 +1,5 @@
 pub mod Examples
+pub mod Fewest
 pub mod Laws
 pub mod Masks
 pub mod ReadBack
