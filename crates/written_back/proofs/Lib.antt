@@ -1,3 +1,4 @@
+pub mod Counted
 pub mod Examples
 pub mod Fewest
 pub mod Laws
