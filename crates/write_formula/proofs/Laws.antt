@@ -1,0 +1,4 @@
+pub mod Adds
+pub mod Sets
+pub mod Stack
+pub mod Walk
