@@ -17,20 +17,8 @@ use Rattle.actl.specs.Grammar.{Quantifier, existential, universal, Head, next, 
 use Rattle.actl.specs.Grammar.{Disjunction, conjunction, or, Conjunction, term, and, Term, tru, not, modal, paren, Piece, byte, textOf}
 use Rattle.actl.specs.Grammar.{blanks, piecesS, piecesO, piecesC, piecesQ, piecesR, piecesL, piecesH, piecesF, piecesA, piecesT}
 use Rattle.actl.specs.Grammatical.{Text}
-use Rattle.written_back.specs.Brackets.{pairs, pairsA, pairsT, ands, andsA, andsT}
-
--- The bytes c outside square brackets, where the Boolean says whether the text begins inside one: a 91 begins it, the next 93 ends it.
-abbrev pub countFrom : ℕ → Bool → List ℕ → ℕ
-countFrom c inside [] = 0
-countFrom c true (b ∷ s) = countFrom c (negate (eqb b 93)) s
-countFrom c false (b ∷ s) = let more = countFrom c (eqb b 91) s in cond (eqb b c) (suc more) more
-
--- `(` and `&`.
-abbrev pub outside : List ℕ → ℕ
-outside s = countFrom 40 false s
-
-abbrev pub ampersands : List ℕ → ℕ
-ampersands s = countFrom 38 false s
+use Rattle.written_back.specs.Brackets.{countFrom, outside, ampersands}
+use Rattle.written_back.proofs.Pairs.{pairs, pairsA, pairsT, ands, andsA, andsT}
 
 -- So many are counted in the text of these pieces.
 record Counts (c : ℕ) (inside : Bool) (n : ℕ) (l : List Piece) : Type 0 where

@@ -3,6 +3,7 @@ pub mod Examples
 pub mod Fewest
 pub mod Laws
 pub mod Masks
+pub mod Pairs
 pub mod ReadBack
 pub mod SetMasks
 pub mod SetTrees

@@ -57,7 +57,7 @@ classes-pass F few classed =
     ∙ ap (λ o. unlessFound o 9 (accepted F)) (none-highest 0 (nodes F) classed)
 
 -- Names, with what makes each one.
-as-names : (N : List (List ℕ)) → ((n : List ℕ) → List·Memᴰ n N → isName n ≡ true) → (K : List Name) × (bytesOf K ≡ N)
+pub as-names : (N : List (List ℕ)) → ((n : List ℕ) → List·Memᴰ n N → isName n ≡ true) → (K : List Name) × (bytesOf K ≡ N)
 as-names [] h = ([], refl)
 as-names (n ∷ N) h =
     let (K, e) = as-names N (λ k d. h k (List·Memᴰ·tail d)) in
@@ -115,7 +115,7 @@ module _ (table formula : List ℕ) (t : Table) (F : Formula)
       ∙ (ap (λ o. withTable o (λ u. readFormula (u .names) s)) is-table
       ∙ (line-read (t .names) s (typed (prepared-restores .tree)) short (prepared-restores .base) ∙ prepared-restores .reads)))
 
-  restores-bytes : length (formulaText (t .names) F) ≤ longestText → RestoresBytes table formula (formulaText (t .names) F)
+  pub restores-bytes : length (formulaText (t .names) F) ≤ longestText → RestoresBytes table formula (formulaText (t .names) F)
   restores-bytes short buffer long =
       let e = text-read short buffer long in
       (ap (answers (λ G. tt)) e, ap (λ r. leftIn formulaBytes r buffer) e ∙ ap (λ b. overwritten b buffer) (sym (form .form)))

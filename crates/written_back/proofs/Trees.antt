@@ -26,7 +26,7 @@ condTree K silent = dot
 condTree K (labels m) = set (setTree K m)
 
 -- An arm that is `|` stands in round brackets.
-abbrev asTerm : Base → BaseTerm
+abbrev pub asTerm : Base → BaseTerm
 asTerm (Base.term t) = t
 asTerm (Base.or f a b t) = BaseTerm.paren 0 (Base.or f a b t) 0
 
