@@ -8,3 +8,4 @@ pub mod ReadBack
 pub mod SetMasks
 pub mod SetTrees
 pub mod Trees
+pub mod Written
