@@ -1,16 +1,23 @@
 -- Worked examples of a formula's text, over small tables of label names: what a line is read to, and what is written for it.
 use mathlib.Core.Path.{_≡_, refl}
-use mathlib.Core.List.{List, [], _∷_}
-use Prim.Native.Nat.{ℕ}
+use mathlib.Core.Bool.{true}
+use mathlib.Core.List.{List, [], _∷_, _++_, map}
+use mathlib.Core.Option.{some}
+use Prim.Native.Nat.{ℕ, zero, suc}
 use Prim.Native.String.{String}
 use Rattle.columns.specs.Ascii.{ascii}
-use Rattle.lts.specs.Names.{findFrom}
+use Rattle.lts.specs.Lists.{every}
+use Rattle.lts.specs.Names.{isName, findFrom, lookup}
 use Rattle.lts.specs.Steps.{silent as isSilent}
-use Rattle.lts.specs.Reply.{accepted}
+use Rattle.lts.specs.Reply.{accepted, refusal}
+use Rattle.lts.specs.inner.Lists.{upFrom}
 use Rattle.actl.specs.Actions.{maskOf, inSet, silent, labels}
 use Rattle.actl.specs.Formulas.{Formula, tru, not, or, ex, ax, eu, euThen, classOf, highestWithoutClass}
+use Rattle.actl.specs.Reading.{withClasses}
 use Rattle.actl.specs.inner.Reading.{readUnlimited}
+use Rattle.written_back.specs.Brackets.{outside, ampersands}
 use Rattle.written_back.specs.FormulaText.{setText, formulaText}
+use Rattle.written_back.specs.FormulaWriting.{unlessLong}
 
 -- Over the names N the formula F has this text.
 abbrev Writes : List (List ℕ) → Formula → String → Type 0
@@ -131,3 +138,31 @@ blank-before-a-bracket = (refl, refl, refl)
 without-class : Writes twoNames (euThen 6 0 (not tru)) "EU[*;~*] ~T"
 unfolding formulaText setText inSet isSilent
 without-class = refl
+
+-- What is counted in a text: brackets in a set are not, and an `&` stands for the pair that its text in the base notation has.
+in-a-set : (outside (ascii "EX[~(a|b)] (T|T) & (T)") ≡ 2) × (ampersands (ascii "EX[~(a|b)] (T|T) & (T)") ≡ 1)
+in-a-set = (refl, refl)
+
+for-an-and : (outside (ascii "T & T") ≡ 0) × (ampersands (ascii "T & T") ≡ 1) × (outside (ascii "~(~T|~T)") ≡ 1)
+for-an-and = (refl, refl, refl)
+
+-- However long, the needed length is exact: forty names of 13 bytes, and 39 nodes EU, each with two sets of all labels but the first.
+abbrev longName : ℕ → ℕ → List ℕ
+longName mark letter = ascii "labelnumber" ++ (letter ∷ mark ∷ [])
+
+abbrev longNames : List (List ℕ)
+longNames = map (longName 33) (upFrom 97 20) ++ map (longName 63) (upFrom 97 20)
+
+abbrev nested : ℕ → Formula
+nested zero = tru
+nested (suc n) = euThen 2199023255548 2199023255548 (nested n)
+
+needed-length : unlessLong (formulaText longNames (nested 39)) ≡ refusal 15 42745
+unfolding formulaText setText inSet isSilent
+needed-length = refl
+
+-- A table may have these names, which differ, and a prepared formula may be this one.
+long-but-possible : (every isName longNames ≡ true) × (map (lookup longNames) longNames ≡ map some (upFrom 1 40))
+    × (withClasses (nested 39) ≡ accepted (nested 39))
+unfolding findFrom classOf highestWithoutClass
+long-but-possible = (refl, refl, refl)
