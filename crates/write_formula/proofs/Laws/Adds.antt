@@ -66,3 +66,7 @@ room-after r a k h = record { long = omega (arith, r .long, a .long); below = om
 
 pub over-after : {l : List ℕ} {at n m : ℕ} {table e x : List ℕ} → Over table e at n → Adds l at e x m → (k : ℕ) → length l + k ≤ n → Over table x m k
 over-after o a k h = record { holds = o .holds; room = room-after (o .room) a k h }
+
+-- A text by another name.
+pub adds-same : {l k : List ℕ} {at to : ℕ} {e x : List ℕ} → k ≡ l → Adds l at e x to → Adds k at e x to
+adds-same {l} {k} {at} {to} {e} {x} d a = subst (λ t. Adds t at e x to) (sym d) a
