@@ -1,5 +1,7 @@
 pub mod Adds
+pub mod Closing
 pub mod Masks
+pub mod Opening
 pub mod Sets
 pub mod Stack
 pub mod Walk
