@@ -6,6 +6,7 @@ pub mod Classed
 pub mod Expanded
 pub mod Foreign
 pub mod Forms
+pub mod Held
 pub mod Lists
 pub mod Masks
 pub mod Numbers

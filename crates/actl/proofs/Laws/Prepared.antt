@@ -123,7 +123,7 @@ module _ (n : ℕ) (b : List ℕ) (F : Formula) (h : IsForm n b F) where
       let carried : (x : Mask) → maskWithin n x ≡ true → x < 256 ^ 8 = λ x e. lt-of-lt-of-le (within-low n x e .1) (pow-mono {i = suc n} {j = 64} (omega arith)) in
       sym (slot-by-parts (slotAt b k) (s .same-kind) (s .same-first (carried (slotOf f .first) (w .0))) (s .same-second (carried (slotOf f .second) (w .1))))
 
-  form-slots : n ≤ 63 → map (slotAt b) (upFrom 0 (getD b 0 0)) ≡ map slotOf (nodes F)
+  pub form-slots : n ≤ 63 → map (slotAt b) (upFrom 0 (getD b 0 0)) ≡ map slotOf (nodes F)
   form-slots few =
       let c : length (map (slotAt b) (upFrom 0 (getD b 0 0))) ≡ size F = length-map (upFrom 0 (getD b 0 0)) (slotAt b) ∙ (upFrom-length 0 (getD b 0 0) ∙ form-count) in
       ext-getD (slot 1 0 0) (map (slotAt b) (upFrom 0 (getD b 0 0))) (map slotOf (nodes F)) (c ∙ sym (length-map (nodes F) slotOf ∙ length-nodes F))

@@ -1,37 +1,21 @@
--- Prepared formulas as labelling reads them: their length, their count of nodes, and the rows from the last node on.
+-- The rows of a prepared formula's nodes, from the last node on.
 use mathlib.Core.Path.{_≡_, sym, ap, _∙_}
-use mathlib.Core.Bool.{Bool, true, false}
+use mathlib.Core.Bool.{Bool, false}
 use mathlib.Core.List.{List}
 use Prim.Native.Nat.{ℕ, _≤_, _<_}
 use native.Mathlib.Nat.{zero-add}
 use native.Mathlib.Omega.{arith}
-use lib.ListN.{length, getD, length-take}
-use Rattle.actl.specs.Sizes.{mostNodes, formulaLength}
+use lib.ListN.{length, getD}
 use Rattle.actl.specs.inner.Sizes.{nodePositions}
 use Rattle.lts.specs.Steps.{labels}
 use Rattle.lts.specs.inner.Prepared.{tableIn}
 use Rattle.lts.specs.inner.HoldsTable.{HoldsTable}
 use Rattle.actl.specs.Formulas.{Formula, root}
-use Rattle.actl.specs.inner.Prepared.{slotAt}
-use Rattle.actl.specs.inner.Shaped.{shaped}
 use Rattle.actl.proofs.Nodes.{size-pos}
 use Rattle.actl.proofs.Subformulas.{node-at}
-use Rattle.actl.proofs.Laws.Forms.{length-form}
-use Rattle.actl.proofs.Laws.Prepared.{prepared-of, prepared-few, prepared-count, prepared-shaped}
+use Rattle.actl.proofs.Laws.Prepared.{prepared-count}
 use Rattle.satisfaction.specs.inner.Holds.{holds}
 use Rattle.labelling.specs.inner.Nodes.{RowsFrom, NodesLabelled, AtStart}
-use Rattle.actl.specs.inner.HoldsFormula.{HoldsFormula}
-
-module _ (n : ℕ) (b : List ℕ) (h : HoldsFormula n b) where
-  pub formula-long : formulaLength ≤ length b
-  formula-long =
-      omega (arith, ap length (prepared-of n b (h .prepared) .form), length-form (h .formula) (prepared-few n b (h .prepared)), length-take formulaLength b)
-
-  pub formula-few : getD b 0 0 ≤ mostNodes
-  formula-few = omega (arith, prepared-count n b (h .prepared), prepared-few n b (h .prepared))
-
-  pub formula-shaped : (k : ℕ) → k < getD b 0 0 → shaped (slotAt b k) ≡ true
-  formula-shaped k l = prepared-shaped n b (h .prepared) k (omega (arith, prepared-count n b (h .prepared)))
 
 module _ (table formula : List ℕ) where
   -- No row is asked for past the last node.

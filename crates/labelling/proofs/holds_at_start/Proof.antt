@@ -1,6 +1,7 @@
 -- `holds_at_start` meets its contract: the flag of node 0 at the start.
 use borrow.Author.Needs.{needs}
-use Rattle.labelling.proofs.Laws.Prepared.{formula-long, root-at-start}
+use Rattle.actl.proofs.Laws.Held.{formula-long}
+use Rattle.labelling.proofs.Laws.Prepared.{root-at-start}
 use Rattle.labelling.proofs.holds_at_start.Statement.{statement}
 use Rattle.labelling.proofs.holds_at_start.Tie as tie
 

@@ -4,7 +4,7 @@ use borrow.Author.Needs.{needs}
 use Rattle.lts.specs.inner.Steps.{stepsFrom}
 use Rattle.lts.specs.inner.Prepared.{tableIn}
 use Rattle.tables.specs.inner.StepArray.{stepsIn}
-use Rattle.labelling.proofs.Laws.Prepared.{formula-long}
+use Rattle.actl.proofs.Laws.Held.{formula-long}
 use Rattle.target_masks.proofs.Laws.Places.{spells}
 use Rattle.frontier.specs.inner.Frontier.{nowhere, allPlaces}
 use Rattle.frontier.specs.inner.Reached.{wordRead, rootReached, someFinal}

@@ -6,7 +6,8 @@ use native.Mathlib.Omega.{arith}
 use lib.ListN.{getD, replicate, length-replicate}
 use Rattle.actl.specs.inner.Sizes.{nodePositions}
 use Rattle.labelling.specs.inner.Nodes.{RowsFrom}
-use Rattle.labelling.proofs.Laws.Prepared.{formula-long, formula-few, rows-none, rows-all}
+use Rattle.actl.proofs.Laws.Held.{formula-long, formula-few}
+use Rattle.labelling.proofs.Laws.Prepared.{rows-none, rows-all}
 use Rattle.labelling.proofs.Laws.Nodes.{rows-on}
 use Rattle.labelling.proofs.nodes.label_nodes.Statement.{statement}
 use Rattle.labelling.proofs.nodes.label_nodes.Tie as tie

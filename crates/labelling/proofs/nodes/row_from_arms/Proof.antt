@@ -9,7 +9,7 @@ use Rattle.lts.specs.inner.Prepared.{tableIn}
 use Rattle.actl.specs.Formulas.{tru, size, nodes}
 use Rattle.actl.proofs.Laws.Prepared.{prepared-few, prepared-count, prepared-slot}
 use Rattle.labelling.proofs.Laws.Nodes.{node-row}
-use Rattle.labelling.proofs.Laws.Prepared.{formula-long, formula-few, formula-shaped}
+use Rattle.actl.proofs.Laws.Held.{formula-long, formula-few, formula-shaped}
 use borrow.Author.Needs.{needs}
 use Rattle.labelling.proofs.nodes.row_from_arms.Statement.{statement}
 use Rattle.labelling.proofs.nodes.row_from_arms.Tie as tie
