@@ -6,3 +6,4 @@ pub mod Opening
 pub mod Sets
 pub mod Stack
 pub mod Walk
+pub mod Writing
