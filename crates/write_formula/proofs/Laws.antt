@@ -1,5 +1,7 @@
 pub mod Adds
 pub mod Closing
+pub mod Entry
+pub mod Line
 pub mod Masks
 pub mod NodeTexts
 pub mod Opening

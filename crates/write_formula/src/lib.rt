@@ -17,6 +17,7 @@ ghost use Rattle.lts.specs.inner.Prepared.{tableIn};
 ghost use Rattle.actl.specs.inner.HoldsFormula.{HoldsFormula};
 ghost use Rattle.write_formula.specs.inner.Line.{LineWritten};
 ghost use Rattle.written_back.specs.FormulaWriting.{formulaWritten, textLeft};
+ghost use Rattle.written_back.specs.ReadBack.{Restored};
 ghost use Rattle.write_formula.specs.Replies.{writeReply};
 
 mod sets;
@@ -34,6 +35,7 @@ pub enum WriteReply {
 pub fn write_formula(table: &[u8], formula: &[u8], text: &mut [u8]) -> WriteReply
     ensures { λ r. ⌜ writeReply r ≡ formulaWritten (now (table .entry)) (now (formula .entry)) (now (text .entry)) ⌝ }
     ensures { λ _. ⌜ now (text .exit) ≡ textLeft (now (table .entry)) (now (formula .entry)) (now (text .entry)) ⌝ }
+    ensures { λ r. ⌜ Restored (now (table .entry)) (now (formula .entry)) (writeReply r) (now (text .exit)) ⌝ }
 {
     if table.len() < TABLE_LENGTH {
         return WriteReply::Refused(Unprepared::BufferShort(TABLE_LENGTH));

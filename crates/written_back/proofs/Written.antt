@@ -10,7 +10,7 @@ use lib.ListN.{length, take, drop}
 use lib.Seq.{take-at}
 use borrow.Author.Tests.{leb-true, le-leb}
 use Rattle.lts.specs.Sizes.{tableLength}
-use Rattle.lts.specs.Reply.{Reply, accepted, unless, leftIn, answers}
+use Rattle.lts.specs.Reply.{Reply, accepted, refusal, unless, leftIn, answers}
 use Rattle.lts.specs.Steps.{Table, labels}
 use Rattle.lts.specs.inner.Prepared.{preparedTable}
 use Rattle.lts.proofs.Laws.Refusals.{Numbered, numbered-unless, numbered-answers}
@@ -23,11 +23,11 @@ use Rattle.actl.proofs.Laws.Foreign.{NotTen, refuses-foreign, answers-refuse-fo
 use Rattle.actl.proofs.Laws.Replies.{unless-accepted, long-enough-accepted, on-prepared-accepted, accepted-answer}
 use Rattle.written_back.specs.FormulaText.{formulaText}
 use Rattle.written_back.specs.FormulaWriting.{unlessLong, formulaWriting, formulaWritten, textLeft}
-use Rattle.written_back.specs.ReadBack.{RestoresBytes}
+use Rattle.written_back.specs.ReadBack.{RestoresBytes, Restored}
 use Rattle.written_back.proofs.ReadBack.{restores-bytes}
 
 -- The text of the table and the formula in prepared bytes.
-abbrev textIn : Table → Formula → Reply (List ℕ)
+abbrev pub textIn : Table → Formula → Reply (List ℕ)
 textIn t F = unlessLong (formulaText (t .names) F)
 
 abbrev behindLengths : List ℕ → List ℕ → Reply (List ℕ)
@@ -55,7 +55,7 @@ with-table-numbers (some t) next h = h t
 
 module _ (table formula text : List ℕ) where
   -- With room for the text: what the prepared bytes say.
-  with-room : longestText ≤ length text → formulaWriting table formula text ≡ onPrepared table formula textIn
+  pub with-room : longestText ≤ length text → formulaWriting table formula text ≡ onPrepared table formula textIn
   unfolding formulaWriting
   with-room room =
       ap (λ b. longEnough table formula (unless b 14 longestText (behindLengths table formula))) (le-leb longestText (length text) room)
@@ -88,6 +88,14 @@ module _ (table formula text : List ℕ) where
       let left : take n (textLeft table formula text) ≡ s =
       ap (λ r. take n (leftIn (λ l. l) r text)) d ∙ take-at s (drop (length s) text) n count in
       subst (RestoresBytes table formula) (sym left) (text-restores d)
+
+  -- The same of every call.
+  pub restored : Restored table formula (formulaWritten table formula text) (textLeft table formula text)
+  restored = case (formulaWritten table formula text) refl
+    where
+      case : (r : Reply ℕ) → formulaWritten table formula text ≡ r → Restored table formula r (textLeft table formula text)
+      case (accepted n) e = written-accepted n e
+      case (refusal number figure) e = tt
 
   -- The numbers that it may be refused with: 10, 14 and 15.
   pub refusals : Numbered WritingNumber (formulaWritten table formula text)

@@ -4,7 +4,7 @@ use mathlib.Core.Logic.{_↔_}
 use mathlib.Core.List.{List}
 use Prim.Native.Nat.{ℕ, _≤_}
 use lib.ListN.{length, take}
-use Rattle.lts.specs.Reply.{accepted, overwritten}
+use Rattle.lts.specs.Reply.{Reply, accepted, refusal, overwritten}
 use Rattle.lts.specs.Marks.{marked}
 use Rattle.actl.specs.Sizes.{longestText, formulaLength}
 use Rattle.actl.specs.Formulas.{Formula}
@@ -25,6 +25,11 @@ abbrev pub RestoresBytes : List ℕ → List ℕ → List ℕ → Type 0
 RestoresBytes table formula s =
     (buffer : List ℕ) → formulaLength ≤ length buffer →
     (formulaReplied table s buffer ≡ accepted tt) × (formulaLeft table s buffer ≡ overwritten (take formulaLength formula) buffer)
+
+-- What an accepted call left in the first bytes of the text reads back.
+abbrev pub Restored : List ℕ → List ℕ → Reply ℕ → List ℕ → Type 0
+Restored table formula (accepted n) text = RestoresBytes table formula (take n text)
+Restored table formula (refusal number figure) text = Unit {0}
 
 -- What is written for prepared bytes reads back.
 abbrev pub ReadsBack : List ℕ → List ℕ → Type 0
