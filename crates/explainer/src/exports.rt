@@ -5,6 +5,7 @@ ghost use Rattle.actl.specs.FormulaReading.{formulaReplied, formulaLeft};
 ghost use Rattle.satisfaction.specs.VerdictAsked.{verdictReplied};
 ghost use Rattle.automaton.specs.Build.{buildReplied, rowsLeft, edgesLeft};
 ghost use Rattle.automaton.specs.WordAsked.{wordReplied};
+ghost use Rattle.written_back.specs.FormulaWriting.{formulaWritten, textLeft};
 ghost use Rattle.replies.specs.Interface.{numberIn, figureIn, edgesIn};
 ghost use Rattle.explanations.specs.Explanation.{explaining};
 ghost use Rattle.explainer.specs.Interface.{Returned, Promised};
@@ -21,8 +22,10 @@ use replies::formula_answer;
 use replies::table_answer;
 use replies::verdict_answer;
 use replies::word_answer;
+use replies::write_answer;
 use table_text::read_table;
 use words::accepts;
+use write_formula::write_formula;
 
 #[no_mangle]
 pub extern "C" fn explainer_read_table(text: &[u8], table: &mut [u8], figure: &mut u64) -> u32
@@ -100,6 +103,23 @@ pub extern "C" fn explainer_build(
     let answer = build_answer(reply);
     *figure = answer.figure;
     *count = build_edges(reply, before);
+    answer.number
+}
+
+#[no_mangle]
+pub extern "C" fn explainer_write_formula(
+    table: &[u8],
+    formula: &[u8],
+    text: &mut [u8],
+    figure: &mut u64,
+) -> u32
+    ensures { λ r. ⌜ r ≡ numberIn (formulaWritten (now (table .entry)) (now (formula .entry)) (now (text .entry))) ⌝ }
+    ensures { λ _. ⌜ now (text .exit) ≡ textLeft (now (table .entry)) (now (formula .entry)) (now (text .entry)) ⌝ }
+    ensures { λ _. ⌜ now (figure .exit) ≡ figureIn (λ length. length)
+        (formulaWritten (now (table .entry)) (now (formula .entry)) (now (text .entry))) ⌝ }
+{
+    let answer = write_answer(write_formula(table, formula, text));
+    *figure = answer.figure;
     answer.number
 }
 

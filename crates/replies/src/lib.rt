@@ -6,6 +6,7 @@ ghost use Rattle.formula_check.specs.Inputs.{unpreparedNumber, unpreparedFigure
 ghost use Rattle.labelling.specs.Replies.{verdictReply};
 ghost use Rattle.building.specs.Replies.{buildReply};
 ghost use Rattle.words.specs.Replies.{wordReply};
+ghost use Rattle.write_formula.specs.Replies.{writeReply};
 ghost use Rattle.replies.specs.inner.Says.{Says};
 ghost use Rattle.replies.specs.Interface.{edgesIn};
 use building::BuildReply;
@@ -14,6 +15,7 @@ use formula_text::FormulaReply;
 use labelling::VerdictReply;
 use table_text::TableReply;
 use words::WordReply;
+use write_formula::WriteReply;
 
 // What is said of a reply: the number of a refusal, or 0; and the figure.
 pub struct Answer {
@@ -109,5 +111,15 @@ pub fn word_answer(reply: WordReply) -> Answer
         WordReply::NotAccepted => numbered(0, 0),
         WordReply::WordBad(index) => numbered(13, index),
         WordReply::Refused(why) => unprepared_answer(why),
+    }
+}
+
+pub fn write_answer(reply: WriteReply) -> Answer
+    ensures { λ r. ⌜ Says (λ length. length) (writeReply reply) r ⌝ }
+{
+    match reply {
+        WriteReply::Written(length) => numbered(0, length),
+        WriteReply::TooLong(needed) => numbered(15, needed),
+        WriteReply::Refused(why) => unprepared_answer(why),
     }
 }

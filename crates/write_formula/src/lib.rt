@@ -1,4 +1,5 @@
 // Writing a prepared formula back as text, over its table.
+use crate::walk::write_nodes;
 use actl::sizes::FORMULA_LENGTH;
 use actl::sizes::LONGEST_TEXT;
 use bytes::copy;
@@ -6,7 +7,6 @@ use formula_check::inputs::Inputs;
 use formula_check::inputs::Unprepared;
 use formula_check::inputs::check_inputs;
 use lts::sizes::TABLE_LENGTH;
-use crate::walk::write_nodes;
 ghost use mathlib.Core.Path.{_≡_};
 ghost use Prim.Native.Nat.{_≤_};
 ghost use lib.ListN.{length};

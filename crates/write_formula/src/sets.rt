@@ -128,13 +128,7 @@ fn put_pair(table: &[u8], first: u64, second: u64, out: &mut [u8], at: usize) ->
 }
 
 // EU[A;B]
-pub fn put_until_then(
-    table: &[u8],
-    first: u64,
-    second: u64,
-    out: &mut [u8],
-    at: usize,
-) -> usize
+pub fn put_until_then(table: &[u8], first: u64, second: u64, out: &mut [u8], at: usize) -> usize
     requires { ⌜ Over (now table) (now out) at 1130 × (maskWithin (labels (tableIn (now table))) first ≡ true)
         × (maskWithin (labels (tableIn (now table))) second ≡ true) ⌝ }
     ensures { λ r. ⌜ Adds (69 ∷ 85 ∷ inSquare (setText (tableIn (now (table .entry)) .names) first ++ (59 ∷ setText (tableIn (now (table .entry)) .names) second)))

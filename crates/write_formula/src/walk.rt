@@ -106,12 +106,8 @@ fn write_node(
         }
         Node::Not => arm_at(put(out, at, b'~'), top),
         Node::Or => open(arm, pending, top, out, at),
-        Node::Ex(condition) => {
-            arm_at(put_keyword(b'E', b'X', table, condition, out, at), top)
-        }
-        Node::Ax(condition) => {
-            arm_at(put_keyword(b'A', b'X', table, condition, out, at), top)
-        }
+        Node::Ex(condition) => { arm_at(put_keyword(b'E', b'X', table, condition, out, at), top) }
+        Node::Ax(condition) => { arm_at(put_keyword(b'A', b'X', table, condition, out, at), top) }
         Node::Until(set) => {
             let condition = Condition::Labels(set);
             arm_at(put_keyword(b'E', b'U', table, condition, out, at), top)

@@ -28,8 +28,13 @@ module _ (table formula text : List ℕ) where
       (writeReply r ≡ formulaWritten table formula text) × ((text′ ≡ textLeft table formula text) × Restored table formula (writeReply r) text′)
 
   promised : (text′ : List ℕ) (r : WriteReply) → writeReply r ≡ formulaWritten table formula text → text′ ≡ textLeft table formula text → Promised text′ r
-  promised text′ r d e = (d, (e,
-    subst (λ q. Restored table formula q text′) (sym d) (subst (λ l. Restored table formula (formulaWritten table formula text) l) (sym e) (restored table formula text))))
+  promised text′ r d e = (
+    d,
+    (
+      e,
+      subst (λ q. Restored table formula q text′) (sym d) (subst (λ l. Restored table formula (formulaWritten table formula text) l) (sym e) (restored table formula text)),
+    ),
+  )
 
   pub refused : (why : Unprepared) → unprepared why ≡ formulaWriting table formula text → Promised text (Refused why)
   refused why d = promised text (Refused why) (ap (answers length) d) (ap (λ r. leftIn (λ s. s) r text) d)

@@ -49,9 +49,11 @@ loop-again : tie.Need-loop-again Inv-loop μ-loop
 loop-again c =
     let turn = c .before .before .before .before in
     let l = turn .before .loop in
-    let b = table turn in
-    (joining-more (tableIn b .names) (start turn .pre .holds .in-range .named) _ _ _ (l .k) (few turn) (name-in b (l .k) [] (few turn)) (l .inv .0)
-    (c .before .before .put-label .ensures), omega (arith, turn .loop-test .taken))
+    let b = table turn in (
+      joining-more (tableIn b .names) (start turn .pre .holds .in-range .named) _ _ _ (l .k) (few turn) (name-in b (l .k) [] (few turn)) (l .inv .0)
+          (c .before .before .put-label .ensures),
+      omega (arith, turn .loop-test .taken),
+    )
 
 same-length : tie.Need-same-length Inv-loop μ-loop
 same-length c = c .before .loop .inv .0 .long

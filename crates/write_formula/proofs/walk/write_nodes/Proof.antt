@@ -79,12 +79,16 @@ write-node-requires : tie.Need-write-node-requires Inv-loop μ-loop
 write-node-requires c κs =
     let turn = c .before .before .before in
     let l = turn .before .loop in
-    let before-last : l .k < mostNodes = omega (arith, most turn, turn .loop-test .taken) in
-    ((record {
-      holds = begun turn .pre .0 .0;
-      room = record { long = l .inv .adds .long ∙ begun turn .pre .0 .1; below = omega (arith, l .inv .short, before-last) };
-    }, record { long = l .inv .long; within = omega (arith, l .inv .few, before-last) }),
-    ap (slotWithin (n (begun turn))) (c .before .before .node-at .ensures) ∙ slot-within (begun turn) (l .k) (here turn))
+    let before-last : l .k < mostNodes = omega (arith, most turn, turn .loop-test .taken) in (
+      (
+        record {
+          holds = begun turn .pre .0 .0;
+          room = record { long = l .inv .adds .long ∙ begun turn .pre .0 .1; below = omega (arith, l .inv .short, before-last) };
+        },
+        record { long = l .inv .long; within = omega (arith, l .inv .few, before-last) },
+      ),
+      ap (slotWithin (n (begun turn))) (c .before .before .node-at .ensures) ∙ slot-within (begun turn) (l .k) (here turn),
+    )
 
 loop-again : tie.Need-loop-again Inv-loop μ-loop
 loop-again c =
