@@ -46,10 +46,11 @@ fn put_members(table: &[u8], set: u64, out: &mut [u8], at: usize) -> usize
 {
     let count = label_count(table);
     let mut end = at;
-    let mut k: usize = 0;
-    while k < count {
+    let mut left = count;
+    while 0 < left {
+        let k = count - left;
         end = put_label(set, at, table, k, out, end);
-        k += 1;
+        left -= 1;
     }
     end
 }

@@ -32,13 +32,13 @@ pub struct Place {
     arm: bool,
 }
 
-fn arm_at(at: usize, top: usize) -> Place
-    ensures { λ r. ⌜ (r .at ≡ at) × (r .top ≡ top) × (r .arm ≡ true) ⌝ }
+fn place_at(at: usize, top: usize, arm: bool) -> Place
+    ensures { λ r. ⌜ (r .at ≡ at) × (r .top ≡ top) × (r .arm ≡ arm) ⌝ }
 {
     Place {
         at: at,
         top: top,
-        arm: true,
+        arm: arm,
     }
 }
 
@@ -55,10 +55,10 @@ fn close(pending: &[u8], top: usize, out: &mut [u8], at: usize) -> Place
         let b = pending[left];
         end = put(out, end, b);
         if b == b'|' {
-            return arm_at(end, left);
+            return place_at(end, left, true);
         }
     }
-    arm_at(end, left)
+    place_at(end, left, true)
 }
 
 // A `|`: its own byte is pending behind its left arm, a `)` behind its right one.
@@ -104,16 +104,27 @@ fn write_node(
             let end = put(out, at, b'T');
             close(pending, top, out, end)
         }
-        Node::Not => arm_at(put(out, at, b'~'), top),
+        Node::Not => {
+            let end = put(out, at, b'~');
+            place_at(end, top, true)
+        }
         Node::Or => open(arm, pending, top, out, at),
-        Node::Ex(condition) => { arm_at(put_keyword(b'E', b'X', table, condition, out, at), top) }
-        Node::Ax(condition) => { arm_at(put_keyword(b'A', b'X', table, condition, out, at), top) }
+        Node::Ex(condition) => {
+            let end = put_keyword(b'E', b'X', table, condition, out, at);
+            place_at(end, top, true)
+        }
+        Node::Ax(condition) => {
+            let end = put_keyword(b'A', b'X', table, condition, out, at);
+            place_at(end, top, true)
+        }
         Node::Until(set) => {
             let condition = Condition::Labels(set);
-            arm_at(put_keyword(b'E', b'U', table, condition, out, at), top)
+            let end = put_keyword(b'E', b'U', table, condition, out, at);
+            place_at(end, top, true)
         }
         Node::UntilThen(first, second) => {
-            arm_at(put_until_then(table, first, second, out, at), top)
+            let end = put_until_then(table, first, second, out, at);
+            place_at(end, top, true)
         }
     }
 }
@@ -132,10 +143,10 @@ pub fn write_nodes(table: &[u8], formula: &[u8], out: &mut [u8]) -> usize
     let mut k: usize = 0;
     while k < count {
         let node = node_at(formula, k);
-        let place = write_node(table, node, arm, &mut pending, top, out, at);
-        at = place.at;
-        top = place.top;
-        arm = place.arm;
+        let next = write_node(table, node, arm, &mut pending, top, out, at);
+        at = next.at;
+        top = next.top;
+        arm = next.arm;
         k += 1;
     }
     at

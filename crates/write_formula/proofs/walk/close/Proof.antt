@@ -37,7 +37,7 @@ returns : tie.Need-returns Inv-loop μ-loop
 returns c =
     let put = c .before .before .before .before in
     let turn = put .before .before .before in
-    closing-bar _ _ _ _ (turn .before .loop .inv) (turn .loop-test .taken) (put .put .ensures) (c .before .if1 .taken) (c .arm-at .result) (c .arm-at .ensures)
+    closing-bar _ _ _ _ (turn .before .loop .inv) (turn .loop-test .taken) (put .put .ensures) (c .before .if1 .taken) (c .place-at .result) (c .place-at .ensures)
 
 loop-again : tie.Need-loop-again Inv-loop μ-loop
 loop-again c =
@@ -49,7 +49,7 @@ same-length-2 : tie.Need-same-length-2 Inv-loop μ-loop
 same-length-2 c = c .before .before .loop .inv .adds .long
 
 returns-2 : tie.Need-returns-2 Inv-loop μ-loop
-returns-2 c = closing-end _ _ _ _ (c .before .before .loop .inv) (omega (arith, c .before .loop-test .left)) (c .arm-at2 .result) (c .arm-at2 .ensures)
+returns-2 c = closing-end _ _ _ _ (c .before .before .loop .inv) (omega (arith, c .before .loop-test .left)) (c .place-at2 .result) (c .place-at2 .ensures)
 
 pub close-spec : {M : Type 1} → statement M
 close-spec =
