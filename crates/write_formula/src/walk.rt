@@ -70,18 +70,10 @@ fn open(arm: bool, pending: &mut [u8], top: usize, out: &mut [u8], at: usize) ->
     if arm {
         pending[top] = b')';
         pending[top + 1] = b'|';
-        return Place {
-            at: put(out, at, b'('),
-            top: top + 2,
-            arm: false,
-        };
+        return place_at(put(out, at, b'('), top + 2, false);
     }
     pending[top] = b'|';
-    Place {
-        at: at,
-        top: top + 1,
-        arm: false,
-    }
+    place_at(at, top + 1, false)
 }
 
 fn write_node(
@@ -104,27 +96,32 @@ fn write_node(
             let end = put(out, at, b'T');
             close(pending, top, out, end)
         }
-        Node::Not => {
-            let end = put(out, at, b'~');
-            place_at(end, top, true)
-        }
+        Node::Not => place_at(put(out, at, b'~'), top, true),
         Node::Or => open(arm, pending, top, out, at),
         Node::Ex(condition) => {
-            let end = put_keyword(b'E', b'X', table, condition, out, at);
-            place_at(end, top, true)
+            place_at(
+                put_keyword(b'E', b'X', table, condition, out, at),
+                top,
+                true,
+            )
         }
         Node::Ax(condition) => {
-            let end = put_keyword(b'A', b'X', table, condition, out, at);
-            place_at(end, top, true)
+            place_at(
+                put_keyword(b'A', b'X', table, condition, out, at),
+                top,
+                true,
+            )
         }
         Node::Until(set) => {
             let condition = Condition::Labels(set);
-            let end = put_keyword(b'E', b'U', table, condition, out, at);
-            place_at(end, top, true)
+            place_at(
+                put_keyword(b'E', b'U', table, condition, out, at),
+                top,
+                true,
+            )
         }
         Node::UntilThen(first, second) => {
-            let end = put_until_then(table, first, second, out, at);
-            place_at(end, top, true)
+            place_at(put_until_then(table, first, second, out, at), top, true)
         }
     }
 }

@@ -57,10 +57,12 @@ loop-again c =
     let turn = c .before .before .before .before in
     let l = turn .before .loop in
     let N = tableIn (table turn) .names in
-    let next : turn .before .before .label-count .result - (l .left - 1) ≡ k turn + 1 = omega (arith, turn .loop-test .taken, l .inv .1) in
-    (adds-same (ap (λ n. joined (members (take n N) (start turn .args .set))) next)
-    (joining-more N (start turn .pre .holds .in-range .named) _ _ _ (k turn) (few turn) (name-in (table turn) (k turn) [] (few turn)) (l .inv .0)
-    (c .before .before .put-label .ensures)), omega (arith, l .inv .1))
+    let next : turn .before .before .label-count .result - (l .left - 1) ≡ k turn + 1 = omega (arith, turn .loop-test .taken, l .inv .1) in (
+      adds-same (ap (λ n. joined (members (take n N) (start turn .args .set))) next)
+          (joining-more N (start turn .pre .holds .in-range .named) _ _ _ (k turn) (few turn) (name-in (table turn) (k turn) [] (few turn)) (l .inv .0)
+          (c .before .before .put-label .ensures)),
+      omega (arith, l .inv .1),
+    )
 
 same-length : tie.Need-same-length Inv-loop μ-loop
 same-length c = c .before .loop .inv .0 .long
