@@ -42,6 +42,13 @@ fn place_at(at: usize, top: usize, arm: bool) -> Place
     }
 }
 
+// Behind a keyword with its bracket.
+fn arm_at(at: usize, top: usize) -> Place
+    ensures { λ r. ⌜ (r .at ≡ at) × (r .top ≡ top) × (r .arm ≡ true) ⌝ }
+{
+    place_at(at, top, true)
+}
+
 // Behind T: what is pending, up to the next `|`.
 fn close(pending: &[u8], top: usize, out: &mut [u8], at: usize) -> Place
     requires { ⌜ Stack (now pending) top × Room (now out) at 80 ⌝ }
@@ -98,30 +105,14 @@ fn write_node(
         }
         Node::Not => place_at(put(out, at, b'~'), top, true),
         Node::Or => open(arm, pending, top, out, at),
-        Node::Ex(condition) => {
-            place_at(
-                put_keyword(b'E', b'X', table, condition, out, at),
-                top,
-                true,
-            )
-        }
-        Node::Ax(condition) => {
-            place_at(
-                put_keyword(b'A', b'X', table, condition, out, at),
-                top,
-                true,
-            )
-        }
+        Node::Ex(condition) => arm_at(put_keyword(b'E', b'X', table, condition, out, at), top),
+        Node::Ax(condition) => arm_at(put_keyword(b'A', b'X', table, condition, out, at), top),
         Node::Until(set) => {
             let condition = Condition::Labels(set);
-            place_at(
-                put_keyword(b'E', b'U', table, condition, out, at),
-                top,
-                true,
-            )
+            arm_at(put_keyword(b'E', b'U', table, condition, out, at), top)
         }
         Node::UntilThen(first, second) => {
-            place_at(put_until_then(table, first, second, out, at), top, true)
+            arm_at(put_until_then(table, first, second, out, at), top)
         }
     }
 }

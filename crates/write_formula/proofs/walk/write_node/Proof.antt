@@ -68,28 +68,28 @@ returns-4 c =
     let put = c .before .before .before in
     let told = put .before .before .before in
     let start = told .before .before .before .before .before in
-    alone-walks (N start) _ (arm start) _ _ _ _ _ (told .node .given .1) (alone-ex _ _ _ (condIn (told .node .given .0 .0))) (put .put-keyword .ensures) (c .place-at2 .result) (c .place-at2 .ensures)
+    alone-walks (N start) _ (arm start) _ _ _ _ _ (told .node .given .1) (alone-ex _ _ _ (condIn (told .node .given .0 .0))) (put .put-keyword .ensures) (c .arm-at .result) (c .arm-at .ensures)
 
 returns-5 : tie.Need-returns-5
 returns-5 c =
     let put = c .before .before .before in
     let told = put .before .before .before in
     let start = told .before .before .before .before .before in
-    alone-walks (N start) _ (arm start) _ _ _ _ _ (told .node2 .given .1) (alone-ax _ _ _ (condIn (told .node2 .given .0 .0))) (put .put-keyword2 .ensures) (c .place-at3 .result) (c .place-at3 .ensures)
+    alone-walks (N start) _ (arm start) _ _ _ _ _ (told .node2 .given .1) (alone-ax _ _ _ (condIn (told .node2 .given .0 .0))) (put .put-keyword2 .ensures) (c .arm-at2 .result) (c .arm-at2 .ensures)
 
 returns-6 : tie.Need-returns-6
 returns-6 c =
     let put = c .before .before .before in
     let told = put .before .before .before in
     let start = told .before .before .before .before .before in
-    alone-walks (N start) _ (arm start) _ _ _ _ _ (told .node3 .given .1) (alone-until _ _ _ _) (put .put-keyword3 .ensures) (c .place-at4 .result) (c .place-at4 .ensures)
+    alone-walks (N start) _ (arm start) _ _ _ _ _ (told .node3 .given .1) (alone-until _ _ _ _) (put .put-keyword3 .ensures) (c .arm-at3 .result) (c .arm-at3 .ensures)
 
 returns-7 : tie.Need-returns-7
 returns-7 c =
     let put = c .before .before .before in
     let told = put .before .before .before in
     let start = told .before .before .before .before .before in
-    alone-walks (N start) _ (arm start) _ _ _ _ _ (told .node4 .given .1) (alone-until-then _ _ _ _ _) (put .put-until-then .ensures) (c .place-at5 .result) (c .place-at5 .ensures)
+    alone-walks (N start) _ (arm start) _ _ _ _ _ (told .node4 .given .1) (alone-until-then _ _ _ _ _) (put .put-until-then .ensures) (c .arm-at4 .result) (c .arm-at4 .ensures)
 
 pub write-node-spec : {M : Type 1} → statement M
 write-node-spec =
