@@ -1,12 +1,12 @@
 //! The entries, byte for byte as in the C interface: any explainer's, and the second one's own.
 
-use crate::formula::Formula;
+use crate::formula::{Formula, MAX_BYTES};
 use crate::interface::{interface, slice};
 use crate::listing::Listing;
 use crate::prepared::{self, FORMULA_LENGTH, TABLE_LENGTH};
 use crate::reply::{Refusal, Reply};
 use crate::table::Table;
-use crate::{verdict, word};
+use crate::{verdict, word, writing};
 
 pub const ROW_PLACE: usize = 3;
 pub const EDGE_PLACE: usize = 5;
@@ -47,6 +47,18 @@ pub fn read_formula(table: &[u8], text: &[u8], formula: &mut [u8]) -> Reply {
         .map(|read| {
             formula[..FORMULA_LENGTH].copy_from_slice(&prepared::formula_bytes(&read));
             0
+        });
+    outcome.into()
+}
+
+pub fn write_formula(table: &[u8], formula: &[u8], text: &mut [u8]) -> Reply {
+    let outcome = both_long_enough(table, formula)
+        .and_then(|()| long_enough(text, MAX_BYTES))
+        .and_then(|()| question(table, formula))
+        .and_then(|(table, formula)| short_enough(writing::text(&table, &formula)))
+        .map(|written| {
+            text[..written.len()].copy_from_slice(&written);
+            written.len() as u64
         });
     outcome.into()
 }
@@ -138,6 +150,14 @@ fn write_listing(listing: &Listing, rows: &mut [u8], edges: &mut [u8]) -> Result
         place[3..5].copy_from_slice(&edge.target.to_le_bytes());
     }
     Ok(())
+}
+
+/// Refusal 15.
+pub fn short_enough(text: Vec<u8>) -> Result<Vec<u8>, Refusal> {
+    match text.len() {
+        0..=MAX_BYTES => Ok(text),
+        length => Err(Refusal::TextLength(length)),
+    }
 }
 
 /// Refusals 14 and 10.

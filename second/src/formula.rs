@@ -93,7 +93,8 @@ impl Node {
         arms.into_iter().flatten()
     }
 
-    fn with_arms(self, renamed: impl Fn(usize) -> usize) -> Node {
+    /// With each arm named otherwise.
+    pub fn with_arms(self, renamed: impl Fn(usize) -> usize) -> Node {
         match self {
             Node::True => Node::True,
             Node::Not(arm) => Node::Not(renamed(arm)),

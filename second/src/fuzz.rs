@@ -4,11 +4,12 @@ use std::fmt;
 
 use crate::compare::{self, Case, Lent, disagreement};
 use crate::entries::{EDGE_PLACE, Entries, ROW_PLACE};
+use crate::formula::MAX_BYTES;
 use crate::inputs::kinds::{self, Kinds, Way, way};
 use crate::inputs::lending::{self, LENGTHS, lend};
 use crate::inputs::rng::Rng;
 use crate::inputs::tables::{NAMED, NAMES_OF};
-use crate::inputs::{formula_texts, formulas, questions, table_texts, tables, words};
+use crate::inputs::{formula_texts, formulas, questions, table_texts, tables, words, written};
 use crate::interface::interface;
 use crate::listing::Listing;
 use crate::prepared::{FORMULA_LENGTH, TABLE_LENGTH};
@@ -106,6 +107,11 @@ fn expected(entry: &str) -> (&'static [u32], Vec<Expected>) {
             let all = texts.into_iter().chain(lengths).chain(lent).chain(names()).collect();
             (&[0, 5, 6, 7, 8, 9, 10, 14], all)
         }
+        "write_formula" => {
+            let written = kinds::expected(WRITTEN_BACK, &written::QUESTIONS);
+            let lengths = kinds::expected(WRITTEN, &LENGTHS);
+            (&[0, 10, 14, 15], questions().chain(written).chain(lengths).collect())
+        }
         "verdict" => (&[0, 10, 14], questions().collect()),
         "build" => {
             let rows = kinds::expected(ROWS, &PLACES);
@@ -139,6 +145,7 @@ const TEXT: &str = "text";
 const TABLE_TEXT: &str = "table's text";
 const FORMULA_TEXT: &str = "formula's text";
 const WRITTEN: &str = "written buffer";
+const WRITTEN_BACK: &str = "written back";
 const TABLE_BUFFER: &str = "table's buffer";
 const FORMULA_BUFFER: &str = "formula's buffer";
 const ROWS: &str = "places for rows";
@@ -171,6 +178,19 @@ pub fn read_formula(rng: &mut Rng) -> Input<compare::ReadFormula> {
     let length = kinds.make(rng, WRITTEN, &LENGTHS, &FORMULA_LENGTH);
     let text = kinds.make(rng, TEXT, &formula_texts::TEXTS, &table);
     let case = compare::ReadFormula { table: bytes, text, formula: lent(rng, length) };
+    Input { case, kinds: kinds.0 }
+}
+
+pub fn write_formula(rng: &mut Rng) -> Input<compare::WriteFormula> {
+    let mut kinds = Kinds::default();
+    let question = match rng.one_in(4) {
+        true => questions::of_any_size(rng, &mut kinds, 100, 100),
+        false => kinds.make(rng, WRITTEN_BACK, &written::QUESTIONS, &()),
+    };
+    let table = lend(rng, &mut kinds, &lending::TABLE, &question.table);
+    let formula = lend(rng, &mut kinds, &lending::FORMULA, &question);
+    let length = kinds.make(rng, WRITTEN, &LENGTHS, &MAX_BYTES);
+    let case = compare::WriteFormula { table, formula, text: lent(rng, length) };
     Input { case, kinds: kinds.0 }
 }
 

@@ -12,6 +12,8 @@ macro_rules! interface {
             ReadTable read_table explainer_read_table(text: read, table: written) [];
             ReadFormula read_formula explainer_read_formula(
                 table: read, text: read, formula: written) [];
+            WriteFormula write_formula explainer_write_formula(
+                table: read, formula: read, text: written) [];
             Verdict verdict explainer_verdict(table: read, formula: read) [];
             Build build explainer_build(
                 table: read, formula: read, rows: written, edges: written) [edge_count];

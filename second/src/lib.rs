@@ -11,6 +11,7 @@ pub mod table;
 pub mod grammar;
 pub mod expansion;
 pub mod formula;
+pub mod writing;
 pub mod prepared;
 
 pub mod verdict;
@@ -34,6 +35,7 @@ pub mod corpus;
 
 pub mod compare;
 pub mod fuzz;
+pub mod read_back;
 pub mod trials;
 pub mod program;
 pub mod script;

@@ -12,7 +12,7 @@ use second::entries::SECOND;
 use second::reply::Reply;
 use second::tally::{self, Tally};
 use second::views::View;
-use second::{bench, digests, fuzz, link, print, program, script, views};
+use second::{bench, digests, fuzz, link, print, program, read_back, script, views};
 
 const USAGE: &str = "second explain FOLDER
 second dot FOLDER
@@ -159,18 +159,27 @@ fn fuzz(seed: u64, count: u64) -> ExitCode {
         tallies.push(tally);
         begin = Instant::now();
     });
+    let outcome = outcome.and_then(|()| read_back::run(&link::library(), seed, count));
     match outcome {
         Err(told) => {
             println!("{told}");
             ExitCode::FAILURE
         }
-        Ok(()) if tallies.is_empty() => {
+        Ok(None) => {
             eprintln!(
                 "second: the library is not linked (--all-features), so nothing was compared"
             );
             ExitCode::from(2)
         }
-        Ok(()) => all_occurred(&tallies, count >= fuzz::ENOUGH, fuzz::missing),
+        Ok(Some(tally)) => {
+            let (name, seconds) = (tally.of, begin.elapsed().as_secs_f64());
+            println!("{name}: {count} formulas are what was written, {seconds:.1} s");
+            tallies.push(tally);
+            all_occurred(&tallies, count >= fuzz::ENOUGH, |tally| match tally.of {
+                read_back::NAME => read_back::missing(tally),
+                _ => fuzz::missing(tally),
+            })
+        }
     }
 }
 

@@ -32,6 +32,8 @@ pub enum Refusal {
     Word(usize),
     /// A lent buffer, by the length that it must have.
     ShortBuffer(usize),
+    /// A formula written back, by its length.
+    TextLength(usize),
 }
 
 impl From<Refusal> for Reply {
@@ -52,6 +54,7 @@ impl From<Refusal> for Reply {
             Refusal::EdgePlaces(needed) => (12, needed),
             Refusal::Word(index) => (13, index),
             Refusal::ShortBuffer(needed) => (14, needed),
+            Refusal::TextLength(length) => (15, length),
         };
         Reply { number, figure: figure as u64 }
     }

@@ -21,6 +21,7 @@ fn random_calls_agree_and_reach_every_refusal() {
     let expected: BTreeMap<&str, BTreeSet<u32>> = BTreeMap::from([
         ("read_table", [0, 1, 2, 3, 4, 14].into()),
         ("read_formula", [0, 5, 6, 7, 8, 9, 10, 14].into()),
+        ("write_formula", [0, 10, 14, 15].into()),
         ("verdict", [0, 10, 14].into()),
         ("build", [0, 10, 11, 12, 14].into()),
         ("accepts", [0, 10, 13, 14].into()),

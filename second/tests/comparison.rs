@@ -30,7 +30,7 @@ fn a_number_or_a_kind_of_input_that_dries_up_is_told() {
     let mut tallies = Vec::new();
     let outcome = fuzz::run(&SECOND, &SECOND, 31, 2_000, |tally| tallies.push(tally));
     assert_eq!(outcome, Ok(()));
-    let accepts = &mut tallies[4];
+    let accepts = tallies.iter_mut().find(|tally| tally.of == "accepts").expect("words");
     let told = |tally: &Tally| fuzz::missing(tally).join("\n");
     let before = told(accepts);
     accepts.outcomes.retain(|outcome, _| outcome.number != 13);

@@ -8,6 +8,7 @@ mod labelling;
 mod automaton;
 mod read_table;
 mod read_formula;
+mod write_formula;
 mod explain;
 
 pub use automaton::{accepts, build};
@@ -15,12 +16,14 @@ pub use explain::explain;
 pub use labelling::verdict;
 pub use read_formula::read_formula;
 pub use read_table::read_table;
+pub use write_formula::write_formula;
 
 use crate::entries::Entries;
 
 pub const BASELINE: Entries = Entries {
     read_table: Some(read_table),
     read_formula: Some(read_formula),
+    write_formula: Some(write_formula),
     verdict: Some(verdict),
     build: Some(build),
     accepts: Some(accepts),

@@ -10,6 +10,7 @@ pub mod short;
 pub mod table_texts;
 pub mod formula_texts;
 pub mod questions;
+pub mod written;
 pub mod lending;
 pub mod words;
 pub mod edits;
