@@ -8,36 +8,45 @@ use std::path::PathBuf;
 
 use common::loops::with_loops;
 use second::digests::answers::Explainer;
-use second::digests::{self, BASE, Corpus, IDLE, MARKS, SHORT, difference};
+use second::digests::{self, BASE, Corpus, IDLE, MARKS, SHORT, WRITTEN, difference};
 use second::entries::{self, Entries, SECOND};
 use second::prepared;
 use second::reply::Reply;
 use second::table::SILENT;
 
 /// Each corpus and its stored lines.
-fn stored() -> [(Corpus, Vec<&'static str>); 4] {
+fn stored() -> [(Corpus, Vec<&'static str>); 5] {
     let lines = |file: &'static str| file.lines().filter(|line| !line.starts_with('#')).collect();
     let base = lines(include_str!("../corpus/base.txt"));
     let marks = lines(include_str!("../corpus/marks.txt"));
     let short = lines(include_str!("../corpus/short.txt"));
     let idle = lines(include_str!("../corpus/idle.txt"));
-    [(BASE, base), (MARKS, marks), (SHORT, short), (IDLE, idle)]
+    let written = lines(include_str!("../corpus/written.txt"));
+    [(BASE, base), (MARKS, marks), (SHORT, short), (IDLE, idle), (WRITTEN, written)]
 }
 
 fn explainer(entries: Entries) -> Explainer {
     Explainer { entries, program: PathBuf::new(), place: PathBuf::new() }
 }
 
-/// The inputs of a kind of the corpus `base` to which two explainers' digests differ.
+/// One line for each input of a kind.
+fn each(entries: Entries, corpus: &Corpus, entry: &str, name: &str) -> Vec<String> {
+    let mut lines = Vec::new();
+    let kind = corpus.kind(entry, name).expect("a kind");
+    digests::each(&explainer(entries), &kind, |line| lines.push(line)).expect("all entries");
+    lines
+}
+
+/// The inputs of a kind to which two explainers' digests differ.
+fn differing_in(corpus: &Corpus, entries: Entries, entry: &str, name: &str) -> usize {
+    let [right, other] = [SECOND, entries].map(|entries| each(entries, corpus, entry, name));
+    let digest = |line: &str| line[line.len() - 64..].to_owned();
+    right.iter().zip(&other).filter(|(right, other)| digest(right) != digest(other)).count()
+}
+
+/// In the corpus `base`.
 fn differing(entries: Entries, entry: &str, name: &str) -> usize {
-    let each = |entries| {
-        let mut lines = Vec::new();
-        let told = |line: String| lines.push(line[line.len() - 64..].to_owned());
-        let kind = BASE.kind(entry, name).expect("a kind");
-        digests::each(&explainer(entries), &kind, told).expect("all entries");
-        lines
-    };
-    each(SECOND).iter().zip(each(entries)).filter(|(one, other)| *one != other).count()
+    differing_in(&BASE, entries, entry, name)
 }
 
 #[test]
@@ -72,7 +81,7 @@ fn every_kind_has_a_stored_line_and_no_line_is_without_a_kind() {
 
 #[test]
 fn every_refusal_of_every_entry_is_among_the_answers() {
-    let [(_, base), (_, marks), (_, short), (_, idle)] = stored();
+    let [(_, base), (_, marks), (_, short), (_, idle), (_, written)] = stored();
     all_are_among(
         &base,
         &[
@@ -100,6 +109,7 @@ fn every_refusal_of_every_entry_is_among_the_answers() {
         &[("read_formula", &[0, 5, 6, 7, 8, 9]), ("texts", &[0]), ("program", &[0, 5, 6, 7, 8, 9])],
     );
     all_are_among(&idle, &[("accepts", &[0, 13]), ("texts", &[0, 2])]);
+    all_are_among(&written, &[("write_formula", &[0, 10, 14, 15]), ("read_back", &[0, 6, 7, 15])]);
 }
 
 fn all_are_among(lines: &[&str], expected: &[(&str, &[u32])]) {
@@ -128,6 +138,33 @@ fn a_byte_written_on_a_refusal_changes_its_inputs() {
     let wrong = Entries { read_table: Some(read_table), ..SECOND };
     assert!(differing(wrong, "read_table", "buffer-short") > 300);
     assert_eq!(differing(wrong, "read_table", "not-above"), 0);
+}
+
+#[test]
+fn a_text_of_a_length_has_it() {
+    for (name, number, length) in
+        [("511-bytes", 0, 511), ("512-bytes", 0, 512), ("513-bytes", 15, 513)]
+    {
+        for line in each(SECOND, &WRITTEN, "write_formula", name) {
+            let words: Vec<&str> = line.split_whitespace().collect();
+            assert_eq!(words[1..3], [number, length].map(|word: u64| word.to_string()), "{name}");
+        }
+    }
+}
+
+#[test]
+fn a_byte_behind_a_text_changes_its_inputs() {
+    let write_formula: entries::WriteFormula = |table, formula, text| {
+        let reply = entries::write_formula(table, formula, text);
+        if let (0, Some(byte)) = (reply.number, text.get_mut(reply.figure as usize)) {
+            *byte = 0;
+        }
+        reply
+    };
+    let wrong = Entries { write_formula: Some(write_formula), ..SECOND };
+    assert!(differing_in(&WRITTEN, wrong, "write_formula", "class-1") > 700);
+    assert!(differing_in(&WRITTEN, wrong, "write_formula", "511-bytes") > 90);
+    assert_eq!(differing_in(&WRITTEN, wrong, "write_formula", "512-bytes"), 0);
 }
 
 #[test]
@@ -176,6 +213,9 @@ fn a_layout_of_prepared_bytes_is_no_part_of_what_texts_show() {
         read_formula: Some(|table, text, formula| {
             kept(entries::read_formula(&turned(table), text, formula), formula)
         }),
+        write_formula: Some(|table, formula, text| {
+            entries::write_formula(&turned(table), &turned(formula), text)
+        }),
         verdict: Some(|table, formula| entries::verdict(&turned(table), &turned(formula))),
         build: Some(|table, formula, rows, edges, count| {
             entries::build(&turned(table), &turned(formula), rows, edges, count)
@@ -186,6 +226,7 @@ fn a_layout_of_prepared_bytes_is_no_part_of_what_texts_show() {
         ..Entries::default()
     };
     assert_eq!(differing(other, "texts", "small-some-without-class-2"), 0);
+    assert_eq!(differing_in(&WRITTEN, other, "read_back", "short-forms"), 0);
 }
 
 #[test]

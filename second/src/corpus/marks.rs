@@ -213,7 +213,7 @@ fn byte(rng: &Rng) -> u8 {
 }
 
 /// A small table, each of whose names has a mark or none.
-fn small(rng: &Rng, exits: Exits) -> Table {
+pub fn small(rng: &Rng, exits: Exits) -> Table {
     let mut table = Table::small(rng, exits);
     for name in &mut table.names {
         name.extend(rng.pick(&[None, Some(b'?'), Some(b'!')]));
@@ -222,7 +222,7 @@ fn small(rng: &Rng, exits: Exits) -> Table {
 }
 
 /// One or two stems, each with either mark and without one, in any order.
-fn threes(rng: &Rng, exits: Exits) -> Table {
+pub fn threes(rng: &Rng, exits: Exits) -> Table {
     let stems = rng.between(1, 2);
     let mut table = Table::drawn(rng, exits, rng.between(1, 6), 3 * stems, rng.below(13));
     let turn = rng.below(3 * stems);
@@ -245,7 +245,7 @@ fn longest_names(rng: &Rng, mut table: Table) -> Table {
     table
 }
 
-fn largest(rng: &Rng, exits: Exits) -> Table {
+pub fn largest(rng: &Rng, exits: Exits) -> Table {
     longest_names(rng, Table::largest(rng, exits))
 }
 
@@ -287,7 +287,7 @@ fn named(rng: &Rng, table: &Table, class: u8) -> Vec<u8> {
 }
 
 /// A formula's text in which names and `*` have given way to operands of a direction.
-fn directed(rng: &Rng, table: &Table, class: u8) -> Vec<u8> {
+pub fn directed(rng: &Rng, table: &Table, class: u8) -> Vec<u8> {
     written(rng, table, class, |rng, tokens| {
         let turned = |token: Vec<u8>| -> Tokens {
             let is_operand = token[0].is_ascii_lowercase() || token == b"*";

@@ -1,6 +1,6 @@
 //! The corpus `base`, whose answers `corpus/base.txt` holds. This generator is left alone and uses
 //! nothing else of the crate, so that its inputs stay what they are, byte for byte; new kinds of
-//! input get a new corpus beside it, as in `marks`, `short` and `idle`.
+//! input get a new corpus beside it, as in `marks`, `short`, `idle` and `written`.
 
 mod calls;
 mod damage;
@@ -14,6 +14,7 @@ mod read_table;
 mod rng;
 pub mod short;
 mod tables;
+pub mod written;
 
 pub use folders::File;
 use questions::Question;
@@ -49,6 +50,17 @@ pub enum Input {
         table: Vec<u8>,
         text: Vec<u8>,
         formula: Lent,
+    },
+    WriteFormula {
+        table: Vec<u8>,
+        formula: Vec<u8>,
+        text: Lent,
+    },
+    /// A line over a table's text, read, written back and read again.
+    ReadBack {
+        table: Vec<u8>,
+        line: Vec<u8>,
+        text: Lent,
     },
     Verdict {
         table: Vec<u8>,
@@ -204,5 +216,6 @@ mod tests {
         no_two_have_one_name(marks::kinds());
         no_two_have_one_name(short::kinds());
         no_two_have_one_name(idle::kinds());
+        no_two_have_one_name(written::kinds());
     }
 }

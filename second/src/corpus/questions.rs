@@ -117,7 +117,7 @@ impl Question {
         Question { table, formula, table_bytes, formula_bytes }
     }
 
-    fn resized(
+    pub fn resized(
         self,
         rng: &Rng,
         table_length: fn(&Rng, usize) -> usize,

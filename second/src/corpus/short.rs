@@ -322,7 +322,7 @@ fn tokens(rng: &Rng, table: &Table, class: u8, nodes: usize) -> Tokens {
 }
 
 /// Mostly of a few nodes, in 512 bytes.
-fn few(rng: &Rng, table: &Table, class: u8, blanks: usize) -> Vec<u8> {
+pub fn few(rng: &Rng, table: &Table, class: u8, blanks: usize) -> Vec<u8> {
     loop {
         let nodes = if rng.one_in(16) { rng.between(20, 40) } else { rng.between(2, 20) };
         let text = spaced(rng, &tokens(rng, table, class, nodes), blanks);

@@ -116,6 +116,14 @@ fn call(entries: &Entries, input: &Input, shown: &mut Shown) -> Option<Reply> {
             shown.buffers(&[&table, &text, &formula]);
             reply
         }
+        Input::WriteFormula { table, formula, text } => {
+            let (table, formula, mut text) = (table.clone(), formula.clone(), text.buffer());
+            let reply = entries.write_formula?(&table, &formula, inside(&mut text));
+            shown.reply("write_formula", reply);
+            shown.buffers(&[&table, &formula, &text]);
+            reply
+        }
+        Input::ReadBack { table, line, text } => read_back(entries, table, line, text, shown)?,
         Input::Verdict { table, formula } => {
             let (table, formula) = (table.clone(), formula.clone());
             let reply = entries.verdict?(&table, &formula);
@@ -157,6 +165,38 @@ fn build(
     shown.reply("build", reply);
     shown.0.part(&edge_count.to_le_bytes());
     shown.buffers(&[&rows, &edges]);
+    Some(reply)
+}
+
+/// Both readings, writing and reading again. The reply is that of a refused reading, else that of
+/// writing. Whether what is prepared is the same again is shown, and not what it is.
+fn read_back(
+    entries: &Entries,
+    table_text: &[u8],
+    line: &[u8],
+    text: &Lent,
+    shown: &mut Shown,
+) -> Option<Reply> {
+    let (mut table, mut formula) = (vec![0xa5; PREPARED], vec![0x5a; PREPARED]);
+    let mut reply = entries.read_table?(table_text, &mut table);
+    shown.reply("read_table", reply);
+    if reply.number == 0 {
+        reply = entries.read_formula?(&table, line, &mut formula);
+        shown.reply("read_formula", reply);
+    }
+    if reply.number == 0 {
+        let mut text = text.buffer();
+        reply = entries.write_formula?(&table, &formula, inside(&mut text));
+        shown.reply("write_formula", reply);
+        shown.buffers(&[&text]);
+        if reply.number == 0 {
+            let mut again = vec![0x5a; PREPARED];
+            let written = &inside(&mut text)[..reply.figure as usize];
+            shown.reply("read_formula", entries.read_formula?(&table, written, &mut again));
+            let kept = again == formula;
+            shown.0.part(&[kept.into()]);
+        }
+    }
     Some(reply)
 }
 

@@ -26,6 +26,14 @@ impl Inputs {
                 self.bytes(&[table, text]);
                 self.lent(&[formula]);
             }
+            Input::WriteFormula { table, formula, text } => {
+                self.bytes(&[table, formula]);
+                self.lent(&[text]);
+            }
+            Input::ReadBack { table, line, text } => {
+                self.bytes(&[table, line]);
+                self.lent(&[text]);
+            }
             Input::Verdict { table, formula } => self.bytes(&[table, formula]),
             Input::Build { table, formula, rows, edges } => {
                 self.bytes(&[table, formula]);

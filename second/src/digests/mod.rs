@@ -44,7 +44,13 @@ pub const IDLE: Corpus = Corpus {
     kinds: || corpus::idle::kinds().collect(),
 };
 
-pub const CORPORA: [Corpus; 4] = [BASE, MARKS, SHORT, IDLE];
+pub const WRITTEN: Corpus = Corpus {
+    name: "written",
+    generator: "second/src/corpus/written.rs",
+    kinds: || corpus::written::kinds().collect(),
+};
+
+pub const CORPORA: [Corpus; 5] = [BASE, MARKS, SHORT, IDLE, WRITTEN];
 
 impl Corpus {
     pub fn kinds(&self) -> Vec<Kind> {
