@@ -19,7 +19,8 @@
 #include <stdint.h>
 
 /* The lengths, in bytes, of a prepared table and a prepared formula, and of a place for a row and for an edge. A prepared buffer under its
-   length is refused (14); past its length it is neither read nor written. n bytes lent for rows or edges are n / 3 or n / 5 places. */
+   length is refused (14); past its length it is neither read nor written. n bytes lent for rows or edges are n / 3 or n / 5 places. What is
+   lent for the text of a formula has EXPLAINER_LONGEST_FORMULA_TEXT bytes or more; with fewer it is refused (14). */
 #define EXPLAINER_TABLE_LENGTH 3718
 #define EXPLAINER_FORMULA_LENGTH 681
 #define EXPLAINER_ROW_LENGTH 3
@@ -60,10 +61,12 @@
 #define EXPLAINER_EDGES_SHORT 12            /* the edges that are needed */
 #define EXPLAINER_WORD_BAD 13               /* the index of the first such label below 1,024, else 1,024 */
 #define EXPLAINER_BUFFER_SHORT 14           /* the length that is needed */
+#define EXPLAINER_TEXT_TOO_LONG 15          /* the length of the text */
 
 /* The stack that each call takes at most, in bytes: measured on the inputs that take most, rounded up to a multiple of 16,384. */
 #define EXPLAINER_READ_TABLE_STACK 16384
 #define EXPLAINER_READ_FORMULA_STACK 196608
+#define EXPLAINER_WRITE_FORMULA_STACK 16384
 #define EXPLAINER_VERDICT_STACK 32768
 #define EXPLAINER_BUILD_STACK 98304
 #define EXPLAINER_ACCEPTS_STACK 49152
@@ -79,6 +82,12 @@ uint32_t explainer_read_table(const uint8_t *text, size_t text_len, uint8_t *tab
 /* Reads a formula's text, over a prepared table, into a prepared formula. Accepted: *figure is 0. Refused: 5 to 10, 14. */
 uint32_t explainer_read_formula(const uint8_t *table, size_t table_len, const uint8_t *text, size_t text_len,
                                 uint8_t *formula, size_t formula_len, uint64_t *figure);
+
+/* Writes a prepared formula, over its prepared table, as text in the base notation: short forms written out, labels by name, no more round
+   brackets than are needed. Accepted: *figure is the length of the text, which stands in the first bytes lent for it; the others stay.
+   Refused: 10, 14, 15. */
+uint32_t explainer_write_formula(const uint8_t *table, size_t table_len, const uint8_t *formula, size_t formula_len,
+                                 uint8_t *text, size_t text_len, uint64_t *figure);
 
 /* Whether a prepared formula holds at the start of a prepared table. Accepted: *figure is 1 if it holds, else 0. Refused: 10, 14. */
 uint32_t explainer_verdict(const uint8_t *table, size_t table_len, const uint8_t *formula, size_t formula_len, uint64_t *figure);
@@ -119,7 +128,8 @@ static inline const char *explainer_refusal(uint32_t number)
     case EXPLAINER_ROWS_SHORT: return "there are more rows than lent places";
     case EXPLAINER_EDGES_SHORT: return "there are more edges than lent places";
     case EXPLAINER_WORD_BAD: return "a label of the word is above the label count and not 99, or the word is over 1,024";
-    case EXPLAINER_BUFFER_SHORT: return "a prepared buffer is under its length";
+    case EXPLAINER_BUFFER_SHORT: return "a prepared buffer, or the one for a text, is under its length";
+    case EXPLAINER_TEXT_TOO_LONG: return "the formula's text is over 512 bytes, and not written";
     default: return NULL;
     }
 }
