@@ -10,11 +10,11 @@ use crate::formula::{Formula, MAX_BYTES, MAX_NODES};
 use crate::inputs::kinds::Kinds;
 use crate::inputs::questions::{Question, longest_listing};
 use crate::inputs::rng::Rng;
-use crate::inputs::tables;
+use crate::inputs::{tables, written};
 use crate::listing::Listing;
 use crate::prepared::{self, FORMULA_LENGTH, TABLE_LENGTH};
 use crate::reply::Reply;
-use crate::table::{MAX_LABELS, Table};
+use crate::table::{MAX_LABELS, MAX_STATES, MAX_TRANSITIONS, Table};
 use crate::word::MAX_WORD;
 
 /// The two explainers are timed in turn, so often; the shortest time of each counts.
@@ -143,6 +143,39 @@ fn read(size: &'static str, table: Table, text: &[u8]) -> Input {
     Input::new(size, text.to_vec(), &Question { table, formula })
 }
 
+/// What has many names, for writing a formula back.
+fn many_names() -> [Input; 2] {
+    [names(), longest()]
+}
+
+/// 512 bytes, most of them names, over a largest table.
+fn names() -> Input {
+    let rng = &mut Rng::new(3);
+    let Question { table: Table { names, .. }, formula } = written::of_length(rng, MAX_BYTES);
+    let kinds = &mut Kinds::default();
+    let table = tables::with_counts(rng, kinds, MAX_STATES, names.len(), MAX_TRANSITIONS);
+    to_write("names", &Question { table: Table { names, ..table }, formula })
+}
+
+/// Over 40,000 bytes, the most there can be; refused.
+fn longest() -> Input {
+    let question = written::longest(&mut Rng::new(3));
+    Input { number: 15, ..to_write("longest", &question) }
+}
+
+/// Without what only the other entries take.
+fn to_write(size: &'static str, question: &Question) -> Input {
+    Input {
+        size,
+        table_text: Vec::new(),
+        formula_text: Vec::new(),
+        table: prepared::table_bytes(&question.table),
+        formula: prepared::formula_bytes(&question.formula),
+        word: Vec::new(),
+        number: 0,
+    }
+}
+
 /// The longest listing; its formula's text, with long names, is another of 40 nodes and 512 bytes.
 fn largest() -> Input {
     let mut question = longest_listing(&mut Rng::new(3));
@@ -181,15 +214,17 @@ fn word_along(listing: &Listing) -> Vec<u8> {
 struct Buffers {
     table: Vec<u8>,
     formula: Vec<u8>,
+    text: Vec<u8>,
     rows: Vec<u8>,
     edges: Vec<u8>,
 }
 
 type Call = fn(&Entries, &Input, &mut Buffers) -> Option<Reply>;
 
-const CALLS: [(&str, Call); 7] = [
+const CALLS: [(&str, Call); 8] = [
     ("read_table", read_table),
     ("read_formula", read_formula),
+    ("write_formula", write_formula),
     ("verdict", verdict),
     ("build", build),
     ("accepts", accepts),
@@ -203,6 +238,10 @@ fn read_table(of: &Entries, input: &Input, lent: &mut Buffers) -> Option<Reply> 
 
 fn read_formula(of: &Entries, input: &Input, lent: &mut Buffers) -> Option<Reply> {
     Some(of.read_formula?(&input.table, &input.formula_text, &mut lent.formula))
+}
+
+fn write_formula(of: &Entries, input: &Input, lent: &mut Buffers) -> Option<Reply> {
+    Some(of.write_formula?(&input.table, &input.formula, &mut lent.text))
 }
 
 fn verdict(of: &Entries, input: &Input, _: &mut Buffers) -> Option<Reply> {
@@ -253,16 +292,19 @@ pub fn run(library: &Entries, part: &str, out: &mut impl Write) -> io::Result<()
     let mut lent = Buffers {
         table: vec![0; TABLE_LENGTH],
         formula: vec![0; FORMULA_LENGTH],
+        text: vec![0; MAX_BYTES],
         rows: vec![0; 10_496 * ROW_PLACE],
         edges: vec![0; 1_000_000 * EDGE_PLACE],
     };
     let head = ["entry", "input", "library", "baseline", "ratio"];
-    writeln!(out, "{:12} {:8} {:>12} {:>12} {:>7}", head[0], head[1], head[2], head[3], head[4])?;
+    writeln!(out, "{:13} {:8} {:>12} {:>12} {:>7}", head[0], head[1], head[2], head[3], head[4])?;
     let (inputs, directed, short_forms) = (inputs(), directed(), short_forms());
+    let many_names = many_names();
     for (entry, call) in CALLS.into_iter().filter(|(entry, _)| entry.contains(part)) {
         let directed = directed.iter().filter(|_| entry.starts_with("read_"));
         let short_forms = short_forms.iter().filter(|_| entry == "read_formula");
-        for input in inputs.iter().chain(directed).chain(short_forms) {
+        let many_names = many_names.iter().filter(|_| entry == "write_formula");
+        for input in inputs.iter().chain(directed).chain(short_forms).chain(many_names) {
             let [library, baseline] = time(call, [library, &BASELINE], input, &mut lent);
             let baseline = baseline.expect("the baseline has all entries");
             let (time, ratio) = match library {
@@ -270,7 +312,7 @@ pub fn run(library: &Entries, part: &str, out: &mut impl Write) -> io::Result<()
                 None => ("-".into(), "-".into()),
             };
             let (size, baseline) = (input.size, in_microseconds(baseline));
-            writeln!(out, "{entry:12} {size:8} {time:>12} {baseline:>12} {ratio:>7}")?;
+            writeln!(out, "{entry:13} {size:8} {time:>12} {baseline:>12} {ratio:>7}")?;
         }
     }
     Ok(())

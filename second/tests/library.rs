@@ -4,9 +4,9 @@
 #[allow(unused_imports)]
 use second::compare::*;
 use second::entries::SECOND;
-use second::fuzz;
 use second::interface::INTERFACE;
 use second::link::library;
+use second::{fuzz, read_back};
 
 #[test]
 #[cfg_attr(not(feature = "library"), ignore = "the library is linked by --all-features")]
@@ -14,6 +14,15 @@ fn random_calls_of_every_entry_of_the_library_agree() {
     let mut compared = 0;
     assert_eq!(fuzz::run(&SECOND, &library(), 41, 2_000, |_| compared += 1), Ok(()));
     assert_eq!(compared, INTERFACE.len());
+}
+
+#[test]
+#[cfg_attr(not(feature = "library"), ignore = "the library is linked by --all-features")]
+fn what_the_library_writes_it_reads_as_the_same_formula() {
+    let outcome = read_back::run(&library(), 41, 3_000);
+    let tally = outcome.expect("the same formulas").expect("the library is linked");
+    let numbers: Vec<u32> = tally.numbers().into_keys().collect();
+    assert_eq!(numbers, [0, 5, 6, 7, 8, 9, 15]);
 }
 
 /// For a disagreement's test.

@@ -6,7 +6,9 @@ mod common;
 use std::process::{Command, ExitStatus};
 
 use common::header::defines;
-use second::compare::{Accepts, Build, Case, Explain, Lent, ReadFormula, ReadTable, Verdict};
+use second::compare::{
+    Accepts, Build, Case, Explain, Lent, ReadFormula, ReadTable, Verdict, WriteFormula,
+};
 use second::entries::{EDGE_PLACE, ROW_PLACE};
 use second::formula::{Formula, MAX_BYTES};
 use second::fuzz;
@@ -14,6 +16,7 @@ use second::inputs::questions::Question;
 use second::inputs::questions::longest_listing;
 use second::inputs::rng::Rng;
 use second::inputs::tables::longest_table;
+use second::inputs::written;
 use second::interface::INTERFACE;
 use second::link::library;
 use second::link::stack::{PAGE, Stack};
@@ -91,6 +94,33 @@ fn large_questions() -> Vec<Question> {
     questions
 }
 
+/// Forty nodes, `|` within each other at either side and below others; texts at the limit and the
+/// longest.
+fn questions_to_write() -> Vec<Question> {
+    let nested = |unit: &str, times: usize| {
+        let open = unit.matches('(').count() - unit.matches(')').count();
+        [unit.repeat(times), "T".into(), ")".repeat(times * open)].concat()
+    };
+    let texts = [
+        ["T"; 20].join("|"),
+        nested("T|(", 19),
+        nested("EX[.](T|", 13),
+        nested("EU[*](T|", 13),
+        nested("~~(T|", 9),
+        nested("EX[.]((T|T)|", 7),
+    ];
+    let read = |text: String| {
+        let table = longest_table(&mut Rng::new(4));
+        let formula = Formula::read(&table, text.as_bytes()).expect("a formula");
+        Question { table, formula }
+    };
+    let lengths =
+        [MAX_BYTES, MAX_BYTES + 1].map(|length| written::of_length(&mut Rng::new(5), length));
+    let longest = written::longest(&mut Rng::new(6));
+    let questions = texts.into_iter().map(read).chain(lengths).chain([longest]);
+    questions.chain(large_questions()).collect()
+}
+
 fn prepared_bytes(question: &Question) -> (Vec<u8>, Vec<u8>) {
     (prepared::table_bytes(&question.table), prepared::formula_bytes(&question.formula))
 }
@@ -125,6 +155,15 @@ fn calls(entry: &str) -> Vec<Call> {
                 texts.map(|text| call(ReadFormula { table: table.clone(), text, formula })),
             );
             calls.extend(random(2).map(|mut rng| call(fuzz::read_formula(&mut rng).case)));
+        }
+        "write_formula" => {
+            let text = lent(MAX_BYTES);
+            let questions = questions_to_write();
+            let questions = questions.iter().map(prepared_bytes);
+            calls.extend(
+                questions.map(|(table, formula)| call(WriteFormula { table, formula, text })),
+            );
+            calls.extend(random(7).map(|mut rng| call(fuzz::write_formula(&mut rng).case)));
         }
         "verdict" => {
             calls.extend(large.map(|(table, formula)| call(Verdict { table, formula })));
