@@ -18,6 +18,7 @@ const USAGE: &str = "second explain FOLDER
 second dot FOLDER
 second aut FOLDER
 second words NUMBER FOLDER
+second formula FOLDER
 second program FILE --seed NUMBER --count NUMBER
 second views SCRIPT --seed NUMBER --count NUMBER
 second fuzz --seed NUMBER --count NUMBER
@@ -40,6 +41,7 @@ fn main() -> ExitCode {
             Ok(count) => view(View::Words(count as usize), folder),
             Err(_) => usage(),
         },
+        ["formula", folder] => view(View::Formula, folder),
         ["program", file, ref inputs @ ..] => {
             seeded(inputs, |seed, count| in_folders(&PROGRAM, file, seed, count))
         }
@@ -96,7 +98,11 @@ fn view(view: View, folder: &str) -> ExitCode {
     match views::text(view, &table, &formula) {
         Ok(text) => wrote(io::stdout().write_all(text.as_bytes())),
         Err(refusal) => {
-            let Reply { number, figure } = refusal.into();
+            let reply = refusal.into();
+            if view == View::Formula && io::stdout().write_all(&print::refusal(reply)).is_err() {
+                return ExitCode::FAILURE;
+            }
+            let Reply { number, figure } = reply;
             eprintln!("second: refused by {number}, figure {figure}");
             ExitCode::FAILURE
         }

@@ -1,5 +1,5 @@
-//! The script `explain`, run on random folders: its listing and its views are the second explainer's
-//! texts, and a refusal is told in the same words whatever was asked for.
+//! The script `explain`, run on random folders: its listing, its views and the formula that it writes
+//! back are the second explainer's texts, and a refusal is told in the same words whatever was asked for.
 
 use std::io;
 use std::path::Path;
@@ -7,7 +7,7 @@ use std::process::{Command, Output, Stdio};
 
 use crate::inputs::folders::{Files, NUMBERS};
 use crate::inputs::kinds::{self, must};
-use crate::inputs::views::{WAYS, folder, word_count};
+use crate::inputs::views::{LONGER, WAYS, folder, word_count};
 use crate::print;
 use crate::reply::Reply;
 use crate::tally::{Expected, Kind, Outcome, Tally};
@@ -38,8 +38,19 @@ const fn words(name: &'static str, is_in: fn(&str) -> bool) -> Sign {
     Sign { view: "--words", name, is_in }
 }
 
+const fn formula(name: &'static str, is_in: fn(&str) -> bool) -> Sign {
+    Sign { view: FORMULA, name, is_in }
+}
+
+const FORMULA: &str = "--formula";
+
+/// A folder with a listing whose formula is refused when it is written back.
+const TOO_LONG: &str = "too long";
+/// A folder with too many rows or edges whose formula is written back.
+const NOT_BUILT: &str = "written of a folder without a listing";
+
 /// Each of these must be in some text of its view.
-const SIGNS: [Sign; 20] = [
+const SIGNS: [Sign; 25] = [
     dot("all witnesses", |text| text.contains("\"holds: all witnesses\"")),
     dot("all counterexamples", |text| text.contains("\"does not hold: all counterexamples\"")),
     dot("no witness", |text| text.contains("\"does not hold: no word is a witness\"")),
@@ -64,7 +75,17 @@ const SIGNS: [Sign; 20] = [
         let lengths: Vec<usize> = words.map(|word| word.split(' ').count()).collect();
         lengths.windows(2).any(|pair| pair[0] == pair[1])
     }),
+    formula("round brackets", |text| text.contains('(')),
+    formula("all labels", |text| text.contains("[*")),
+    formula("no labels", |text| text.contains("~*")),
+    formula("several names", |text| sets(text).any(|set| set.contains('|'))),
+    formula("marked names", |text| sets(text).any(|set| set.contains(['?', '!']))),
 ];
+
+/// What stands in square brackets.
+fn sets(text: &str) -> impl Iterator<Item = &str> {
+    text.split('[').skip(1).filter_map(|rest| rest.split(']').next())
+}
 
 /// How many edges each line of an edge has.
 fn joined(text: &str) -> impl Iterator<Item = usize> {
@@ -75,7 +96,9 @@ fn joined(text: &str) -> impl Iterator<Item = usize> {
 /// What should have occurred among enough folders and did not.
 pub fn missing(tally: &Tally) -> Vec<String> {
     let signs = SIGNS.iter().map(|sign| must(sign.view, sign.name, &[0]));
-    let expected: Vec<Expected> = kinds::expected(PART, &WAYS).into_iter().chain(signs).collect();
+    let written = [must(FORMULA, TOO_LONG, &[0]), must(FORMULA, NOT_BUILT, &[11, 12])];
+    let ways = kinds::expected(PART, &WAYS).into_iter().chain(kinds::expected(PART, &[LONGER]));
+    let expected: Vec<Expected> = ways.chain(signs).chain(written).collect();
     tally.missing(&NUMBERS, ENOUGH, &expected)
 }
 
@@ -92,7 +115,7 @@ pub fn run(
     Trials { place, seed, count }.each(folder, |index, name, files| {
         let mut shown = Shown { kinds: vec![Kind { part: PART, name }], ..Shown::default() };
         let words = View::Words(word_count(seed, index));
-        for view in [View::Listing, View::Dot, View::Aut, words] {
+        for view in [View::Listing, View::Dot, View::Aut, words, View::Formula] {
             let output = explain(view, place).map_err(|error| error.to_string())?;
             let asked = format!("explain {view}");
             let agrees = shown.agrees(view, files, output);
@@ -108,10 +131,10 @@ pub fn run(
 #[derive(Default)]
 struct Shown {
     kinds: Vec<Kind>,
-    /// Of the refusal.
+    /// Of the listing, or of what it is refused by.
     number: u32,
-    /// On standard error, if it is refused.
-    words: Option<Vec<u8>>,
+    /// Each refusal, and what it is told by on standard error.
+    words: Vec<(Reply, Vec<u8>)>,
 }
 
 impl Shown {
@@ -119,6 +142,9 @@ impl Shown {
         match views::text(view, files.table.contents(), files.formula.contents()) {
             Ok(text) => {
                 self.kinds.extend(signs(view, &text));
+                if view == View::Formula && self.number != 0 {
+                    self.kinds.push(Kind { part: FORMULA, name: NOT_BUILT });
+                }
                 trials::writes(text.as_bytes(), 0, &output)?;
                 trials::is_quiet(&output)
             }
@@ -126,22 +152,28 @@ impl Shown {
         }
     }
 
-    /// Its line stands in place of a listing only; the words are the same for each view.
+    /// Its line stands in place of a listing or a formula only; the words are the same for each view.
     fn is_refusal(&mut self, view: View, refusal: Reply, output: Output) -> Result<(), String> {
         let line = match view {
-            View::Listing => print::refusal(refusal),
+            View::Listing | View::Formula => print::refusal(refusal),
             _ => Vec::new(),
         };
         trials::writes(&line, 1, &output)?;
-        self.number = refusal.number;
-        let words = self.words.get_or_insert_with(|| output.stderr.clone());
-        match *words == output.stderr && !words.is_empty() {
-            true => Ok(()),
-            false => {
-                let [words, others] = [&*words, &output.stderr].map(|words| shown(words));
-                Err(format!("standard error: {others}, of the listing: {words}"))
+        match view {
+            View::Listing => self.number = refusal.number,
+            View::Formula if self.number == 0 => {
+                self.kinds.push(Kind { part: FORMULA, name: TOO_LONG });
             }
+            _ => {}
         }
+        let known = self.words.iter().find(|(known, _)| *known == refusal);
+        let words = known.map_or(&output.stderr, |(_, words)| words);
+        if *words != output.stderr || words.is_empty() {
+            let [words, others] = [words, &output.stderr].map(|words| shown(words));
+            return Err(format!("standard error: {others}, of the listing: {words}"));
+        }
+        self.words.push((refusal, output.stderr));
+        Ok(())
     }
 }
 

@@ -1,5 +1,5 @@
 //! What is written of a folder: its listing, or a view of it for Graphviz, in the Aldebaran format,
-//! or by its least words.
+//! or by its least words; or its formula, written back.
 
 use std::fmt;
 
@@ -10,7 +10,7 @@ use crate::listing::{Edge, Listing};
 use crate::print::{self, EDGE_PLACES, ROW_PLACES};
 use crate::reply::Refusal;
 use crate::table::{IDLE, SILENT, Table};
-use crate::verdict;
+use crate::{verdict, writing};
 
 #[derive(Clone, Copy, Debug, PartialEq, Eq)]
 pub enum View {
@@ -18,6 +18,8 @@ pub enum View {
     Dot,
     Aut,
     Words(usize),
+    /// Nothing is built for it, so its refusals are 1 to 9 and 15.
+    Formula,
 }
 
 /// The script's options for it.
@@ -28,19 +30,31 @@ impl fmt::Display for View {
             View::Dot => write!(to, "--dot"),
             View::Aut => write!(to, "--aut"),
             View::Words(count) => write!(to, "--words {count}"),
+            View::Formula => write!(to, "--formula"),
         }
     }
 }
 
 /// Of a folder with these two files, if it is not refused.
 pub fn text(view: View, table: &[u8], formula: &[u8]) -> Result<String, Refusal> {
-    let explained = Explained::of(table, print::line_of(formula))?;
-    Ok(match view {
-        View::Listing => String::from_utf8(print::explain_files(table, formula)).expect("ASCII"),
-        View::Dot => explained.dot(),
-        View::Aut => explained.aut(),
-        View::Words(count) => explained.words(count),
-    })
+    let explained = || Explained::of(table, print::line_of(formula));
+    match view {
+        View::Listing => {
+            explained()?;
+            Ok(String::from_utf8(print::explain_files(table, formula)).expect("ASCII"))
+        }
+        View::Dot => Ok(explained()?.dot()),
+        View::Aut => Ok(explained()?.aut()),
+        View::Words(count) => Ok(explained()?.words(count)),
+        View::Formula => written_back(table, print::line_of(formula)),
+    }
+}
+
+fn written_back(table: &[u8], line: &[u8]) -> Result<String, Refusal> {
+    let table = Table::read(table)?;
+    let formula = Formula::read(&table, line)?;
+    let text = entries::short_enough(writing::text(&table, &formula))?;
+    Ok(String::from_utf8(text).expect("ASCII") + "\n")
 }
 
 /// A question that is accepted, with its listing.

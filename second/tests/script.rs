@@ -31,7 +31,9 @@ fn right(view: View, folder: &Path) -> Output {
     let [table, formula] = files_in(folder);
     match (text(view, &table, &formula), view) {
         (Ok(text), _) => says(0, text.as_bytes(), b""),
-        (Err(refused), View::Listing) => says(1, &refusal(refused.into()), b"refused\n"),
+        (Err(refused), View::Listing | View::Formula) => {
+            says(1, &refusal(refused.into()), b"refused\n")
+        }
         (Err(_), _) => says(1, b"", b"refused\n"),
     }
 }
@@ -318,6 +320,78 @@ fn faults_in_the_aldebaran_format_are_found() {
     );
 }
 
+/// The names of each set in the only line.
+fn with_sets(shown: &mut Shown, change: impl Fn(&mut Vec<&str>)) {
+    let line = shown.lines[0].split_inclusive('[').map(|part| match part.split_once(']') {
+        Some((set, rest)) => {
+            let sets = set.split(';').map(|set| {
+                let mut names: Vec<&str> = set.split('|').collect();
+                change(&mut names);
+                names.join("|")
+            });
+            format!("{}]{rest}", sets.collect::<Vec<String>>().join(";"))
+        }
+        None => part.into(),
+    });
+    shown.lines[0] = line.collect();
+}
+
+#[test]
+fn faults_in_formulas_are_found() {
+    are_found(
+        "--formula",
+        &[
+            ("the line is shown as typed", |shown| {
+                let [_, formula] = files_in(shown.folder);
+                shown.lines[0] = String::from_utf8_lossy(line_of(&formula)).into();
+            }),
+            ("the names of a set fall", |shown| with_sets(shown, |names| names.reverse())),
+            ("the names of a set rise as text", |shown| with_sets(shown, |names| names.sort())),
+            ("the last name of several is lost", |shown| {
+                with_sets(shown, |names| names.truncate(names.len().max(2) - 1));
+            }),
+            ("a mark is dropped", |shown| shown.replace("?", "")),
+            ("no blank stands behind `]`", |shown| shown.replace("] ", "]")),
+            ("none stands before `~`", |shown| shown.replace("] ~", "]~")),
+            ("none stands before `(`", |shown| shown.replace("] (", "](")),
+            ("blanks stand about `|`", |shown| shown.replace("T|", "T | ")),
+            ("no labels are all labels", |shown| shown.replace("~*", "*")),
+            ("a double negation is simplified", |shown| shown.replace("~~", "")),
+            ("brackets stand where none are needed", |shown| {
+                shown.lines[0] = format!("({})", shown.lines[0]);
+            }),
+            ("no brackets stand behind `|`", |shown| shown.replace("|(T|T)", "|T|T")),
+            ("one line more", |shown| shown.lines.push(String::new())),
+        ],
+    );
+}
+
+#[test]
+fn a_formula_that_is_too_long_is_refused_and_one_without_a_listing_is_not() {
+    is_told(
+        "written",
+        "explain --formula: expected: 13 bytes \"    15",
+        |view, output| match output.stdout.starts_with(b"    15") && view == View::Formula {
+            true => says(0, b"EU[*] T\n", b""),
+            false => output,
+        },
+    );
+    is_told("silent", "explain --formula: standard error: 0 bytes", |view, output| {
+        match output.stdout.starts_with(b"    15") && view == View::Formula {
+            true => says(1, &output.stdout, b""),
+            false => output,
+        }
+    });
+    let built = told("built", |view, folder, output| match view {
+        View::Formula => match text(View::Listing, &files_in(folder)[0], &files_in(folder)[1]) {
+            Err(refused) => says(1, &refusal(refused.into()), b"refused\n"),
+            Ok(_) => output,
+        },
+        _ => output,
+    });
+    assert!(built.expect("found").contains("\nexplain --formula: expected: "));
+}
+
 fn is_told(test: &str, piece: &str, wrong: fn(View, Output) -> Output) {
     let told = told(test, |view, _, output| wrong(view, output)).expect(test);
     assert!(told.contains(piece), "{told}");
@@ -343,7 +417,7 @@ fn another_exit_or_other_words_of_a_refusal_are_found() {
         }
     });
     is_told("line", "explain --dot: expected: 0 bytes", |view, output| match code(&output) {
-        1 if view != View::Listing => says(1, b"     1     1\n", &output.stderr),
+        1 if view == View::Dot => says(1, b"     1     1\n", &output.stderr),
         _ => output,
     });
     is_told("warned", "explain --dot: standard error: 7 bytes", |view, output| match view {

@@ -11,6 +11,7 @@ use second::inputs::questions::{Question, question};
 use second::inputs::rng::Rng;
 use second::listing::Listing;
 use second::print::files_in;
+use second::reply::Refusal;
 use second::views::{View, text};
 use second::word::{has_explaining_path, is_accepted};
 
@@ -56,6 +57,16 @@ fn table_m_is_shown_byte_for_byte() {
         of_sample(View::Words(3), "m"),
         "req ack\nreq ack req ack\nreq ack req ack req ack\n(infinitely many more)\n"
     );
+}
+
+#[test]
+fn a_formula_is_shown_as_it_is_written_back() {
+    assert_eq!(of_sample(View::Formula, "m"), "EU[*;ack] T\n");
+    assert_eq!(of_sample(View::Formula, "changer"), "EU[*;drop] EX[.] T\n");
+    let line = "DIA[ ack ] ( T | (T|T) )\n";
+    assert_eq!(view(View::Formula, M, line), "EX[ack] (T|(T|T))\n");
+    let refused = text(View::Formula, M.as_bytes(), b"EX[nil] T").expect_err("no such name");
+    assert_eq!(refused, Refusal::UnknownName(3));
 }
 
 #[test]

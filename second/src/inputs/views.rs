@@ -3,12 +3,13 @@
 
 use std::collections::BTreeSet;
 
-use super::folders::{self, Files, NUMBERS, at_the_limits, files_of};
+use super::edits;
+use super::folders::{self, File, Files, NUMBERS, at_the_limits, files_of};
 use super::kinds::{Kinds, Way, pick, way};
 use super::questions::{Question, question, with_long_words};
 use super::rng::Rng;
 use super::tables::{Size, with_counts};
-use super::{formulas, tables};
+use super::{formulas, tables, written};
 use crate::formula::Node;
 use crate::table::{Step, Table};
 
@@ -52,10 +53,20 @@ pub const WAYS: [Way<(), Files>; 7] = [
     way("rows and edges at the limits", 2, &[0], |rng, ()| at_the_limits(rng, 255, 1_023)),
 ];
 
+/// A folder with a listing, whose formula has over 512 bytes when it is written back.
+pub const LONGER: Way<(), Files> = way("longer when written back", 1, &[0], |rng, ()| {
+    let (table, mut line) = written::longer_when_written(rng);
+    edits::end_or_not(rng, &mut line);
+    Files { table: File::Holds(table.text()), formula: File::Holds(line) }
+});
+
 /// The same folder for the same seed and index, with its kind. One in five is made for a refusal,
-/// at which the numbers take turns.
+/// at which the numbers take turns, and one in 25 is longer when its formula is written back.
 pub fn folder(seed: u64, index: u64) -> (&'static str, Files) {
     let rng = &mut Rng::of_input(seed, "views", index);
+    if index % 25 == 21 {
+        return (LONGER.name, (LONGER.make)(rng, &()));
+    }
     if index % 5 < 4 {
         let way = pick(rng, &WAYS);
         return (way.name, (way.make)(rng, &()));

@@ -161,6 +161,20 @@ pub fn longest(rng: &mut Rng) -> Question {
     Question { formula: Formula { nodes }, table }
 }
 
+/// A line in 512 bytes whose text has more: sets of many labels, each typed as a complement.
+pub fn longer_when_written(rng: &mut Rng) -> (Table, Vec<u8>) {
+    loop {
+        let table = of_labels(rng, 10, MAX_LABELS);
+        let head = |_| format!("EU[~{}] ", table.names[rng.below(table.labels())].escape_ascii());
+        let heads: String = (0..8).map(head).collect();
+        let line = [heads.as_bytes(), b"T"].concat();
+        let formula = Formula::read(&table, &line).expect("a formula");
+        if writing::text(&table, &formula).len() > MAX_BYTES {
+            return (table, line);
+        }
+    }
+}
+
 /// At least half of the nodes with arms are `|`.
 fn with_or(rng: &mut Rng, nodes: usize, table: &Table) -> Formula {
     let mut formula = Formula { nodes: Vec::new() };
