@@ -8,9 +8,12 @@ use std::fs;
 use std::path::Path;
 use std::process::{ExitStatus, Output};
 
+use common::found::{SEED, all_are_found};
 use common::line::{Fault, Line};
 use common::loops::{exchanged, with_loops, without_lone_loops};
-use second::baseline::{BASELINE, accepts, build, read_formula, read_table, verdict};
+use second::baseline::{
+    BASELINE, accepts, build, read_formula, read_table, verdict, write_formula,
+};
 use second::entries::{EDGE_PLACE, Entries, NONE, ROW_PLACE, SECOND};
 use second::formula::{Condition, Formula, MAX_BYTES, MAX_NODES, Node, Set};
 use second::prepared::{
@@ -21,26 +24,7 @@ use second::table::{IDLE, MAX_LABELS, MAX_STEM, SILENT, Table, is_name_byte};
 use second::{fuzz, print, program};
 
 /// As in .ci/second.
-const SEED: u64 = 1;
-const INPUTS: u64 = 200_000;
 const FOLDERS: u64 = 3_000;
-
-/// The first input that shows the fault.
-fn first_found(wrong: &Entries) -> Option<u64> {
-    let outcome = fuzz::run(&SECOND, wrong, SEED, INPUTS, |_| ());
-    outcome.err().map(|found| found.index)
-}
-
-fn all_are_found(mutants: &[(&str, Entries)]) {
-    let found = mutants.iter().map(|(name, wrong)| (*name, first_found(wrong)));
-    let found: Vec<(&str, Option<u64>)> = found.collect();
-    for (name, index) in &found {
-        println!("{name}: {}", index.map_or("not found".into(), |index| format!("input {index}")));
-    }
-    let missed: Vec<&str> =
-        found.iter().filter(|(_, index)| index.is_none()).map(|(name, _)| *name).collect();
-    assert_eq!(missed, [""; 0]);
-}
 
 #[test]
 fn faults_in_long_words_are_found() {
@@ -121,6 +105,9 @@ fn ignoring_of_table<const AT: usize>() -> Entries {
         read_formula: Some(|table, text, formula| {
             read_formula(&without_table_byte::<AT>(table), text, formula)
         }),
+        write_formula: Some(|table, formula, text| {
+            write_formula(&without_table_byte::<AT>(table), formula, text)
+        }),
         verdict: Some(|table, formula| verdict(&without_table_byte::<AT>(table), formula)),
         build: Some(|table, formula, rows, edges, edge_count| {
             build(&without_table_byte::<AT>(table), formula, rows, edges, edge_count)
@@ -135,6 +122,9 @@ fn ignoring_of_table<const AT: usize>() -> Entries {
 /// An explainer that does not look at one byte of prepared formulas.
 fn ignoring_of_formula<const AT: usize>() -> Entries {
     Entries {
+        write_formula: Some(|table, formula, text| {
+            write_formula(table, &without_formula_byte::<AT>(formula), text)
+        }),
         verdict: Some(|table, formula| verdict(table, &without_formula_byte::<AT>(formula))),
         build: Some(|table, formula, rows, edges, edge_count| {
             build(table, &without_formula_byte::<AT>(formula), rows, edges, edge_count)
@@ -148,9 +138,10 @@ fn ignoring_of_formula<const AT: usize>() -> Entries {
 
 /// Each of the explainer's entries alone.
 fn one_by_one(wrong: Entries) -> Vec<(&'static str, Entries)> {
-    let Entries { read_formula, verdict, build, accepts, .. } = wrong;
+    let Entries { read_formula, write_formula, verdict, build, accepts, .. } = wrong;
     let entries = [
         ("read_formula", Entries { read_formula, ..NONE }, read_formula.is_some()),
+        ("write_formula", Entries { write_formula, ..NONE }, write_formula.is_some()),
         ("verdict", Entries { verdict, ..NONE }, verdict.is_some()),
         ("build", Entries { build, ..NONE }, build.is_some()),
         ("accepts", Entries { accepts, ..NONE }, accepts.is_some()),
@@ -300,6 +291,7 @@ fn lengths_off_by_one_are_found() {
     println!("a table one byte short is taken");
     all_are_found(&one_by_one(Entries {
         read_formula: Some(|of, text, written| read_formula(&table(of), text, written)),
+        write_formula: Some(|of, node, text| write_formula(&table(of), node, text)),
         verdict: Some(|of, node| verdict(&table(of), node)),
         build: Some(|of, node, rows, edges, count| build(&table(of), node, rows, edges, count)),
         accepts: Some(|of, node, word| accepts(&table(of), node, word)),
@@ -307,6 +299,7 @@ fn lengths_off_by_one_are_found() {
     }));
     println!("a formula one byte short is taken");
     all_are_found(&one_by_one(Entries {
+        write_formula: Some(|of, node, text| write_formula(of, &formula(node), text)),
         verdict: Some(|of, node| verdict(of, &formula(node))),
         build: Some(|of, node, rows, edges, count| build(of, &formula(node), rows, edges, count)),
         accepts: Some(|of, node, word| accepts(of, &formula(node), word)),

@@ -5,7 +5,7 @@ mod common;
 use common::{LOOPS, M, ONE_STATE, prepare_table, refused};
 use second::baseline::BASELINE;
 use second::entries::{self, SECOND};
-use second::formula::{Formula, MAX_BYTES};
+use second::formula::{Formula, MAX_BYTES, MAX_NODES, Node, Set};
 use second::grammar::{self, Notation};
 use second::inputs::kinds::pick;
 use second::inputs::questions::Question;
@@ -183,19 +183,26 @@ fn bytes_behind_the_text_stay() {
 /// `EU[`, twice 39 names of 13 bytes and what joins them, `;` and `] `: 39 times, and `T`.
 #[test]
 fn the_longest_text_has_42745_bytes() {
-    let heads = 39 * (3 + 2 * (39 * 13 + 38) + 1 + 2);
-    let mut longest = 0;
-    for seed in 0..50 {
-        let question = written::longest(&mut Rng::new(seed));
-        let (table, formula) = bytes_of(&question);
-        let lent = filled(seed, MAX_BYTES);
-        let (reply, after) = answer(&table, &formula, &lent);
-        assert_eq!((reply.number, after), (15, lent));
-        longest = longest.max(reply.figure);
-        let text = writing::text(&question.table, &question.formula);
-        assert_eq!(Formula::read_base(&question.table, &text), Ok(question.formula));
-    }
-    assert!((40_000..=heads + 1).contains(&longest), "{longest}");
+    let Question { table, .. } = written::longest(&mut Rng::new(1));
+    let set = Set::of(1).complement(table.labels());
+    let untils = (1..MAX_NODES).map(|arm| Node::UntilThen(set, set, arm));
+    let question =
+        Question { formula: Formula { nodes: untils.chain([Node::True]).collect() }, table };
+    let length = 39 * (3 + 2 * (39 * 13 + 38) + 1 + 2) + 1;
+    assert_eq!((length, too_long(&question)), (42_745, 42_745));
+    let drawn = (0..50).map(|seed| too_long(&written::longest(&mut Rng::new(seed))));
+    assert!(drawn.max().is_some_and(|most| (40_000..=length).contains(&most)));
+}
+
+/// The needed length of a text that is refused. Whatever its length, it reads as the formula.
+fn too_long(question: &Question) -> u64 {
+    let (table, formula) = bytes_of(question);
+    let lent = filled(5, MAX_BYTES);
+    let (reply, after) = answer(&table, &formula, &lent);
+    assert_eq!((reply.number, after), (15, lent));
+    let text = writing::text(&question.table, &question.formula);
+    assert_eq!(Formula::read_base(&question.table, &text).as_ref(), Ok(&question.formula));
+    reply.figure
 }
 
 #[test]

@@ -1,6 +1,7 @@
 //! Tables of 01 and the answers to a question by way of the entries.
 #![allow(dead_code)]
 
+pub mod found;
 pub mod header;
 pub mod line;
 pub mod loops;
