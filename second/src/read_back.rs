@@ -14,6 +14,7 @@ use crate::tally::{Outcome, Tally};
 pub const NAME: &str = "read back";
 
 const TEXT: &str = "text";
+const LINE: &str = "line";
 const PREPARED: &str = "prepared";
 
 /// An expected number is answered at least once in so many inputs.
@@ -22,12 +23,14 @@ const ONCE_IN: u64 = 200;
 /// What should have occurred among enough inputs and did not.
 pub fn missing(tally: &Tally) -> Vec<String> {
     let texts = kinds::expected(TEXT, &formula_texts::TEXTS).into_iter();
+    let lines = kinds::expected(LINE, &written::LINES);
     let prepared = kinds::expected(PREPARED, &written::QUESTIONS);
-    tally.missing(&[0, 15], ONCE_IN, &texts.chain(prepared).collect::<Vec<_>>())
+    let expected: Vec<_> = texts.chain(lines).chain(prepared).collect();
+    tally.missing(&[0, 15], ONCE_IN, &expected)
 }
 
-/// Makes so many formulas, half of them from texts, and counts a text that is refused by the number
-/// of that. None if the explainer cannot both read and write.
+/// Makes so many formulas, more than half of them from texts. None if the explainer cannot both read
+/// and write.
 pub fn run(of: &Entries, seed: u64, count: u64) -> Result<Option<Tally>, Disagreement> {
     let (Some(read), Some(write)) = (of.read_formula, of.write_formula) else {
         return Ok(None);
@@ -36,39 +39,43 @@ pub fn run(of: &Entries, seed: u64, count: u64) -> Result<Option<Tally>, Disagre
     for index in 0..count {
         let rng = &mut Rng::of_input(seed, NAME, index);
         let mut kinds = Kinds::default();
-        let Formula { table, formula } = match rng.one_in(2) {
-            true => {
-                let size = tables::size(rng, 60);
-                let table = tables::table(rng, &mut Kinds::default(), size);
-                let text = kinds.make(rng, TEXT, &formula_texts::TEXTS, &table);
-                let table = prepared::table_bytes(&table);
-                match read_from(read, &table, &text, rng.draw()) {
-                    Ok(formula) => Formula { table, formula },
-                    Err(refusal) => {
-                        tally.count(&kinds.0, Outcome::of(refusal.number));
-                        continue;
-                    }
-                }
+        let (table, formula) = formula(rng, &mut kinds, read);
+        let number = match formula {
+            Ok(formula) => {
+                let circle = Circle { read, write, table: &table };
+                let told = |told| Disagreement { seed, index, told: format!("{NAME}: {told}") };
+                circle.closes(&formula, [rng.draw(), rng.draw()]).map_err(told)?
             }
-            false => {
-                let question = kinds.make(rng, PREPARED, &written::QUESTIONS, &());
-                let table = prepared::table_bytes(&question.table);
-                Formula { table, formula: prepared::formula_bytes(&question.formula) }
-            }
+            Err(refusal) => refusal.number,
         };
-        let circle = Circle { read, write, table: &table };
-        match circle.closes(&formula, [rng.draw(), rng.draw()]) {
-            Ok(number) => tally.count(&kinds.0, Outcome::of(number)),
-            Err(told) => return Err(Disagreement { seed, index, told: format!("{NAME}: {told}") }),
-        }
+        tally.count(&kinds.0, Outcome::of(number));
     }
     Ok(Some(tally))
 }
 
-/// Both prepared.
-struct Formula {
-    table: Vec<u8>,
-    formula: Vec<u8>,
+/// A table and a formula, both prepared; the formula may be read from a text that is refused.
+fn formula(
+    rng: &mut Rng,
+    kinds: &mut Kinds,
+    read: ReadFormula,
+) -> (Vec<u8>, Result<Vec<u8>, Reply>) {
+    let (table, text) = match rng.below(5) {
+        0 | 1 => {
+            let question = kinds.make(rng, PREPARED, &written::QUESTIONS, &());
+            let table = prepared::table_bytes(&question.table);
+            return (table, Ok(prepared::formula_bytes(&question.formula)));
+        }
+        2 => kinds.make(rng, LINE, &written::LINES, &()),
+        _ => {
+            let size = tables::size(rng, 60);
+            let table = tables::table(rng, &mut Kinds::default(), size);
+            let text = kinds.make(rng, TEXT, &formula_texts::TEXTS, &table);
+            (table, text)
+        }
+    };
+    let table = prepared::table_bytes(&table);
+    let formula = read_from(read, &table, &text, rng.draw());
+    (table, formula)
 }
 
 fn read_from(read: ReadFormula, table: &[u8], text: &[u8], fill: u64) -> Result<Vec<u8>, Reply> {

@@ -4,7 +4,7 @@ mod common;
 
 use common::{LOOPS, M, ONE_STATE, prepare_table, refused};
 use second::baseline::BASELINE;
-use second::entries::{self, SECOND};
+use second::entries::{self, Entries, SECOND, WriteFormula};
 use second::formula::{Formula, MAX_BYTES, MAX_NODES, Node, Set};
 use second::grammar::{self, Notation};
 use second::inputs::kinds::pick;
@@ -141,17 +141,17 @@ fn refusals_come_in_their_order_and_leave_every_byte() {
     let lent = filled(2, MAX_BYTES);
     let [short_table, short_formula] =
         [&no_table[1..], &no_formula[1..]].map(|prepared: &[u8]| prepared.to_vec());
-    let cases: [(&[u8], &[u8], &[u8], Reply); 8] = [
-        (&short_table, &short_formula, &[], refused(14, 3_718)),
-        (&no_table, &short_formula, &[], refused(14, 681)),
-        (&no_table, &no_formula, &lent[1..], refused(14, 512)),
-        (&no_table, &no_formula, &[], refused(14, 512)),
-        (&no_table, &no_formula, &lent, refused(10, 0)),
-        (&table, &no_formula, &lent, refused(10, 1)),
-        (&table, &formula, &lent[1..], refused(14, 512)),
-        (&table, &formula, &lent, refused(15, 513)),
+    let cases: [([&[u8]; 3], Reply); 8] = [
+        ([&short_table, &short_formula, &[]], refused(14, 3_718)),
+        ([&no_table, &short_formula, &[]], refused(14, 681)),
+        ([&no_table, &no_formula, &lent[1..]], refused(14, 512)),
+        ([&no_table, &no_formula, &[]], refused(14, 512)),
+        ([&no_table, &no_formula, &lent], refused(10, 0)),
+        ([&table, &no_formula, &lent], refused(10, 1)),
+        ([&table, &formula, &lent[1..]], refused(14, 512)),
+        ([&table, &formula, &lent], refused(15, 513)),
     ];
-    for (table, formula, lent, reply) in cases {
+    for ([table, formula, lent], reply) in cases {
         assert_eq!(answer(table, formula, lent), (reply, lent.to_vec()));
     }
 }
@@ -212,6 +212,46 @@ fn what_is_written_is_read_as_the_same_formula() {
         let numbers: Vec<u32> = tally.numbers().into_keys().collect();
         assert_eq!(numbers, [0, 5, 6, 7, 8, 9, 15]);
     }
+}
+
+/// What is told of an explainer that writes wrongly.
+fn told(write_formula: WriteFormula) -> String {
+    let wrong = Entries { write_formula: Some(write_formula), ..SECOND };
+    read_back::run(&wrong, 51, 2_000).expect_err("the fault is found").to_string()
+}
+
+#[test]
+fn what_reads_otherwise_or_is_written_otherwise_is_told() {
+    let other = told(|table, formula, text| {
+        let reply = entries::write_formula(table, formula, text);
+        if let [b'E', b'U', b'[', b'*', b']', ..] = text {
+            text[1] = b'X';
+        }
+        reply
+    });
+    assert!(other.contains("read back: \"EX[*] "), "{other}");
+    assert!(other.ends_with("is read as another formula"), "{other}");
+    let refused = told(|table, formula, text| {
+        let reply = entries::write_formula(table, formula, text);
+        let figure = if reply.number == 0 { reply.figure - 1 } else { reply.figure };
+        Reply { figure, ..reply }
+    });
+    assert!(refused.contains("answers Reply { number: 6"), "{refused}");
+    // By what stands in the buffer before.
+    let changing = told(|table, formula, text| {
+        let is_even = text.last().is_some_and(|byte| byte % 2 == 0);
+        let reply = entries::write_formula(table, formula, text);
+        if let (0, true, Some(blank)) = (
+            reply.number,
+            is_even,
+            text[..reply.figure as usize].iter().position(|&byte| byte == b' '),
+        ) {
+            text.copy_within(blank + 1..reply.figure as usize, blank);
+            return Reply { figure: reply.figure - 1, ..reply };
+        }
+        reply
+    });
+    assert!(changing.contains("is written as Ok("), "{changing}");
 }
 
 /// A formula that is written back, with its text of any length.

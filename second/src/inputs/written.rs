@@ -46,6 +46,12 @@ pub const QUESTIONS: [Way<(), Question>; 10] = [
     way("read from a text", 10, &[0], |rng, ()| read(rng)),
 ];
 
+/// Tables with a line to be read and written back.
+pub const LINES: [Way<(), (Table, Vec<u8>)>; 2] = [
+    way("of all labels by name", 1, &[0], |rng, ()| all_by_name(rng)),
+    way("longer when written back", 1, &[15], |rng, ()| longer_when_written(rng)),
+];
+
 fn of_labels(rng: &mut Rng, least: usize, most: usize) -> Table {
     let labels = rng.between(least, most);
     with_counts(rng, &mut Kinds::default(), 3, labels, 6)
@@ -159,6 +165,21 @@ pub fn longest(rng: &mut Rng) -> Question {
     let until = |arm| Node::UntilThen(nearly_all(rng), nearly_all(rng), arm);
     let nodes = (1..MAX_NODES).map(until).chain([Node::True]).collect();
     Question { formula: Formula { nodes }, table }
+}
+
+/// Each set has every name, in any order, one of them twice.
+fn all_by_name(rng: &mut Rng) -> (Table, Vec<u8>) {
+    let table = of_labels(rng, 1, 10);
+    let mut names = table.names.clone();
+    names.push(rng.pick(&table.names.iter().collect::<Vec<_>>()).clone());
+    let mut set = || {
+        rng.shuffle(&mut names);
+        names.join(&b'|')
+    };
+    let [first, then, last] = [set(), set(), set()];
+    let parts: [&[u8]; 7] = [b"EX[", &first, b"]EU[", &then, b";", &last, b"]T"];
+    let line = parts.concat();
+    (table, line)
 }
 
 /// A line in 512 bytes whose text has more: sets of many labels, each typed as a complement.
