@@ -158,13 +158,12 @@ fn refusals_come_in_their_order_and_leave_every_byte() {
 
 #[test]
 fn a_formula_of_another_table_is_refused() {
-    let (table, formula) = (prepare_table(ONE_LABEL), prepare_table(M));
-    let read = Table::read(M.as_bytes()).expect("a table");
-    let other = Formula::read(&read, b"EX[ack] T").expect("a formula");
-    let other = prepared::formula_bytes(&other);
+    let m = Table::read(M.as_bytes()).expect("a table");
+    let formula = Formula::read(&m, b"EX[ack] T").expect("a formula");
+    let formula = prepared::formula_bytes(&formula);
     let lent = filled(3, MAX_BYTES);
-    assert_eq!(answer(&table, &other, &lent).0, refused(10, 1));
-    assert_eq!(answer(&formula, &other, &lent).0, Reply::accepted(9));
+    assert_eq!(answer(&prepare_table(ONE_LABEL), &formula, &lent).0, refused(10, 1));
+    assert_eq!(answer(&prepare_table(M), &formula, &lent).0, Reply::accepted(9));
 }
 
 #[test]
