@@ -48,11 +48,13 @@ int main(void)
     expect("explain", n, f, EXPLAINER_TABLE_NOT_LAID_OUT, 1);
     n = explainer_explain(text, strlen(m), line, 11, table, sizeof table, formula, sizeof formula, NULL, 0, NULL, 0, &f, &verdict, &formula_class, &edges);
     expect("explain", n, f, EXPLAINER_ROWS_SHORT, 3);
+    n = explainer_write_formula(table, sizeof table, formula, sizeof formula, NULL, 0, &f);
+    expect("write_formula", n, f, EXPLAINER_BUFFER_SHORT, EXPLAINER_LONGEST_FORMULA_TEXT);
     if (verdict != 7 || formula_class != 7 || edges != 7) {
         printf("a refusal writes a value\n");
         failed = 1;
     }
-    if (explainer_refusal(EXPLAINER_BUFFER_SHORT) == NULL || explainer_refusal(15) != NULL) {
+    if (explainer_refusal(EXPLAINER_BUFFER_SHORT) == NULL || explainer_refusal(EXPLAINER_TEXT_TOO_LONG) == NULL || explainer_refusal(16) != NULL) {
         printf("explainer_refusal has other words\n");
         failed = 1;
     }

@@ -152,10 +152,10 @@ impl Shown {
         }
     }
 
-    /// Its line stands in place of a listing or a formula only; the words are the same for each view.
+    /// Its line stands in place of a listing only; the words are the same for each view.
     fn is_refusal(&mut self, view: View, refusal: Reply, output: Output) -> Result<(), String> {
         let line = match view {
-            View::Listing | View::Formula => print::refusal(refusal),
+            View::Listing => print::refusal(refusal),
             _ => Vec::new(),
         };
         trials::writes(&line, 1, &output)?;

@@ -9,6 +9,7 @@ use second::enumeration::least;
 use second::formula::Formula;
 use second::listing::Listing;
 use second::print::{files_in, line_of, refusal};
+use second::reply::Reply;
 use second::script;
 use second::table::Table;
 use second::views::{View, text};
@@ -31,9 +32,7 @@ fn right(view: View, folder: &Path) -> Output {
     let [table, formula] = files_in(folder);
     match (text(view, &table, &formula), view) {
         (Ok(text), _) => says(0, text.as_bytes(), b""),
-        (Err(refused), View::Listing | View::Formula) => {
-            says(1, &refusal(refused.into()), b"refused\n")
-        }
+        (Err(refused), View::Listing) => says(1, &refusal(refused.into()), b"refused\n"),
         (Err(_), _) => says(1, b"", b"refused\n"),
     }
 }
@@ -368,28 +367,34 @@ fn faults_in_formulas_are_found() {
 
 #[test]
 fn a_formula_that_is_too_long_is_refused_and_one_without_a_listing_is_not() {
-    is_told(
-        "written",
-        "explain --formula: expected: 13 bytes \"    15",
-        |view, output| match output.stdout.starts_with(b"    15") && view == View::Formula {
-            true => says(0, b"EU[*] T\n", b""),
-            false => output,
-        },
-    );
-    is_told("silent", "explain --formula: standard error: 0 bytes", |view, output| {
-        match output.stdout.starts_with(b"    15") && view == View::Formula {
-            true => says(1, &output.stdout, b""),
-            false => output,
-        }
+    let too_long = |view, folder: &Path| {
+        let [table, formula] = files_in(folder);
+        let refused = text(view, &table, &formula).err();
+        view == View::Formula && refused.is_some_and(|refused| Reply::from(refused).number == 15)
+    };
+    let written = told("written", |view, folder, output| match too_long(view, folder) {
+        true => says(0, b"EU[*] T\n", b""),
+        false => output,
     });
+    assert!(written.expect("found").contains("\nexplain --formula: "));
+    let silent = told("silent", |view, folder, output| match too_long(view, folder) {
+        true => says(1, b"", b""),
+        false => output,
+    });
+    assert!(silent.expect("found").contains("explain --formula: standard error: 0 bytes"));
+    let line = told("line", |view, folder, output| match too_long(view, folder) {
+        true => says(1, b"    15   513\n", &output.stderr),
+        false => output,
+    });
+    assert!(line.expect("found").contains("\nexplain --formula: "));
     let built = told("built", |view, folder, output| match view {
         View::Formula => match text(View::Listing, &files_in(folder)[0], &files_in(folder)[1]) {
-            Err(refused) => says(1, &refusal(refused.into()), b"refused\n"),
+            Err(_) => says(1, b"", b"refused\n"),
             Ok(_) => output,
         },
         _ => output,
     });
-    assert!(built.expect("found").contains("\nexplain --formula: expected: "));
+    assert!(built.expect("found").contains("\nexplain --formula: "));
 }
 
 fn is_told(test: &str, piece: &str, wrong: fn(View, Output) -> Output) {
