@@ -117,6 +117,8 @@ END {
     say("the automaton has " figure " rows; the program has places for 1024")
   else if (number == 12)
     say("the automaton has " figure " edges; the program has places for 4096")
+  else if (number == 15)
+    say("the text written back has " figure " bytes, more than 512")
   else
     say("figure " figure)
 }

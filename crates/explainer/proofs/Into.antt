@@ -52,7 +52,7 @@ module _ (tableText formulaText t f : List ℕ) {y : BothRead} (told : ReadBoth 
             };
           }
 
-  was-refused : (n g : ℕ) → y ≡ Refused n g → readings tableText formulaText ≡ refusal n g
+  pub was-refused : (n g : ℕ) → y ≡ Refused n g → readings tableText formulaText ≡ refusal n g
   was-refused n g d = by (readings tableText formulaText) (subst (λ z. ReadBoth (readings tableText formulaText) z t f) d told)
     where
       by : (r : Reply Read) → ReadBoth r (Refused n g) t f → r ≡ refusal n g

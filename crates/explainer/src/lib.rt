@@ -16,8 +16,8 @@ pub use crate::exports::explainer_read_table;
 pub use crate::exports::explainer_verdict;
 pub use crate::exports::explainer_write_formula;
 use crate::finishing::finish;
-use crate::readings::BothRead;
-use crate::readings::read_both;
+pub use crate::readings::BothRead;
+pub use crate::readings::read_both;
 
 mod explained;
 mod exports;

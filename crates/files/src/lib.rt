@@ -15,7 +15,7 @@ ghost use Rattle.explainer.specs.Replies.{explainReply};
 ghost use Rattle.files.specs.inner.Scan.{scanStart, largestCount, scannedAfter, keptAfter};
 ghost use Rattle.files.specs.inner.Files.{lengthWithoutEnd, filesText};
 ghost use Rattle.files.specs.inner.Replied.{Replied};
-ghost use Rattle.files.specs.inner.Writing.{replyText, Few, PrefixLength};
+ghost use Rattle.files.specs.inner.Writing.{replyText, refusedLine, Few, PrefixLength};
 use bytes::copy;
 use explainer::ExplainReply;
 use explainer::explain;
@@ -35,7 +35,7 @@ pub fn scan_start() -> Scanned
     Scanned { length: 0, last: 0 }
 }
 
-fn least(a: usize, b: usize) -> usize
+pub fn least(a: usize, b: usize) -> usize
     ensures { λ r. ⌜ r ≡ min a b ⌝ }
 {
     if a < b { a } else { b }
@@ -80,7 +80,7 @@ pub fn scan_chunk(chunk: &[u8], head: &mut [u8; KEPT], scanned: Scanned) -> Scan
 }
 
 // The length of the formula's text: one LF at the end of the file is dropped.
-fn text_length(scanned: Scanned) -> usize
+pub fn text_length(scanned: Scanned) -> usize
     ensures { λ r. ⌜ r ≡ lengthWithoutEnd scanned ⌝ }
 {
     let n = scanned.length;
@@ -91,6 +91,17 @@ fn text_length(scanned: Scanned) -> usize
         return n - 1;
     }
     n
+}
+
+// A refusal's line, about a formula of `counted` bytes.
+pub fn write_refused(number: u32, figure: u64, counted: usize, out: &mut [u8]) -> usize
+    requires { ⌜ 81 ≤ length (now out) ⌝ }
+    ensures { λ r. ⌜ TextWritten (refusedLine counted number figure) (now (out .entry)) (now (out .exit)) r ⌝ }
+{
+    if number == 5 {
+        return write_refusal(number, counted as u64, out);
+    }
+    write_refusal(number, figure, out)
 }
 
 fn write_reply(
@@ -115,13 +126,7 @@ fn write_reply(
             edges,
             out,
         ),
-        ExplainReply::Refused(number, figure) => {
-            if number == 5 {
-                write_refusal(number, length as u64, out)
-            } else {
-                write_refusal(number, figure, out)
-            }
-        }
+        ExplainReply::Refused(number, figure) => write_refused(number, figure, length, out),
     }
 }
 

@@ -1,4 +1,4 @@
--- What `write_reply` takes and leaves.
+-- What `write_reply` and `write_refused` take and leave.
 use mathlib.Core.Path.{_≡_}
 use mathlib.Core.Bool.{cond}
 use mathlib.Core.List.{List}
@@ -11,10 +11,14 @@ use Rattle.explanations.specs.Explanation.{Summary}
 use Rattle.explanations.specs.inner.Printed.{listingText}
 use Rattle.explanations.specs.Printed.{refusalLine}
 
--- The text of a reply about a formula of `n` bytes, by the bytes in the lent places. 01: "formula over 512 bytes": 5, "its length"
+-- A refusal's line about a formula of `n` bytes. 01: "formula over 512 bytes": 5, "its length"
+abbrev pub refusedLine : ℕ → ℕ → ℕ → List ℕ
+refusedLine n number figure = refusalLine number (cond (eqb number 5) n figure)
+
+-- The text of a reply, by the bytes in the lent places.
 abbrev pub replyText : Reply Summary → ℕ → List ℕ → List ℕ → List ℕ
 replyText (accepted s) n rows edges = listingText s rows edges
-replyText (refusal number figure) n rows edges = refusalLine number (cond (eqb number 5) n figure)
+replyText (refusal number figure) n rows edges = refusedLine n number figure
 
 -- Counts that the program's places hold: 1,024 rows and 4,096 edges.
 abbrev pub Few : Reply Summary → Type 0

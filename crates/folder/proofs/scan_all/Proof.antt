@@ -1,7 +1,7 @@
 -- `scan_all` ends: the count that is left falls. Nothing has to hold from round to round.
 use native.Mathlib.Omega.{arith}
-use Rattle.explain.proofs.scan_all.Statement.{statement}
-use Rattle.explain.proofs.scan_all.Tie as tie
+use Rattle.folder.proofs.scan_all.Statement.{statement}
+use Rattle.folder.proofs.scan_all.Tie as tie
 
 abbrev Inv-loop : tie.InvT-loop
 Inv-loop fd head₀ left₀ scanned₀ head left scanned = Unit {0}

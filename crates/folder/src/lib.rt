@@ -1,0 +1,60 @@
+// What the programs read: table.txt and formula.txt in the folder that they run in.
+use explanations::sizes::KEPT;
+ghost use Rattle.io.specs.Counts.{Counts};
+use files::Scanned;
+use files::scan_chunk;
+use files::scan_start;
+
+// The formula file so far, and whether there may be more of it.
+struct Portion {
+    scanned: Scanned,
+    more: bool,
+}
+
+fn scan_some(fd: i32, head: &mut [u8; KEPT], scanned: Scanned) -> Portion {
+    let mut chunk = io::large_buffer();
+    let n = io::read_full(fd, &mut chunk);
+    Portion {
+        scanned: scan_chunk(&chunk[..n], head, scanned),
+        more: n > 0,
+    }
+}
+
+// A proved loop has to end, and nothing says that a file does: the loop counts its rounds down, from a number that no file uses up.
+fn scan_all(fd: i32, head: &mut [u8; KEPT]) -> Scanned {
+    let mut left = u64::MAX;
+    let mut scanned = scan_start();
+    while left > 0 {
+        let portion = scan_some(fd, head, scanned);
+        scanned = portion.scanned;
+        if !portion.more {
+            return scanned;
+        }
+        left -= 1;
+    }
+    scanned
+}
+
+// A file that cannot be opened counts as empty.
+pub fn scan_formula(head: &mut [u8; KEPT]) -> Scanned {
+    let fd = os::open_read(b"formula.txt");
+    if fd < 0 {
+        return scan_start();
+    }
+    let scanned = scan_all(fd, head);
+    libc::close(fd);
+    scanned
+}
+
+// As many bytes of the table as there is room for, and how many they are.
+pub fn read_table(table: &mut [u8]) -> usize
+    ensures { λ r. ⌜ Counts r (now (table .exit)) ⌝ }
+{
+    let fd = os::open_read(b"table.txt");
+    if fd < 0 {
+        return 0;
+    }
+    let count = io::read_full(fd, table);
+    libc::close(fd);
+    count
+}

@@ -1,0 +1,18 @@
+-- The executable twin of `lineText` (../LineText.antt): `line-right` (proofs/Right.antt) makes `fileLine` equal to it, for what is
+-- read of two files of any length.
+use mathlib.Core.List.{List, [], _∷_, _++_}
+use Prim.Native.Nat.{ℕ}
+use Rattle.lts.specs.Reply.{Reply, accepted, refusal}
+use Rattle.files.specs.declared.Scanned.{Scanned}
+use Rattle.files.specs.inner.Files.{lengthWithoutEnd, keptText}
+use Rattle.files.specs.inner.Writing.{refusedLine}
+use Rattle.formula_line.specs.LineText.{writtenBack}
+
+-- The line about a formula of `n` bytes.
+abbrev pub countedLine : ℕ → Reply (List ℕ) → List ℕ
+countedLine n (accepted s) = s ++ (10 ∷ [])
+countedLine n (refusal number figure) = refusedLine n number figure
+
+-- What is written: of what was read, a too long formula refused with the length that was counted.
+unfoldable pub fileLine : List ℕ → List ℕ → Scanned → List ℕ
+fileLine tableFile head scanned = countedLine (lengthWithoutEnd scanned) (writtenBack tableFile (keptText head scanned))
