@@ -50,7 +50,10 @@ fn the_example_shows_the_changer_with_its_listing_and_words_byte_for_byte() {
     let directions = read("samples/directions/formula.txt");
     let short_forms = read("samples/short_forms/formula.txt");
     let listing = listing("samples/changer");
-    assert_eq!(shown, [table, formula, listing, words, directions, short_forms]);
+    let written = ["short_forms", "directions"]
+        .map(|sample| read(&format!("samples/{sample}/written_back.txt")));
+    let [first, second] = written;
+    assert_eq!(shown, [table, formula, listing, words, directions, short_forms, first, second]);
 }
 
 /// Each ends in the idle step of the wait.

@@ -41,7 +41,8 @@ module _ (N : List (List ℕ)) (b e : List ℕ) (count : ℕ) where
   pub writing-start : (pending : List ℕ) → length pending ≡ 80 → Writing e pending 0 0 false 0
   writing-start pending h = record { sofar = []; adds = adds-none 0 e; rest = refl; short = omega arith; few = omega arith; long = h; within = omega arith }
 
-  pub writing-more : Short N → length N ≤ mostLabels → count ≤ mostNodes → {x y pending after : List ℕ} {at top : ℕ} {arm : Bool} {k : ℕ} (s : Slot) (r : Place) → Writing x pending at top arm k → k < count → s ≡ slotAt b k
+  pub writing-more : Short N → length N ≤ mostLabels → count ≤ mostNodes
+      → {x y pending after : List ℕ} {at top : ℕ} {arm : Bool} {k : ℕ} (s : Slot) (r : Place) → Writing x pending at top arm k → k < count → s ≡ slotAt b k
       → Walks (writtenAt N s arm (stackOf pending top)) (pendingAfter (s .kind) arm (stackOf pending top)) (armAfter (s .kind)) top at x y pending after r
       → Writing y after (r .at) (r .top) (r .arm) (k + 1)
   writing-more short labels most {pending = pending} {after} {top = top} {arm} {k} s r w more is l =
