@@ -2,13 +2,12 @@
 use mathlib.Core.Path.{_≡_, sym, ap, _∙_, subst}
 use mathlib.Core.List.{List}
 use Prim.Native.Nat.{ℕ, _≤_, _<_}
-use lib.Dec.{leb}
 use lib.ListN.{length}
 use borrow.Author.Tests.{le-leb, lt-leb}
 use Rattle.lts.specs.Sizes.{tableLength}
-use Rattle.lts.specs.Reply.{Reply, refusal, leftIn, answers}
+use Rattle.lts.specs.Reply.{refusal, leftIn, answers}
 use Rattle.actl.specs.Sizes.{longestText, formulaLength}
-use Rattle.formula_check.specs.Inputs.{unprepared, unpreparedNumber, unpreparedFigure}
+use Rattle.formula_check.specs.Inputs.{unprepared}
 use Rattle.formula_check.specs.declared.inputs.Unprepared.{Unprepared}
 use Rattle.formula_check.specs.declared.inputs.Inputs.{Inputs}
 use Rattle.formula_check.specs.declared.inputs.Inputs.the-variants as inputs

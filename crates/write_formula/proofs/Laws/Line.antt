@@ -1,22 +1,19 @@
 -- What is answered and left once all of the text is counted: 15, or the text in the first bytes.
-use mathlib.Core.Path.{_≡_, sym, ap, _∙_, subst}
-use mathlib.Core.Bool.{true, false}
+use mathlib.Core.Path.{_≡_, sym, ap, _∙_}
 use mathlib.Core.List.{List, _++_}
 use mathlib.Core.Option.{some}
 use Prim.Native.Nat.{ℕ, _≤_, _<_}
 use native.Mathlib.Omega.{arith}
-use lib.Dec.{leb}
 use lib.ListN.{length, take, drop}
 use lib.Seq.{take-length}
 use borrow.Author.Tests.{le-leb, lt-leb}
-use Rattle.lts.specs.Reply.{Reply, accepted, refusal, unless, leftIn, answers}
+use Rattle.lts.specs.Reply.{accepted, refusal, unless, leftIn, answers}
 use Rattle.lts.specs.Steps.{labels}
 use Rattle.lts.specs.inner.Prepared.{tableIn}
 use Rattle.actl.specs.Sizes.{longestText}
 use Rattle.actl.specs.Formulas.{Formula}
 use Rattle.actl.specs.inner.Prepared.{preparedFormula}
 use Rattle.written_back.specs.FormulaText.{formulaText}
-use Rattle.write_formula.specs.Replies.{writeReply}
 use Rattle.write_formula.specs.declared.WriteReply.the-variants.{Written, TooLong}
 use Rattle.write_formula.specs.inner.Walk.{TextAdded}
 use Rattle.write_formula.specs.inner.Line.{lineOf, LineWritten}

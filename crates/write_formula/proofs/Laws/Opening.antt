@@ -4,7 +4,7 @@ use mathlib.Core.Bool.{Bool, true, false}
 use mathlib.Core.List.{List, [], _∷_}
 use Prim.Native.Nat.{ℕ, _+_}
 use native.Mathlib.Omega.{arith}
-use lib.ListN.{length, set, length-set}
+use lib.ListN.{set, length-set}
 use Rattle.write_formula.specs.declared.walk.Place.{Place}
 use Rattle.write_formula.specs.inner.Adds.{Adds}
 use Rattle.write_formula.specs.inner.Walk.{opening, pendingAfter, stackOf, Stack, Walks}

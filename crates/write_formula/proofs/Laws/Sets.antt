@@ -15,7 +15,7 @@ use Rattle.actl.specs.Actions.{Mask, inSet}
 use Rattle.written_back.specs.FormulaText.{members, joined}
 use Rattle.written_back.proofs.Laws.Sets.{members-to, members-few, members-of, joined-more, joined-short}
 use Rattle.write_formula.specs.inner.Adds.{Adds, labelText}
-use Rattle.write_formula.proofs.Laws.Adds.{adds-none, adds-then}
+use Rattle.write_formula.proofs.Laws.Adds.{adds-then}
 
 abbrev Named : List (List ℕ) → Type 0
 Named N = (n : List ℕ) → List·Memᴰ n N → isName n ≡ true

@@ -1,7 +1,7 @@
 -- `put_name` counts a name's bytes, and copies them if they fit.
 use borrow.Author.Needs.{needs}
 use mathlib.Core.Path.{_≡_, ap, _∙_}
-use Prim.Native.Nat.{_+_, _-_}
+use Prim.Native.Nat.{_-_}
 use native.Mathlib.Omega.{arith}
 use lib.ListN.{length, take, drop}
 use Rattle.lts.specs.inner.Prepared.{nameAt}

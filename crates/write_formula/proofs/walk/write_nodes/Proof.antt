@@ -1,17 +1,16 @@
 -- `write_nodes` writes node by node, and all of them give the formula's text.
-use borrow.Author.Needs.{needs}
 use mathlib.Core.Path.{_≡_, sym, ap, _∙_}
 use mathlib.Core.Bool.{true}
 use mathlib.Core.List.{List}
 use Prim.Native.Nat.{ℕ, _-_, _≤_, _<_}
 use native.Mathlib.Omega.{arith}
-use lib.ListN.{length, getD}
+use lib.ListN.{getD}
 use Rattle.lts.specs.Steps.{labels}
 use Rattle.lts.specs.inner.Prepared.{tableIn}
 use Rattle.lts.proofs.Laws.NameRuns.{name-short}
 use Rattle.actl.specs.Sizes.{mostNodes}
 use Rattle.actl.specs.Formulas.{tru, size, nodes}
-use Rattle.actl.specs.Prepared.{slotWithin, slotOf}
+use Rattle.actl.specs.Prepared.{slotWithin}
 use Rattle.actl.specs.inner.Prepared.{slotAt}
 use Rattle.actl.proofs.Laws.Held.{formula-long, formula-few, formula-shaped}
 use Rattle.actl.proofs.Laws.Prepared.{prepared-of, prepared-count, prepared-slot}
