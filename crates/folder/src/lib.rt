@@ -1,6 +1,8 @@
 // What the programs read: table.txt and formula.txt in the folder that they run in.
 use explanations::sizes::KEPT;
 ghost use Rattle.io.specs.Counts.{Counts};
+ghost use Rattle.files.specs.inner.Scan.{scanStart};
+ghost use Rattle.folder.specs.inner.Scanning.{ScannedOn};
 use files::Scanned;
 use files::scan_chunk;
 use files::scan_start;
@@ -11,7 +13,9 @@ struct Portion {
     more: bool,
 }
 
-fn scan_some(fd: i32, head: &mut [u8; KEPT], scanned: Scanned) -> Portion {
+fn scan_some(fd: i32, head: &mut [u8; KEPT], scanned: Scanned) -> Portion
+    ensures { λ r. ⌜ ScannedOn (now (head .entry)) scanned (now (head .exit)) (r .scanned) ⌝ }
+{
     let mut chunk = io::large_buffer();
     let n = io::read_full(fd, &mut chunk);
     Portion {
@@ -21,7 +25,9 @@ fn scan_some(fd: i32, head: &mut [u8; KEPT], scanned: Scanned) -> Portion {
 }
 
 // A proved loop has to end, and nothing says that a file does: the loop counts its rounds down, from a number that no file uses up.
-fn scan_all(fd: i32, head: &mut [u8; KEPT]) -> Scanned {
+fn scan_all(fd: i32, head: &mut [u8; KEPT]) -> Scanned
+    ensures { λ r. ⌜ ScannedOn (now (head .entry)) scanStart (now (head .exit)) r ⌝ }
+{
     let mut left = u64::MAX;
     let mut scanned = scan_start();
     while left > 0 {
@@ -36,7 +42,9 @@ fn scan_all(fd: i32, head: &mut [u8; KEPT]) -> Scanned {
 }
 
 // A file that cannot be opened counts as empty.
-pub fn scan_formula(head: &mut [u8; KEPT]) -> Scanned {
+pub fn scan_formula(head: &mut [u8; KEPT]) -> Scanned
+    ensures { λ r. ⌜ ScannedOn (now (head .entry)) scanStart (now (head .exit)) r ⌝ }
+{
     let fd = os::open_read(b"formula.txt");
     if fd < 0 {
         return scan_start();
