@@ -8,8 +8,6 @@ use lts::sizes::TABLE_LENGTH;
 use lts::sizes::TRANSITION;
 use lts::sizes::TRANSITIONS;
 use lts::sizes::TRANSITIONS_AT;
-use tables::names::Lookup;
-use tables::names::find;
 use tables::names::name_span;
 use tables::names::read_name;
 use tables::prepared::below;
@@ -21,13 +19,12 @@ use tables::prepared::transition_count;
 ghost use mathlib.Core.Path.{_≡_};
 ghost use Prim.Native.Nat.{_+_, _*_, _≤_, _<_};
 ghost use lib.ListN.{length};
-ghost use Rattle.lts.specs.Sizes.{mostLabels, mostTransitions, nameSlotLength, tableLength};
-ghost use Rattle.lts.specs.inner.Sizes.{headLength};
+ghost use Rattle.lts.specs.Sizes.{mostLabels, mostTransitions, tableLength};
 ghost use Rattle.lts.specs.Steps.{labels};
-ghost use Rattle.lts.specs.inner.Sizes.{longestName};
-ghost use Rattle.lts.specs.inner.Prepared.{tableIn, byteAt, preparedTable};
+ghost use Rattle.lts.specs.inner.Prepared.{tableIn, nameAt, preparedTable};
 ghost use Rattle.lts.specs.inner.Answers.{Decides, isSome};
 ghost use Rattle.table_check.specs.inner.Filled.{NamesFilled, TransitionsFilled};
+ghost use Rattle.table_check.specs.inner.Words.{fourBytes, numberAt, HeldBefore};
 ghost use Rattle.lts.specs.inner.Check.{ZerosFrom, CountsHeld, NameHeld, NewName, NamesHeld, TransitionHeld, TransitionsHeld};
 
 pub fn is_prepared(table: &[u8]) -> bool
@@ -143,18 +140,59 @@ fn name_held(table: &[u8], k: usize) -> bool
     zeros(table, end, NAME_SLOT_END + k * NAME_SLOT)
 }
 
+// Whether no slot before slot k holds its name.
 fn new_name(table: &[u8], k: usize) -> bool
-    requires { ⌜ (tableLength ≤ length (now table)) × ((k < mostLabels) × (byteAt (now table) (headLength + k * nameSlotLength) ≤ longestName)) ⌝ }
+    requires { ⌜ (tableLength ≤ length (now table)) × ((k < mostLabels) × HeldBefore (now table) (k + 1)) ⌝ }
     ensures { λ r. ⌜ Decides (NewName (now (table .entry)) k) r ⌝ }
 {
-    let span = name_span(table, k);
-    let at = span.from;
-    let end = span.to;
-    let before = find(&table[HEAD..TRANSITIONS_AT], k, &table[at..end]);
-    match before {
-        Lookup::At(_) => false,
-        Lookup::Nowhere => true,
+    let mut j: usize = 0;
+    while j < k {
+        if same_slot(table, j, k) {
+            return false;
+        }
+        j += 1;
     }
+    true
+}
+
+// Whether two slots hold one name: then they have the same bytes, as zeros stand behind a name. Eight bytes are compared at once.
+fn same_slot(table: &[u8], j: usize, k: usize) -> bool
+    requires { ⌜ (tableLength ≤ length (now table)) × ((j < mostLabels) × (k < mostLabels)) ⌝ }
+    requires { ⌜ NameHeld (now table) j × NameHeld (now table) k ⌝ }
+    ensures { λ r. ⌜ Decides (nameAt (now (table .entry)) j ≡ nameAt (now (table .entry)) k) r ⌝ }
+{
+    let one = HEAD + j * NAME_SLOT;
+    let other = HEAD + k * NAME_SLOT;
+    if word(table, one) != word(table, other) {
+        return false;
+    }
+    word(table, one + 8) == word(table, other + 8)
+}
+
+// Eight bytes as a number, the low one first.
+fn word(bytes: &[u8], at: usize) -> u64
+    requires { ⌜ at + 8 ≤ length (now bytes) ⌝ }
+    ensures { λ r. ⌜ r ≡ numberAt 8 (now (bytes .entry)) at ⌝ }
+{
+    half(bytes, at) + half(bytes, at + 4) * 4294967296
+}
+
+// Four bytes.
+fn half(bytes: &[u8], at: usize) -> u64
+    requires { ⌜ at + 4 ≤ length (now bytes) ⌝ }
+    ensures { λ r. ⌜ r ≡ fourBytes (now (bytes .entry)) at ⌝ }
+    ensures { λ r. ⌜ r < 4294967296 ⌝ }
+{
+    let low = wide(bytes[at]) + wide(bytes[at + 1]) * 256;
+    let high = wide(bytes[at + 2]) + wide(bytes[at + 3]) * 256;
+    low + high * 65536
+}
+
+fn wide(byte: u8) -> u64
+    ensures { λ r. ⌜ r ≡ byte ⌝ }
+    ensures { λ r. ⌜ r < 256 ⌝ }
+{
+    byte as u64
 }
 
 fn transitions_held(table: &[u8]) -> bool

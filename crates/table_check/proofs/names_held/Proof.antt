@@ -1,16 +1,14 @@
 -- `names_held` meets its contract: the slots below k hold names, each a new one.
 use mathlib.Core.Path.{_≡_}
-use Prim.Native.Nat.{ℕ, _+_, _-_, _*_, _≤_, _<_}
+use Prim.Native.Nat.{ℕ, _-_, _≤_, _<_}
 use native.Mathlib.Omega.{arith}
 use borrow.Author.Count.{below-more}
 use borrow.Author.Tests.{not-true, not-false}
-use Rattle.lts.specs.Sizes.{mostLabels, nameSlotLength}
-use Rattle.lts.specs.inner.Sizes.{headLength}
+use Rattle.lts.specs.Sizes.{mostLabels}
 use Rattle.lts.specs.Steps.{labels}
-use Rattle.lts.specs.inner.Prepared.{tableIn, byteAt}
+use Rattle.lts.specs.inner.Prepared.{tableIn}
 use Rattle.lts.specs.inner.Check.{NameHeld, NewName}
 use Rattle.lts.proofs.Laws.Decides.{decided-yes, decided-no}
-use Rattle.lts.proofs.Laws.SlotNames.{name-few}
 use Rattle.table_check.proofs.names_held.Statement.{statement}
 use Rattle.table_check.proofs.names_held.Tie as tie
 
@@ -39,15 +37,12 @@ returns c =
 
 new-name-requires : tie.Need-new-name-requires Inv-loop μ-loop
 new-name-requires c κs =
-    let start = c .before .before .before .before .before .before in
-    let b = start .args .table .now in
-    let k = c .before .before .before .loop .k in
-    let inv = c .before .before .before .loop .inv in
-    let few : k < mostLabels = omega (arith, inv .1, start .pre .1, c .before .before .loop-test .taken) in
-    let byte = c .before .before .before .before .before .shared-slice-known .given in
-    let small : byteAt b (headLength + k * nameSlotLength) < 256 = omega (arith, byte (headLength + k * nameSlotLength)) in
+    let turn = c .before .before .before in
+    let start = turn .before .before .before in
+    let k = turn .loop .k in
+    let few : k < mostLabels = omega (arith, turn .loop .inv .1, start .pre .1, c .before .before .loop-test .taken) in
     let held = c .before .name-held .ensures .yes (not-false _ (c .if1 .left)) in
-    (start .pre .0, (few, name-few b (start .pre .0) k few small (held .name) .1))
+    (start .pre .0, (few, below-more (NameHeld (start .args .table .now)) k (λ j h. turn .loop .inv .2 j h .0) held))
 
 returns-2 : tie.Need-returns-2 Inv-loop μ-loop
 returns-2 c =

@@ -1,45 +1,59 @@
--- `new_name` meets its contract: the name in slot k is found among the names before it exactly if one of them is the same.
-use mathlib.Core.Path.{_≡_, sym, ap, _∙_}
-use mathlib.Core.List.{List}
-use Prim.Native.Nat.{ℕ}
-use lib.ListN.{take, drop}
-use Rattle.lts.specs.inner.Sizes.{namesLength}
-use Rattle.lts.specs.Names.{lookup}
+-- `new_name` meets its contract: the names before slot j are others than the one in slot k.
+use Prim.Native.Nat.{ℕ, _-_, _≤_, _<_}
+use native.Mathlib.Omega.{arith}
+use borrow.Author.Count.{below-more}
 use Rattle.lts.specs.inner.Prepared.{nameAt}
-use Rattle.lts.specs.inner.Slots.{storedNames}
-use Rattle.tables.specs.inner.Access.{foundIn}
-use Rattle.lts.specs.inner.Answers.{isSome}
+use Rattle.lts.specs.inner.Range.{Differ}
 use Rattle.lts.proofs.Laws.Decides.{decided-yes, decided-no}
-use Rattle.lts.proofs.Laws.SlotNames.{new-of, new-not}
-use borrow.Author.Needs.{needs}
 use Rattle.table_check.proofs.new_name.Statement.{statement}
 use Rattle.table_check.proofs.new_name.Tie as tie
 
--- The bytes that are looked for are the name in the slot.
-module _ (c : tie.After-find) where
-  abbrev entry : tie.Start
-  entry = c .before .before .before .before .before
+abbrev Inv-loop : tie.InvT-loop
+Inv-loop table k j₀ j = (j ≤ k) × ((i : ℕ) → i < j → Differ (nameAt table i) (nameAt table k))
 
-  abbrev names : List (List ℕ)
-  names = storedNames (take namesLength (drop 6 (entry .args .table .now))) (entry .args .k)
+abbrev μ-loop : tie.MeasureT-loop
+μ-loop table k j₀ j = k - j
 
-  sought : isSome (foundIn (c .find .result)) ≡ isSome (lookup names (nameAt (entry .args .table .now) (entry .args .k)))
-  sought = ap isSome (c .find .ensures) ∙ ap (λ n. isSome (lookup names n)) (c .before .before .before .name-span .ensures .name)
+loop-holds : tie.Need-loop-holds Inv-loop μ-loop
+loop-holds c = (omega arith, λ i h. absurd (omega arith))
 
-returns : tie.Need-returns
+same-slot-requires : tie.Need-same-slot-requires Inv-loop μ-loop
+same-slot-requires c κs =
+    let start = c .before .before .before in
+    let few = start .pre .1 .0 in
+    let held = start .pre .1 .1 in
+    let earlier = c .loop-test .taken in (
+      (start .pre .0, (omega (arith, few, earlier), few)),
+      (held (c .before .loop .j) (omega (arith, earlier)), held (start .args .k) (omega arith)),
+    )
+
+returns : tie.Need-returns Inv-loop μ-loop
 returns c =
-    let start = entry (c .before .before) in
-    decided-no (new-not (start .args .table .now) (start .pre .0) (start .args .k) (start .pre .1 .0) (start .pre .1 .1)
-    (sym (sought (c .before .before)) ∙ ap (λ r. isSome (foundIn r)) (c .enum-told .given .1)))
+    let turn = c .before .before .before in
+    decided-no (λ new. new (turn .loop .j) (c .before .before .loop-test .taken) (c .before .same-slot .ensures .yes (c .if1 .taken)))
 
-returns-2 : tie.Need-returns-2
+add-j : tie.Need-add-j Inv-loop μ-loop
+add-j c = omega arith
+
+loop-less : tie.Need-loop-less Inv-loop μ-loop
+loop-less c = omega arith
+
+loop-again : tie.Need-loop-again Inv-loop μ-loop
+loop-again c =
+    let turn = c .before .before .before in
+    let start = turn .before .before in
+    let b = start .args .table .now in (
+      omega (arith, c .before .before .loop-test .taken),
+      below-more (λ i. Differ (nameAt b i) (nameAt b (start .args .k))) (turn .loop .j) (turn .loop .inv .1)
+          (c .before .same-slot .ensures .no (c .if1 .left)),
+    )
+
+returns-2 : tie.Need-returns-2 Inv-loop μ-loop
 returns-2 c =
-    let start = entry (c .before .before) in
-    decided-yes (new-of (start .args .table .now) (start .pre .0) (start .args .k) (start .pre .1 .0) (start .pre .1 .1)
-    (sym (sought (c .before .before)) ∙ ap (λ r. isSome (foundIn r)) (c .enum-told2 .given .1)))
+    let inv = c .before .loop .inv in
+    decided-yes (λ i h. inv .1 i (omega (arith, inv .0, c .loop-test .left)))
 
 pub new-name-spec : {M : Type 1} → statement M
 new-name-spec =
     tie.close
-    (tie.spec (λ c κs. search needs) (λ c. search needs) (λ c. search needs) (λ c. search needs) (λ c. search needs) (λ c. search needs)
-    (λ c. search needs) (λ c κs. search needs) (λ c. search needs) (λ c. search needs) returns returns-2)
+    (tie.spec Inv-loop μ-loop loop-holds same-slot-requires returns add-j loop-less loop-again returns-2)

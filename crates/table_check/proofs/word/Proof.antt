@@ -1,0 +1,16 @@
+-- `word` meets its contract: eight bytes are two fours.
+use native.Mathlib.Omega.{arith}
+use borrow.Author.Needs.{needs}
+use Rattle.table_check.proofs.Laws.Words.{eight-bytes}
+use Rattle.table_check.proofs.word.Statement.{statement}
+use Rattle.table_check.proofs.word.Tie as tie
+
+returns : tie.Need-returns
+returns c =
+    let a = c .before .before .before .args in
+    omega (arith, eight-bytes (a .bytes .now) (a .at))
+
+pub word-spec : {M : Type 1} → statement M
+word-spec =
+    tie.close
+    (tie.spec (λ c κs. search needs) (λ c. search needs) (λ c κs. search needs) (λ c. search needs) (λ c. search needs) returns)
