@@ -1,88 +1,90 @@
 -- The beginnings of two texts get the answer that the whole texts get, but for the length of a formula of more than 512 bytes.
-use mathlib.Core.Path.{_≡_, refl, sym, ap, _∙_, subst}
+use mathlib.Core.Path.{_≡_, refl, ap, _∙_}
 use mathlib.Core.Bool.{Bool, true, false, cond}
 use mathlib.Core.List.{List}
-use Prim.Native.Nat.{ℕ, _≤_}
+use Prim.Native.Nat.{ℕ, _≤_, _<_}
 use native.Mathlib.Omega.{arith}
-use lib.Dec.{eqb, leb}
+use lib.Dec.{leb}
 use lib.ListN.{length, take, length-take}
 use lib.Seq.{take-all}
 use borrow.Author.Tests.{leb-true, leb-false, lt-leb, ne-eqb}
-use Rattle.explanations.specs.inner.Sizes.{keptLength}
 use Rattle.lts.specs.inner.Sizes.{enoughTableText}
 use Rattle.lts.specs.Reply.{Reply, accepted, refusal, unless, answers}
 use Rattle.lts.specs.Steps.{Table}
 use Rattle.lts.specs.Reading.{readTable}
 use Rattle.lts.proofs.Laws.Bounded.{reading-bounded}
-use Rattle.lts.proofs.Laws.Refusals.{Numbered, Between, numbered-answers, numbered-so, table-numbers}
+use Rattle.lts.proofs.Laws.Reading.{unless-to}
+use Rattle.lts.proofs.Laws.Refusals.{Numbered, Between, numbered-answers, numbered-so, table-numbers, unless-false}
+use Rattle.actl.specs.Sizes.{longestText}
 use Rattle.actl.specs.Formulas.{Formula}
-use Rattle.actl.specs.inner.Reader.{Result, read}
-use Rattle.actl.specs.inner.Reading.{onResult, readFormula}
+use Rattle.actl.specs.inner.Reader.{read}
+use Rattle.actl.specs.inner.Reading.{readUnlimited, readFormula}
 use Rattle.actl.proofs.Laws.Refusals.{result-numbers}
-use Rattle.automaton.specs.Listing.{Listing}
 use Rattle.automaton.specs.inner.Search.{listing}
 use Rattle.automaton.specs.Build.{fitted}
 use Rattle.automaton.proofs.Refusals.{fitted-numbers}
-use Rattle.explanations.specs.Explanation.{Explanation, andThen, explanation}
+use Rattle.explanations.specs.Explanation.{andThen, explanation}
 use Rattle.explanations.specs.inner.Printed.{withLength}
+use Rattle.explanations.specs.inner.Sizes.{keptLength}
 
 -- Replies that are no refusal 5.
-abbrev NotLength : ℕ → Type 0
+abbrev pub NotLength : ℕ → Type 0
 NotLength number = number ≡ 5 → ⊥
 
 abbrev Other : {A : Type 0} → Reply A → Type 0
 Other r = Numbered NotLength r
 
-table-other : (text : List ℕ) → Other (readTable text)
-table-other text = numbered-so (Between 1 4) NotLength (λ n h e. omega (arith, h .1)) (readTable text) (table-numbers text)
-
-result-other : (names : List (List ℕ)) (text : List ℕ) (r : Result) → Other (onResult names text r)
-result-other names text r = numbered-so (Between 6 9) NotLength (λ n h e. omega (arith, h .0)) (onResult names text r) (result-numbers names text r)
-
-fitted-other : (L : Listing) (rows edges : List ℕ) → Other (fitted L rows edges)
-fitted-other L rows edges = numbered-so (Between 11 12) NotLength (λ n h e. omega (arith, h .0)) (fitted L rows edges) (fitted-numbers L rows edges)
-
--- Such a reply stays as it is, and so does what comes of it.
-other-kept : (n : ℕ) (r : Reply Explanation) → Other r → withLength n r ≡ r
-other-kept n (accepted e) o = refl
+-- Such a reply stays as it is, and what comes of it is what comes of its value.
+other-kept : {A : Type 0} (n : ℕ) (r : Reply A) → Other r → withLength n r ≡ r
+other-kept n (accepted a) o = refl
 other-kept n (refusal k g) o = ap (λ b. refusal k (cond b n g)) (ne-eqb k 5 o)
 
-other-next : {A B : Type 0} (r : Reply A) (f : A → Reply B) → Other r → ((a : A) → Other (f a)) → Other (andThen r f)
-other-next (accepted a) f o h = h a
-other-next (refusal k g) f o h = o
+other-next : {A B : Type 0} (n : ℕ) (r : Reply A) (f g : A → Reply B) → Other r → ((a : A) → withLength n (f a) ≡ g a)
+    → withLength n (andThen r f) ≡ andThen r g
+other-next n (accepted a) f g o h = h a
+other-next n (refusal k m) f g o h = other-kept n (refusal k m) o
 
-module _ (rows edges : List ℕ) where
-  abbrev onFormula : Table → Reply Formula → Reply Explanation
-  onFormula t r = andThen r (λ F. answers (λ L. record { table = t; formula = F; list = L }) (fitted (listing t F) rows edges))
+-- Both texts read, then anything else.
+abbrev pub readings-then : {B : Type 0} → (Table → Formula → Reply B) → List ℕ → List ℕ → Reply B
+readings-then next table text = andThen (readTable table) (λ t. andThen (readFormula (t .names) text) (next t))
 
-  abbrev onTable : Reply Table → List ℕ → Reply Explanation
-  onTable r text = andThen r (λ t. onFormula t (readFormula (t .names) text))
-
-  formula-begun : (t : Table) (text : List ℕ) → withLength (length text) (onFormula t (readFormula (t .names) (take keptLength text))) ≡ onFormula t (readFormula (t .names) text)
+module _ {B : Type 0} (next : Table → Formula → Reply B) (other : (t : Table) (F : Formula) → Other (next t F)) where
+  formula-begun : (text : List ℕ) (t : Table)
+      → withLength (length text) (andThen (readFormula (t .names) (take keptLength text)) (next t))
+      ≡ andThen (readFormula (t .names) text) (next t)
   unfolding readFormula
-  formula-begun t text = by (leb (length text) 512) refl
+  formula-begun text t = by (leb n longestText) refl
     where
-      by : (b : Bool) → leb (length text) 512 ≡ b → withLength (length text) (onFormula t (readFormula (t .names) (take keptLength text))) ≡ onFormula t (readFormula (t .names) text)
+      n : ℕ
+      n = length text
+
+      head : List ℕ
+      head = take keptLength text
+
+      by : (b : Bool) → leb n longestText ≡ b
+          → withLength n (andThen (readFormula (t .names) head) (next t)) ≡ andThen (unless b 5 n (readUnlimited (t .names) text)) (next t)
       by true e =
-          let same : take keptLength text ≡ text = take-all keptLength text (omega (arith, leb-true (length text) 512 e)) in
-          let is : readFormula (t .names) text ≡ onResult (t .names) text (read text) = ap (λ b. unless b 5 (length text) (onResult (t .names) text (read text))) e in
-          ap (λ l. withLength (length text) (onFormula t (readFormula (t .names) l))) same
-          ∙ other-kept (length text) (onFormula t (readFormula (t .names) text))
-          (other-next (readFormula (t .names) text) _ (subst Other (sym is) (result-other (t .names) text (read text)))
-          (λ F. numbered-answers NotLength _ (fitted (listing t F) rows edges) (fitted-other (listing t F) rows edges)))
+          let all : head ≡ text = take-all keptLength text (omega (arith, leb-true n longestText e)) in
+          let is = ap (readFormula (t .names)) all ∙ unless-to (leb n longestText) 5 n (readUnlimited (t .names) text) e in
+          let numbers = result-numbers (t .names) text (read text) in
+          let o = numbered-so (Between 6 9) NotLength (λ k h d. omega (arith, h .0)) (readUnlimited (t .names) text) numbers in
+          ap (λ r. withLength n (andThen r (next t))) is
+          ∙ other-next n (readUnlimited (t .names) text) (next t) (next t) o (λ F. other-kept n (next t F) (other t F))
       by false e =
-          let long = leb-false (length text) 512 e in
-          let begun : readFormula (t .names) (take keptLength text) ≡ refusal 5 (length (take keptLength text)) =
-          ap (λ b. unless b 5 (length (take keptLength text)) (onResult (t .names) (take keptLength text) (read (take keptLength text))))
-          (lt-leb (length (take keptLength text)) 512 (omega (arith, length-take keptLength text))) in
-          let is : readFormula (t .names) text ≡ refusal 5 (length text) = ap (λ b. unless b 5 (length text) (onResult (t .names) text (read text))) e in
-          ap (λ r. withLength (length text) (onFormula t r)) begun ∙ sym (ap (onFormula t) is)
+          let long : longestText < length head = omega (arith, leb-false n longestText e, length-take keptLength text) in
+          ap (λ r. withLength n (andThen r (next t)))
+          (unless-false (leb (length head) longestText) 5 (length head) (readUnlimited (t .names) head) (lt-leb (length head) longestText long))
 
-  table-begun : (r : Reply Table) → Other r → (text : List ℕ) → withLength (length text) (onTable r (take keptLength text)) ≡ onTable r text
-  table-begun (accepted t) o text = formula-begun t text
-  table-begun (refusal k g) o text = other-kept (length text) (refusal k g) o
+  pub texts-begun : (m : ℕ) (table text : List ℕ) → enoughTableText ≤ m
+      → withLength (length text) (readings-then next (take m table) (take keptLength text)) ≡ readings-then next table text
+  texts-begun m table text h =
+      let o = numbered-so (Between 1 4) NotLength (λ n h d. omega (arith, h .1)) (readTable table) (table-numbers table) in
+      ap (λ r. withLength (length text) (andThen r (λ t. andThen (readFormula (t .names) (take keptLength text)) (next t))))
+      (reading-bounded m table h) ∙ other-next (length text) (readTable table) _ _ o (formula-begun text)
 
-  pub explanation-begun : (m : ℕ) (table text : List ℕ) → enoughTableText ≤ m
-      → withLength (length text) (explanation (take m table) (take keptLength text) rows edges) ≡ explanation table text rows edges
-  explanation-begun m table text h =
-      ap (λ r. withLength (length text) (onTable r (take keptLength text))) (reading-bounded m table h) ∙ table-begun (readTable table) (table-other table) text
+pub explanation-begun : (rows edges : List ℕ) (m : ℕ) (table text : List ℕ) → enoughTableText ≤ m
+    → withLength (length text) (explanation (take m table) (take keptLength text) rows edges) ≡ explanation table text rows edges
+explanation-begun rows edges =
+    texts-begun _ (λ t F.
+    let r = fitted (listing t F) rows edges in
+    numbered-answers NotLength _ r (numbered-so (Between 11 12) NotLength (λ n h d. omega (arith, h .0)) r (fitted-numbers (listing t F) rows edges)))

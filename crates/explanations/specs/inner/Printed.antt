@@ -10,7 +10,7 @@ use Rattle.columns.specs.Lines.{numbersLine}
 use Rattle.lts.specs.inner.Lists.{upFrom}
 use Rattle.lts.specs.Lists.{bind}
 use Rattle.lts.specs.Reply.{Reply, accepted, refusal, overwritten}
-use Rattle.explanations.specs.Explanation.{Summary, Explanation}
+use Rattle.explanations.specs.Explanation.{Summary}
 use Rattle.explanations.specs.Printed.{edgeLine, summaryLine}
 
 -- The same from the bytes in the lent places.
@@ -35,6 +35,6 @@ pub record TextWritten (text before out : List ℕ) (end : ℕ) : Type 0 where
   pub ends : end ≡ length text
 
 -- A reply about the beginning of a formula of `n` bytes. "formula over 512 bytes": 5, "its length"
-abbrev pub withLength : ℕ → Reply Explanation → Reply Explanation
-withLength n (accepted e) = accepted e
+abbrev pub withLength : {A : Type 0} → ℕ → Reply A → Reply A
+withLength n (accepted a) = accepted a
 withLength n (refusal number figure) = refusal number (cond (eqb number 5) n figure)
