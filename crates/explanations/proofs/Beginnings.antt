@@ -9,7 +9,7 @@ use lib.ListN.{length, take, length-take}
 use lib.Seq.{take-all}
 use borrow.Author.Tests.{leb-true, leb-false, lt-leb, ne-eqb}
 use Rattle.lts.specs.inner.Sizes.{enoughTableText}
-use Rattle.lts.specs.Reply.{Reply, accepted, refusal, unless, answers}
+use Rattle.lts.specs.Reply.{Reply, accepted, refusal, unless}
 use Rattle.lts.specs.Steps.{Table}
 use Rattle.lts.specs.Reading.{readTable}
 use Rattle.lts.proofs.Laws.Bounded.{reading-bounded}
@@ -34,7 +34,7 @@ NotLength number = number ≡ 5 → ⊥
 abbrev Other : {A : Type 0} → Reply A → Type 0
 Other r = Numbered NotLength r
 
--- Such a reply stays as it is, and what comes of it is what comes of its value.
+-- Such a reply stays as it is; only what comes of its value may get the length.
 other-kept : {A : Type 0} (n : ℕ) (r : Reply A) → Other r → withLength n r ≡ r
 other-kept n (accepted a) o = refl
 other-kept n (refusal k g) o = ap (λ b. refusal k (cond b n g)) (ne-eqb k 5 o)
@@ -48,6 +48,7 @@ other-next n (refusal k m) f g o h = other-kept n (refusal k m) o
 abbrev pub readings-then : {B : Type 0} → (Table → Formula → Reply B) → List ℕ → List ℕ → Reply B
 readings-then next table text = andThen (readTable table) (λ t. andThen (readFormula (t .names) text) (next t))
 
+-- If that is never refused with 5, the beginnings get the answer of the whole texts.
 module _ {B : Type 0} (next : Table → Formula → Reply B) (other : (t : Table) (F : Formula) → Other (next t F)) where
   formula-begun : (text : List ℕ) (t : Table)
       → withLength (length text) (andThen (readFormula (t .names) (take keptLength text)) (next t))
@@ -61,19 +62,22 @@ module _ {B : Type 0} (next : Table → Formula → Reply B) (other : (t : Table
       head : List ℕ
       head = take keptLength text
 
+      unlimited : List ℕ → Reply Formula
+      unlimited = readUnlimited (t .names)
+
       by : (b : Bool) → leb n longestText ≡ b
-          → withLength n (andThen (readFormula (t .names) head) (next t)) ≡ andThen (unless b 5 n (readUnlimited (t .names) text)) (next t)
+          → withLength n (andThen (readFormula (t .names) head) (next t)) ≡ andThen (unless b 5 n (unlimited text)) (next t)
       by true e =
           let all : head ≡ text = take-all keptLength text (omega (arith, leb-true n longestText e)) in
-          let is = ap (readFormula (t .names)) all ∙ unless-to (leb n longestText) 5 n (readUnlimited (t .names) text) e in
+          let is = ap (readFormula (t .names)) all ∙ unless-to (leb n longestText) 5 n (unlimited text) e in
           let numbers = result-numbers (t .names) text (read text) in
-          let o = numbered-so (Between 6 9) NotLength (λ k h d. omega (arith, h .0)) (readUnlimited (t .names) text) numbers in
+          let o = numbered-so (Between 6 9) NotLength (λ k h d. omega (arith, h .0)) (unlimited text) numbers in
           ap (λ r. withLength n (andThen r (next t))) is
-          ∙ other-next n (readUnlimited (t .names) text) (next t) (next t) o (λ F. other-kept n (next t F) (other t F))
+          ∙ other-next n (unlimited text) (next t) (next t) o (λ F. other-kept n (next t F) (other t F))
       by false e =
           let long : longestText < length head = omega (arith, leb-false n longestText e, length-take keptLength text) in
-          ap (λ r. withLength n (andThen r (next t)))
-          (unless-false (leb (length head) longestText) 5 (length head) (readUnlimited (t .names) head) (lt-leb (length head) longestText long))
+          let is = unless-false (leb (length head) longestText) 5 (length head) (unlimited head) (lt-leb (length head) longestText long) in
+          ap (λ r. withLength n (andThen r (next t))) is
 
   pub texts-begun : (m : ℕ) (table text : List ℕ) → enoughTableText ≤ m
       → withLength (length text) (readings-then next (take m table) (take keptLength text)) ≡ readings-then next table text
@@ -87,4 +91,5 @@ pub explanation-begun : (rows edges : List ℕ) (m : ℕ) (table text : List ℕ
 explanation-begun rows edges =
     texts-begun _ (λ t F.
     let r = fitted (listing t F) rows edges in
-    numbered-answers NotLength _ r (numbered-so (Between 11 12) NotLength (λ n h d. omega (arith, h .0)) r (fitted-numbers (listing t F) rows edges)))
+    let o = numbered-so (Between 11 12) NotLength (λ n h d. omega (arith, h .0)) r (fitted-numbers (listing t F) rows edges) in
+    numbered-answers NotLength _ r o)
