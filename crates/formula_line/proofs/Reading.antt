@@ -32,7 +32,7 @@ use Rattle.formula_line.specs.LineText.{writtenBack}
 use Rattle.formula_line.specs.inner.Back.{WroteBack}
 
 -- A reply that goes on with what was accepted refuses with the numbers of both.
-pub numbered-next : {A B : Type 0} (P : ℕ → Type 0) (r : Reply A) (f : A → Reply B) → Numbered P r → ((a : A) → Numbered P (f a))
+numbered-next : {A B : Type 0} (P : ℕ → Type 0) (r : Reply A) (f : A → Reply B) → Numbered P r → ((a : A) → Numbered P (f a))
     → Numbered P (andThen r f)
 numbered-next P (accepted a) f o h = h a
 numbered-next P (refusal n g) f o h = o
