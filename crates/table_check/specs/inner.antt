@@ -1,2 +1,3 @@
 pub mod Filled
+pub mod Keys
 pub mod Words

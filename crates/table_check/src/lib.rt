@@ -10,7 +10,6 @@ use lts::sizes::TRANSITIONS;
 use lts::sizes::TRANSITIONS_AT;
 use tables::names::name_span;
 use tables::names::read_name;
-use tables::prepared::below;
 use tables::prepared::label_count;
 use tables::prepared::start_state;
 use tables::prepared::state_count;
@@ -21,11 +20,12 @@ ghost use Prim.Native.Nat.{_+_, _*_, _≤_, _<_};
 ghost use lib.ListN.{length};
 ghost use Rattle.lts.specs.Sizes.{mostLabels, mostTransitions, tableLength};
 ghost use Rattle.lts.specs.Steps.{labels};
-ghost use Rattle.lts.specs.inner.Prepared.{tableIn, nameAt, preparedTable};
-ghost use Rattle.lts.specs.inner.Answers.{Decides, isSome};
+ghost use Rattle.lts.specs.inner.Prepared.{tableIn, nameAt, transitionAt, preparedTable};
+ghost use Rattle.lts.specs.inner.Answers.{Counted, Decides, isSome};
 ghost use Rattle.table_check.specs.inner.Filled.{NamesFilled, TransitionsFilled};
+ghost use Rattle.table_check.specs.inner.Keys.{stepKey, SlotHeld};
 ghost use Rattle.table_check.specs.inner.Words.{fourBytes, numberAt, HeldBefore};
-ghost use Rattle.lts.specs.inner.Check.{ZerosFrom, CountsHeld, NameHeld, NewName, NamesHeld, TransitionHeld, TransitionsHeld};
+ghost use Rattle.lts.specs.inner.Check.{ZerosFrom, CountsHeld, NameHeld, NewName, NamesHeld, TransitionsHeld};
 
 pub fn is_prepared(table: &[u8]) -> bool
     ensures { λ r. ⌜ r ≡ isSome (preparedTable (now (table .entry))) ⌝ }
@@ -195,6 +195,7 @@ fn wide(byte: u8) -> u64
     byte as u64
 }
 
+// Keys rise from slot to slot, so the last one tells whether all transitions leave states.
 fn transitions_held(table: &[u8]) -> bool
     requires { ⌜ (tableLength ≤ length (now table)) × (length (tableIn (now table) .transitions) ≤ mostTransitions) ⌝ }
     ensures { λ r. ⌜ Decides (TransitionsHeld (now (table .entry))) r ⌝ }
@@ -202,32 +203,37 @@ fn transitions_held(table: &[u8]) -> bool
     let n = transition_count(table);
     let states = state_count(table);
     let most = label_count(table);
+    let mut least: usize = 0;
     let mut k: usize = 0;
     while k < n {
-        if !transition_held(table, states, most, k) {
+        if !slot_held(table, states, most, least, k) {
             return false;
         }
+        least = step_key(table, k) + 1;
         k += 1;
     }
-    true
+    least <= states * 65536
 }
 
-fn transition_held(table: &[u8], states: usize, most: usize, k: usize) -> bool
+fn slot_held(table: &[u8], states: usize, most: usize, least: usize, k: usize) -> bool
     requires { ⌜ (tableLength ≤ length (now table)) × (k < mostTransitions) ⌝ }
-    ensures { λ r. ⌜ Decides (TransitionHeld (now (table .entry)) states most k) r ⌝ }
+    ensures { λ r. ⌜ Decides (SlotHeld (now (table .entry)) states most least k) r ⌝ }
 {
     let here = transition_at(table, k);
-    if states <= here.from {
+    if states <= here.to {
         return false;
     }
     if most < here.label {
         return false;
     }
-    if states <= here.to {
-        return false;
-    }
-    if k == 0 {
-        return true;
-    }
-    below(transition_at(table, k - 1), here)
+    least <= step_key(table, k)
+}
+
+// The transition in slot k as one number: they rise as these do.
+fn step_key(table: &[u8], k: usize) -> usize
+    requires { ⌜ (tableLength ≤ length (now table)) × (k < mostTransitions) ⌝ }
+    ensures { λ r. ⌜ Counted 16777216 (stepKey (transitionAt (now (table .entry)) k)) r ⌝ }
+{
+    let here = transition_at(table, k);
+    (here.from * 256 + here.label) * 256 + here.to
 }

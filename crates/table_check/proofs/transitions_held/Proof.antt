@@ -1,30 +1,33 @@
--- `transitions_held` meets its contract: the transitions below k are as they must be.
-use mathlib.Core.Path.{_≡_, sym, subst₂}
+-- `transitions_held` meets its contract: the slots below k are passed, and `least` is above the key of the last of them.
+use mathlib.Core.Path.{_≡_, refl, sym, subst₂}
 use mathlib.Core.List.{List}
-use Prim.Native.Nat.{ℕ, _-_, _≤_, _<_}
+use Prim.Native.Nat.{ℕ, _+_, _-_, _*_, _≤_, _<_}
 use native.Mathlib.Omega.{arith}
+use lib.Dec.{leb}
 use lib.ListN.{length}
 use borrow.Author.Count.{below-more}
-use borrow.Author.Tests.{not-true, not-false}
+use borrow.Author.Tests.{not-true, not-false, leb-true, le-leb}
 use Rattle.lts.specs.Steps.{labels}
-use Rattle.lts.specs.inner.Prepared.{tableIn}
+use Rattle.lts.specs.inner.Prepared.{byteAt, tableIn}
 use Rattle.lts.specs.inner.Check.{TransitionHeld}
-use Rattle.lts.proofs.Laws.Decides.{decided-yes, decided-no}
+use Rattle.lts.proofs.Laws.Decides.{decided-no, decided-test}
+use Rattle.table_check.proofs.Laws.Keys.{Least, Passed, least-next, passed-more, slot-passed, passed-held, held-slot, held-last}
 use Rattle.table_check.proofs.transitions_held.Statement.{statement}
 use Rattle.table_check.proofs.transitions_held.Tie as tie
 
-record Held (table : List ℕ) (n states most k : ℕ) : Type 0 where
+record Held (table : List ℕ) (n states most least k : ℕ) : Type 0 where
   few : k ≤ n
   count : n ≡ length (tableIn table .transitions)
   states-are : states ≡ tableIn table .states
   most-is : most ≡ labels (tableIn table)
-  done : (j : ℕ) → j < k → TransitionHeld table states most j
+  next : Least table k least
+  done : (j : ℕ) → j < k → Passed table states most least j
 
 abbrev Inv-loop : tie.InvT-loop
-Inv-loop table n states most k₀ k = Held table n states most k
+Inv-loop table n states most least₀ k₀ least k = Held table n states most least k
 
 abbrev μ-loop : tie.MeasureT-loop
-μ-loop table n states most k₀ k = n - k
+μ-loop table n states most least₀ k₀ least k = n - k
 
 transition-count-requires : tie.Need-transition-count-requires Inv-loop μ-loop
 transition-count-requires c κs = c .before .pre .0
@@ -41,22 +44,35 @@ loop-holds c = record {
   count = c .before .before .transition-count .ensures .count;
   states-are = c .before .state-count .ensures .count;
   most-is = c .label-count .ensures .count;
+  next = record { first = λ z. refl; later = λ j e. absurd (omega arith) };
   done = λ j h. absurd (omega arith);
 }
 
-transition-held-requires : tie.Need-transition-held-requires Inv-loop μ-loop
-transition-held-requires c κs =
+slot-held-requires : tie.Need-slot-held-requires Inv-loop μ-loop
+slot-held-requires c κs =
     let start = c .before .before .before .before .before .before in
     (start .pre .0, omega (arith, c .loop-test .taken, c .before .loop .inv .count, start .pre .1))
 
 returns : tie.Need-returns Inv-loop μ-loop
 returns c =
-    let start = c .before .before .before .before .before .before .before .before in
-    let inv = c .before .before .before .loop .inv in
-    let k = c .before .before .before .loop .k in
-    decided-no (λ h. c .before .transition-held .ensures .no (not-true _ (c .if1 .taken))
-    (subst₂ (λ (s m : ℕ). TransitionHeld (start .args .table .now) s m k) (sym (inv .states-are)) (sym (inv .most-is))
-    (h k (omega (arith, inv .count, c .before .before .loop-test .taken)))))
+    let turn = c .before .before .before in
+    let known = turn .before .before .before .before in
+    let table = known .before .args .table .now in
+    let inv = turn .loop .inv in
+    let k = turn .loop .k in
+    decided-no (λ h. c .before .slot-held .ensures .no (not-true _ (c .if1 .taken))
+    (held-slot table (λ i. omega (arith, known .shared-slice-known .given i)) _ _ (turn .loop .least) k (inv .next)
+    (subst₂ (λ (s m : ℕ). TransitionHeld table s m k) (sym (inv .states-are)) (sym (inv .most-is))
+    (h k (omega (arith, inv .count, c .before .before .loop-test .taken))))))
+
+step-key-requires : tie.Need-step-key-requires Inv-loop μ-loop
+step-key-requires c κs =
+    let turn = c .before .before .before in
+    let start = turn .before .before .before .before .before in
+    (start .pre .0, omega (arith, c .before .before .loop-test .taken, turn .loop .inv .count, start .pre .1))
+
+add-least : tie.Need-add-least Inv-loop μ-loop
+add-least c = omega (arith, c .step-key .ensures .fits)
 
 add-k : tie.Need-add-k Inv-loop μ-loop
 add-k c = omega arith
@@ -66,27 +82,44 @@ loop-less c = omega arith
 
 loop-again : tie.Need-loop-again Inv-loop μ-loop
 loop-again c =
-    let start = c .before .before .before .before .before .before .before .before in
-    let inv = c .before .before .before .loop .inv in
+    let turn = c .before .before .before .before in
+    let known = turn .before .before .before .before in
+    let table = known .before .args .table .now in
+    let inv = turn .loop .inv in
+    let k = turn .loop .k in
+    let key = c .step-key .ensures .count in
+    let slot = c .before .before .slot-held .ensures .yes (not-false _ (c .before .if1 .left)) in
+    let byte : (i : ℕ) → byteAt table i < 256 = λ i. omega (arith, known .shared-slice-known .given i) in
     record {
       few = omega arith;
       count = inv .count;
       states-are = inv .states-are;
       most-is = inv .most-is;
-      done = below-more (λ j. TransitionHeld (start .args .table .now) _ _ j) (c .before .before .before .loop .k) (inv .done)
-          (c .before .transition-held .ensures .yes (not-false _ (c .if1 .left)));
+      next = least-next table k (c .step-key .result) key;
+      done = below-more (λ j. Passed table _ _ (c .step-key .result + 1) j) k
+          (λ j h. passed-more (turn .loop .least) _ j (omega (arith, key, slot .rises)) (inv .done j h))
+          (slot-passed table byte _ _ (turn .loop .least) k (c .step-key .result) key (inv .next) slot);
     }
+
+mul-result : tie.Need-mul-result Inv-loop μ-loop
+mul-result c = omega (arith, c .before .before .before .state-count .ensures .fits)
 
 returns-2 : tie.Need-returns-2 Inv-loop μ-loop
 returns-2 c =
-    let start = c .before .before .before .before .before .before in
-    let inv = c .before .loop .inv in
-    decided-yes (λ k h.
-    subst₂ (λ (s m : ℕ). TransitionHeld (start .args .table .now) s m k) (inv .states-are) (inv .most-is)
-    (inv .done k (omega (arith, inv .count, c .loop-test .left))))
+    let turn = c .before in
+    let known = turn .before .before .before .before in
+    let table = known .before .args .table .now in
+    let inv = turn .loop .inv in
+    let states = turn .before .before .state-count .result in
+    let byte : (i : ℕ) → byteAt table i < 256 = λ i. omega (arith, known .shared-slice-known .given i) in
+    decided-test _ (leb (turn .loop .least) (states * 65536)) refl
+    (λ e k h. subst₂ (λ (s m : ℕ). TransitionHeld table s m k) (inv .states-are) (inv .most-is)
+    (passed-held table byte states _ (turn .loop .least) k (leb-true _ _ e) (inv .done k (omega (arith, inv .count, c .loop-test .left)))))
+    (λ h. le-leb _ _ (held-last table byte states _ (turn .loop .least) (turn .loop .k) (inv .next) (λ k l.
+    subst₂ (λ (s m : ℕ). TransitionHeld table s m k) (sym (inv .states-are)) (sym (inv .most-is)) (h k (omega (arith, inv .count, inv .few))))))
 
 pub transitions-held-spec : {M : Type 1} → statement M
 transitions-held-spec =
     tie.close
-    (tie.spec Inv-loop μ-loop transition-count-requires state-count-requires label-count-requires loop-holds transition-held-requires
-    returns add-k loop-less loop-again returns-2)
+    (tie.spec Inv-loop μ-loop transition-count-requires state-count-requires label-count-requires loop-holds slot-held-requires
+    returns step-key-requires add-least add-k loop-less loop-again mul-result returns-2)
