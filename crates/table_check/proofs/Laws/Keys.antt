@@ -16,7 +16,8 @@ use Rattle.table_check.specs.inner.Keys.{stepKey, SlotHeld}
 key-below : (a b : Step) → b .label < 256 → b .to < 256 → stepKey a < stepKey b → Below a b
 key-below a b l t h = state (eq-or-lt-of-le (omega arith))
   where
-    label : a .from ≡ b .from → (a .label ≡ b .label) ⊎ (a .label < b .label) → (a .label < b .label) ⊎ ((a .label ≡ b .label) × (a .to < b .to))
+    label : a .from ≡ b .from → (a .label ≡ b .label) ⊎ (a .label < b .label)
+        → (a .label < b .label) ⊎ ((a .label ≡ b .label) × (a .to < b .to))
     label e (inl d) = inr (d, omega arith)
     label e (inr m) = inl m
 
@@ -50,7 +51,8 @@ least-next b k key e = record {
       omega (arith, e, keys);
 }
 
-pub passed-more : {b : List ℕ} {states most : ℕ} (least more k : ℕ) → least ≤ more → Passed b states most least k → Passed b states most more k
+pub passed-more : {b : List ℕ} {states most : ℕ} (least more k : ℕ) → least ≤ more → Passed b states most least k
+    → Passed b states most more k
 passed-more least more k m p = record { labelled = p .labelled; enters = p .enters; rises = p .rises; under = omega (arith, p .under) }
 
 module _ (b : List ℕ) (byte : (i : ℕ) → byteAt b i < 256) (states most : ℕ) where
@@ -60,7 +62,8 @@ module _ (b : List ℕ) (byte : (i : ℕ) → byteAt b i < 256) (states most : �
   to-byte : (k : ℕ) → transitionAt b k .to < 256
   to-byte k = byte ((transitionsAt + 2) + k * transitionLength)
 
-  pub slot-passed : (least k key : ℕ) → key ≡ stepKey (transitionAt b k) → Least b k least → SlotHeld b states most least k → Passed b states most (key + 1) k
+  pub slot-passed : (least k key : ℕ) → key ≡ stepKey (transitionAt b k) → Least b k least → SlotHeld b states most least k
+      → Passed b states most (key + 1) k
   slot-passed least k key same l s = record {
     labelled = s .labelled;
     enters = s .enters;
@@ -75,7 +78,8 @@ module _ (b : List ℕ) (byte : (i : ℕ) → byteAt b i < 256) (states most : �
   pub held-slot : (least k : ℕ) → Least b k least → TransitionHeld b states most k → SlotHeld b states most least k
   held-slot least k l h = record { labelled = h .labelled; enters = h .enters; rises = above k l (h .rises) }
     where
-      above : (k : ℕ) → Least b k least → ((j : ℕ) → suc j ≡ k → Below (transitionAt b j) (transitionAt b k)) → least ≤ stepKey (transitionAt b k)
+      above : (k : ℕ) → Least b k least → ((j : ℕ) → suc j ≡ k → Below (transitionAt b j) (transitionAt b k))
+          → least ≤ stepKey (transitionAt b k)
       above zero l r = omega (arith, l .first refl)
       above (suc j) l r = omega (arith, l .later j refl, below-key (transitionAt b j) (transitionAt b (suc j)) (label-byte j) (to-byte j) (r j refl))
 

@@ -1,6 +1,6 @@
 -- `step_key` meets its contract: the key of three bytes has three bytes.
-use native.Mathlib.Omega.{arith}
 use mathlib.Core.Path.{ap}
+use native.Mathlib.Omega.{arith}
 use borrow.Author.Needs.{needs}
 use Rattle.table_check.specs.inner.Keys.{stepKey}
 use Rattle.table_check.proofs.step_key.Statement.{statement}

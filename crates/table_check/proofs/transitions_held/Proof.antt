@@ -114,7 +114,8 @@ returns-2 c =
     let byte : (i : ℕ) → byteAt table i < 256 = λ i. omega (arith, known .shared-slice-known .given i) in
     decided-test _ (leb (turn .loop .least) (states * 65536)) refl
     (λ e k h. subst₂ (λ (s m : ℕ). TransitionHeld table s m k) (inv .states-are) (inv .most-is)
-    (passed-held table byte states _ (turn .loop .least) k (leb-true _ _ e) (inv .done k (omega (arith, inv .count, c .loop-test .left)))))
+    (passed-held table byte states _ (turn .loop .least) k (leb-true _ _ e)
+    (inv .done k (omega (arith, inv .count, c .loop-test .left)))))
     (λ h. le-leb _ _ (held-last table byte states _ (turn .loop .least) (turn .loop .k) (inv .next) (λ k l.
     subst₂ (λ (s m : ℕ). TransitionHeld table s m k) (sym (inv .states-are)) (sym (inv .most-is)) (h k (omega (arith, inv .count, inv .few))))))
 

@@ -1,4 +1,5 @@
--- A transition as one number, and what the test of a slot asks by it. proofs/Laws/Keys.antt: of bytes, these numbers rise as the transitions do.
+-- A transition as one number, and what the test of a slot asks by it.
+-- proofs/Laws/Keys.antt: of bytes, these numbers rise as the transitions do.
 use mathlib.Core.List.{List}
 use Prim.Native.Nat.{ℕ, _+_, _*_, _≤_, _<_}
 use Rattle.lts.specs.Steps.{Step}
