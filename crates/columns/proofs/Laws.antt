@@ -9,3 +9,4 @@ pub mod Figures
 pub mod Pasted
 pub mod Pasting
 pub mod Scan
+pub mod Words

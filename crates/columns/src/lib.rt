@@ -1,4 +1,5 @@
 // Numbers in six columns: the form of every number in the texts of tables and listings.
+pub mod words;
 pub mod write;
 
 ghost use mathlib.Core.Path.{_≡_};

@@ -1,16 +1,17 @@
 // A prepared formula's nodes: how many there are, and each node's kind with its step condition, read and written.
 use actl::sizes::NODE_SLOT;
+use columns::words::word;
 ghost use mathlib.Core.Path.{_≡_};
 ghost use mathlib.Core.Bool.{true};
 ghost use Prim.Native.Nat.{_+_, _*_, _<_, _≤_};
-ghost use lib.ListN.{length, getD, drop};
+ghost use lib.ListN.{length, getD};
 ghost use Rattle.columns.specs.Bytes.{lowFirst};
 ghost use Rattle.columns.specs.inner.Write.{pasted};
 ghost use Rattle.actl.specs.Sizes.{mostNodes, nodeSlotLength, formulaLength};
-ghost use Rattle.actl.specs.inner.Prepared.{number, slotAt};
+ghost use Rattle.actl.specs.inner.Prepared.{slotAt};
 ghost use Rattle.actl.specs.Prepared.{slot, nextSlot};
 ghost use Rattle.actl.specs.inner.NodeBytes.{putAt};
-ghost use Rattle.formulas.specs.inner.Access.{fourBytes, condIn, slotOfNode};
+ghost use Rattle.formulas.specs.inner.Access.{condIn, slotOfNode};
 ghost use Rattle.actl.specs.inner.Shaped.{shaped};
 
 // 01: "A step condition is either the silent step or a set of labels." Bit a of a mask is label a.
@@ -30,45 +31,19 @@ pub enum Node {
     UntilThen(u64, u64),
 }
 
-fn wide(byte: u8) -> u64
-    ensures { λ r. ⌜ r ≡ byte ⌝ }
-    ensures { λ r. ⌜ r < 256 ⌝ }
-{
-    byte as u64
-}
-
-// Four bytes as a number, the low one first.
-fn half(formula: &[u8], at: usize) -> u64
-    requires { ⌜ at + 4 ≤ length (now formula) ⌝ }
-    ensures { λ r. ⌜ r ≡ fourBytes (now (formula .entry)) at ⌝ }
-    ensures { λ r. ⌜ r < 4294967296 ⌝ }
-{
-    let low = wide(formula[at]) + wide(formula[at + 1]) * 256;
-    let high = wide(formula[at + 2]) + wide(formula[at + 3]) * 256;
-    low + high * 65536
-}
-
-// Eight bytes as a number, the low one first: a label mask.
-fn mask(formula: &[u8], at: usize) -> u64
-    requires { ⌜ at + 8 ≤ length (now formula) ⌝ }
-    ensures { λ r. ⌜ r ≡ number 8 (drop at (now (formula .entry))) ⌝ }
-{
-    half(formula, at) + half(formula, at + 4) * 4294967296
-}
-
 // The masks in the slot of node k.
 pub fn first_mask(formula: &[u8], k: usize) -> u64
     requires { ⌜ (formulaLength ≤ length (now formula)) × (k < mostNodes) ⌝ }
     ensures { λ r. ⌜ r ≡ slotAt (now (formula .entry)) k .first ⌝ }
 {
-    mask(formula, 2 + k * NODE_SLOT)
+    word(formula, 2 + k * NODE_SLOT)
 }
 
 pub fn second_mask(formula: &[u8], k: usize) -> u64
     requires { ⌜ (formulaLength ≤ length (now formula)) × (k < mostNodes) ⌝ }
     ensures { λ r. ⌜ r ≡ slotAt (now (formula .entry)) k .second ⌝ }
 {
-    mask(formula, 10 + k * NODE_SLOT)
+    word(formula, 10 + k * NODE_SLOT)
 }
 
 pub fn node_count(formula: &[u8]) -> usize

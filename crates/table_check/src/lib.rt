@@ -1,4 +1,5 @@
 // Whether bytes are a prepared table: the counts, each name's slot, each transition's slot, and zeros in the slots that are not used.
+use columns::words::word;
 use lts::sizes::HEAD;
 use lts::sizes::LABELS;
 use lts::sizes::NAME_SLOT;
@@ -22,9 +23,8 @@ ghost use Rattle.lts.specs.Sizes.{mostLabels, mostTransitions, tableLength};
 ghost use Rattle.lts.specs.Steps.{labels};
 ghost use Rattle.lts.specs.inner.Prepared.{tableIn, nameAt, transitionAt, preparedTable};
 ghost use Rattle.lts.specs.inner.Answers.{Counted, Decides, isSome};
-ghost use Rattle.table_check.specs.inner.Filled.{NamesFilled, TransitionsFilled};
+ghost use Rattle.table_check.specs.inner.Filled.{HeldBefore, NamesFilled, TransitionsFilled};
 ghost use Rattle.table_check.specs.inner.Keys.{stepKey, SlotHeld};
-ghost use Rattle.table_check.specs.inner.Words.{fourBytes, numberAt, HeldBefore};
 ghost use Rattle.lts.specs.inner.Check.{ZerosFrom, CountsHeld, NameHeld, NewName, NamesHeld, TransitionsHeld};
 
 pub fn is_prepared(table: &[u8]) -> bool
@@ -167,32 +167,6 @@ fn same_slot(table: &[u8], j: usize, k: usize) -> bool
         return false;
     }
     word(table, one + 8) == word(table, other + 8)
-}
-
-// Eight bytes as a number, the low one first.
-fn word(bytes: &[u8], at: usize) -> u64
-    requires { ⌜ at + 8 ≤ length (now bytes) ⌝ }
-    ensures { λ r. ⌜ r ≡ numberAt 8 (now (bytes .entry)) at ⌝ }
-{
-    half(bytes, at) + half(bytes, at + 4) * 4294967296
-}
-
-// Four bytes.
-fn half(bytes: &[u8], at: usize) -> u64
-    requires { ⌜ at + 4 ≤ length (now bytes) ⌝ }
-    ensures { λ r. ⌜ r ≡ fourBytes (now (bytes .entry)) at ⌝ }
-    ensures { λ r. ⌜ r < 4294967296 ⌝ }
-{
-    let low = wide(bytes[at]) + wide(bytes[at + 1]) * 256;
-    let high = wide(bytes[at + 2]) + wide(bytes[at + 3]) * 256;
-    low + high * 65536
-}
-
-fn wide(byte: u8) -> u64
-    ensures { λ r. ⌜ r ≡ byte ⌝ }
-    ensures { λ r. ⌜ r < 256 ⌝ }
-{
-    byte as u64
 }
 
 // Keys rise from slot to slot, so the last one tells whether all transitions leave states.

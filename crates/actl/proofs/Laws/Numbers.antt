@@ -1,21 +1,13 @@
 -- Numbers in bytes, the low byte first: from the bytes to the number and back.
 use mathlib.Core.Path.{_≡_, refl}
 use mathlib.Core.List.{List, _++_}
-use Prim.Native.Nat.{ℕ, zero, suc, _+_, _*_, _/_, _^_, _≤_, _<_}
-use native.Mathlib.Nat.{add-zero, add-assoc, pow-suc, pow-zero}
+use Prim.Native.Nat.{ℕ, zero, suc, _+_, _/_, _^_, _≤_, _<_}
+use native.Mathlib.Nat.{pow-suc, pow-zero}
 use native.Mathlib.Omega.{arith}
 use lib.ListN.{getD, drop, take}
 use lib.Seq.{drop-drop, getD-drop, getD-take}
 use Rattle.columns.specs.Bytes.{lowFirst}
-use Rattle.actl.specs.inner.Prepared.{number}
-
--- Four bytes, in two pairs; eight bytes, in two fours.
-pub number-of-four : (b : List ℕ) (at : ℕ)
-    → number 4 (drop at b) ≡ getD b at 0 + getD b (at + 1) 0 * 256 + (getD b (at + 2) 0 + getD b (at + 3) 0 * 256) * 65536
-number-of-four b at = simp (drop-drop, getD-drop, add-zero, add-assoc) (omega arith)
-
-pub number-of-eight : (b : List ℕ) (at : ℕ) → number 8 (drop at b) ≡ number 4 (drop at b) + number 4 (drop (at + 4) b) * 4294967296
-number-of-eight b at = simp (drop-drop, getD-drop, add-zero, add-assoc) (omega arith)
+use Rattle.columns.specs.inner.Words.{number}
 
 -- n bytes carry the numbers below 256 ^ n.
 pub number-low-first : (n x : ℕ) (rest : List ℕ) → x < 256 ^ n → number n (lowFirst n x ++ rest) ≡ x

@@ -2,11 +2,12 @@
 use mathlib.Core.Bool.{Bool, cond, not as negate, _&&_}
 use mathlib.Core.List.{List, [], _∷_, map}
 use mathlib.Core.Option.{Option, none, some}
-use Prim.Native.Nat.{ℕ, zero, suc, _+_, _*_}
+use Prim.Native.Nat.{ℕ, _+_, _*_}
 use lib.Dec.{leb, eqb}
 use lib.ListN.{getD, take, drop}
 use Rattle.actl.specs.Sizes.{mostNodes, nodeSlotLength, formulaLength}
 use Rattle.columns.specs.Bytes.{sameBytes}
+use Rattle.columns.specs.inner.Words.{number}
 use Rattle.lts.specs.inner.Lists.{upFrom}
 use Rattle.lts.specs.Lists.{every}
 use Rattle.actl.specs.Actions.{silent, labels}
@@ -14,10 +15,6 @@ use Rattle.actl.specs.Formulas.{Formula, tru, not, or, ex, ax, eu, euThe
 use Rattle.actl.specs.Prepared.{Slot, formulaBytes, slot, slotOf, slotWithin}
 
 -- The formula in bytes. Preorder is Polish notation: the slots from the last to the first, over a stack of trees.
-abbrev pub number : ℕ → List ℕ → ℕ
-number zero b = 0
-number (suc n) b = getD b 0 0 + number n (drop 1 b) * 256
-
 abbrev pub slotAt : List ℕ → ℕ → Slot
 slotAt b k = slot (getD b (1 + k * nodeSlotLength) 0) (number 8 (drop (2 + k * nodeSlotLength) b)) (number 8 (drop (10 + k * nodeSlotLength) b))
 

@@ -1,17 +1,10 @@
 -- A node as the code hands it out: the slot that it stands for, and which slots are nodes at all.
-use mathlib.Core.List.{List}
-use Prim.Native.Nat.{ℕ, _+_, _*_}
-use lib.ListN.{getD}
 use Rattle.actl.specs.Actions.{Cond, silent, labels}
 use Rattle.actl.specs.Prepared.{Slot, slot, nextSlot}
 use Rattle.formulas.specs.declared.node.Condition.{Condition}
 use Rattle.formulas.specs.declared.node.Condition.the-variants.{Silent, Labels}
 use Rattle.formulas.specs.declared.node.Node.{Node}
 use Rattle.formulas.specs.declared.node.Node.the-variants.{True, Not, Or, Ex, Ax, Until, UntilThen}
-
--- Four bytes as a number, the low one first.
-abbrev pub fourBytes : List ℕ → ℕ → ℕ
-fourBytes b at = getD b at 0 + getD b (at + 1) 0 * 256 + (getD b (at + 2) 0 + getD b (at + 3) 0 * 256) * 65536
 
 abbrev pub condIn : Condition → Cond
 condIn Silent = silent

@@ -1,7 +1,7 @@
--- The names in a prepared table's slots: how long they are, where they end, looking one up, and that one is new.
+-- The names in a prepared table's slots: how long they are, where they end, and looking one up.
 use mathlib.Core.Path.{_≡_, refl, sym, ap, _∙_}
-use mathlib.Core.Bool.{Bool, true, false, cond, not, true≢false}
-use mathlib.Core.List.{List, _∷_, _++_, map, List·Memᴰ}
+use mathlib.Core.Bool.{Bool, true, false, cond}
+use mathlib.Core.List.{List, _∷_, _++_, map}
 use mathlib.Core.Option.{some}
 use Prim.Native.Nat.{ℕ, zero, suc, _+_, _*_, _≤_, _<_}
 use native.Mathlib.Omega.{arith}
@@ -19,16 +19,11 @@ use Rattle.lts.specs.Steps.{labels}
 use Rattle.lts.specs.inner.Sizes.{longestName}
 use Rattle.lts.specs.Names.{isName, findFrom, lookup}
 use Rattle.lts.specs.inner.NameEnds.{nameLength, nameEnd}
-use Rattle.lts.specs.Reading.{used}
 use Rattle.lts.specs.inner.Prepared.{tableIn, byteAt, nameAt}
 use Rattle.lts.specs.inner.Slots.{storedName, storedNames}
-use Rattle.lts.specs.inner.Answers.{isSome}
-use Rattle.lts.specs.inner.Check.{NameHeld, NewName}
-use Rattle.lts.proofs.Lists.{upFrom-of, upFrom-to, map-of, map-to}
+use Rattle.lts.specs.inner.Check.{NameHeld}
 use Rattle.lts.proofs.Laws.Contents.{labels-in}
 use Rattle.lts.proofs.Laws.NameRuns.{name-short, run-is-name, name-is-run}
-use Rattle.lts.proofs.Laws.Names.{used-looked-up}
-use Rattle.lts.proofs.Laws.Tests.{used-of, used-to}
 
 -- Beginnings of one length.
 prefix-same : (n : ℕ) (a c : List ℕ) → n ≤ length a → n ≤ length c → ((i : ℕ) → i < n → getD a i 0 ≡ getD c i 0) → take n a ≡ take n c
@@ -110,23 +105,3 @@ module _ (b : List ℕ) (long : tableLength ≤ length b) where
     pub table-lookup : (n : ℕ) → n ≡ labels (tableIn b) → n ≤ 40 → lookup (storedNames (take namesLength (drop 6 b)) n) name ≡ lookup (tableIn b .names) name
     unfolding tableIn
     table-lookup n e h = found-stored 1 0 n (omega arith) ∙ ap (λ m. lookup (map (nameAt b) (upFrom 0 m)) name) (e ∙ labels-in b)
-
-  -- None of the names before it is the name in slot k.
-  module _ (k : ℕ) (few : k < mostLabels) (small : byteAt b (headLength + k * nameSlotLength) ≤ longestName) where
-    short : length (nameAt b k) ≤ longestName
-    short = omega (arith, name-length k few (omega arith))
-
-    abbrev before : List (List ℕ)
-    before = map (nameAt b) (upFrom 0 k)
-
-    used-before : used before (nameAt b k) ≡ isSome (lookup (storedNames slots k) (nameAt b k))
-    used-before = used-looked-up before (nameAt b k) ∙ ap isSome (sym (found-stored (nameAt b k) short 1 0 k (omega arith)))
-
-    pub new-of : isSome (lookup (storedNames (take namesLength (drop 6 b)) k) (nameAt b k)) ≡ false → NewName b k
-    new-of e j h = used-of before (nameAt b k) (ap not (used-before ∙ e)) (nameAt b j) (map-to (nameAt b) (upFrom-to 0 k j (omega arith) (omega arith)))
-
-    pub new-not : isSome (lookup (storedNames (take namesLength (drop 6 b)) k) (nameAt b k)) ≡ true → NewName b k → ⊥
-    new-not e new = true≢false (sym (used-to before (nameAt b k) differ) ∙ ap not (used-before ∙ e))
-      where
-        differ : (n : List ℕ) → List·Memᴰ n before → n ≡ nameAt b k → ⊥
-        differ n m d = let (j, i, e) = map-of (nameAt b) (upFrom 0 k) m in new j (omega (arith, upFrom-of 0 k i)) (sym e ∙ d)

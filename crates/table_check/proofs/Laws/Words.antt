@@ -14,14 +14,8 @@ use Rattle.lts.specs.inner.Sizes.{headLength}
 use Rattle.lts.specs.inner.Prepared.{byteAt, nameAt}
 use Rattle.lts.specs.inner.Check.{NameHeld}
 use Rattle.lts.proofs.Laws.SlotNames.{name-length, name-few}
-use Rattle.table_check.specs.inner.Words.{fourBytes, numberAt}
-
--- Eight bytes are two fours; sixteen are two eights.
-pub eight-bytes : (b : List ℕ) (at : ℕ) → numberAt 8 b at ≡ fourBytes b at + fourBytes b (at + 4) * 4294967296
-eight-bytes b at = simp add-assoc (omega arith)
-
-sixteen-bytes : (b : List ℕ) (at : ℕ) → numberAt 16 b at ≡ numberAt 8 b at + numberAt 8 b (at + 8) * 18446744073709551616
-sixteen-bytes b at = simp add-assoc (omega arith)
+use Rattle.columns.specs.inner.Words.{number}
+use Rattle.columns.proofs.Laws.Words.{number-next, sixteen-bytes}
 
 module _ (b : List ℕ) where
   abbrev SameRun : ℕ → ℕ → ℕ → Type 0
@@ -39,21 +33,21 @@ module _ (b : List ℕ) where
   run-after n m p q same i h = simp add-assoc (same (m + i) h)
 
   -- Equal bytes make equal numbers.
-  run-number : (n p q : ℕ) → SameRun n p q → numberAt n b p ≡ numberAt n b q
+  run-number : (n p q : ℕ) → SameRun n p q → number n (drop p b) ≡ number n (drop q b)
   run-number zero p q same = refl
   run-number (suc n) p q same =
       let first : byteAt b p ≡ byteAt b q = first-of p q (same 0 (omega arith)) in
       let later : SameRun n (p + 1) (q + 1) = λ i h. run-after (suc n) 1 p q same i (omega arith) in
-      (λ z. first z + run-number n (p + 1) (q + 1) later z * 256)
+      number-next n b p ∙ ((λ z. first z + run-number n (p + 1) (q + 1) later z * 256) ∙ sym (number-next n b q))
 
   module _ (bytes : (i : ℕ) → byteAt b i < 256) where
     -- Equal numbers are made of equal bytes.
-    number-run : (n p q : ℕ) → numberAt n b p ≡ numberAt n b q → SameRun n p q
+    number-run : (n p q : ℕ) → number n (drop p b) ≡ number n (drop q b) → SameRun n p q
     number-run zero p q e i h = absurd (omega arith)
-    number-run (suc n) p q e zero h =
-        of-first p q (omega (arith, e, bytes p, bytes q))
+    number-run (suc n) p q e zero h = of-first p q (omega (arith, e, number-next n b p, number-next n b q, bytes p, bytes q))
     number-run (suc n) p q e (suc i) h =
-        let rest : numberAt n b (p + 1) ≡ numberAt n b (q + 1) = omega (arith, e, bytes p, bytes q) in
+        let rest : number n (drop (p + 1) b) ≡ number n (drop (q + 1) b) =
+        omega (arith, e, number-next n b p, number-next n b q, bytes p, bytes q) in
         let here : p + suc i ≡ p + 1 + i = omega arith in
         let there : q + 1 + i ≡ q + suc i = omega arith in
         ap (byteAt b) here ∙ (number-run n (p + 1) (q + 1) rest i (omega arith) ∙ ap (byteAt b) there)
@@ -105,19 +99,19 @@ module _ (b : List ℕ) where
                 held-j .behind (slot j + suc i) (omega (arith, outside)) (omega arith)
                 ∙ sym (held-k .behind (slot k + suc i) (omega (arith, outside, sizes)) (omega arith))
 
-        pub words-name : numberAt 8 b (headLength + j * nameSlotLength) ≡ numberAt 8 b (headLength + k * nameSlotLength)
-            → numberAt 8 b (headLength + j * nameSlotLength + 8) ≡ numberAt 8 b (headLength + k * nameSlotLength + 8)
+        pub words-name : number 8 (drop (headLength + j * nameSlotLength) b) ≡ number 8 (drop (headLength + k * nameSlotLength) b)
+            → number 8 (drop (headLength + j * nameSlotLength + 8) b) ≡ number 8 (drop (headLength + k * nameSlotLength + 8) b)
             → nameAt b j ≡ nameAt b k
         words-name e f =
-            let both : numberAt 16 b (slot j) ≡ numberAt 16 b (slot k) =
+            let both : number 16 (drop (slot j) b) ≡ number 16 (drop (slot k) b) =
             sixteen-bytes b (slot j) ∙ ((λ z. e z + f z * 18446744073709551616) ∙ sym (sixteen-bytes b (slot k))) in
             slots-name (number-run 16 (slot j) (slot k) both)
 
         pub name-first-words : nameAt b j ≡ nameAt b k
-            → numberAt 8 b (headLength + j * nameSlotLength) ≡ numberAt 8 b (headLength + k * nameSlotLength)
+            → number 8 (drop (headLength + j * nameSlotLength) b) ≡ number 8 (drop (headLength + k * nameSlotLength) b)
         name-first-words e = run-number 8 (slot j) (slot k) (λ i h. name-slots e i (omega arith))
 
         pub name-second-words : nameAt b j ≡ nameAt b k
-            → numberAt 8 b (headLength + j * nameSlotLength + 8) ≡ numberAt 8 b (headLength + k * nameSlotLength + 8)
+            → number 8 (drop (headLength + j * nameSlotLength + 8) b) ≡ number 8 (drop (headLength + k * nameSlotLength + 8) b)
         name-second-words e =
             run-number 8 (slot j + 8) (slot k + 8) (λ i h. run-after 16 8 (slot j) (slot k) (name-slots e) i (omega arith))
