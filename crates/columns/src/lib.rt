@@ -1,4 +1,4 @@
-// Numbers in six columns: the form of every number in the texts of tables and listings.
+// Numbers in six columns, the form of every number in the texts of tables and listings; numbers in eight bytes.
 pub mod words;
 pub mod write;
 
