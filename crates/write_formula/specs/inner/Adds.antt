@@ -10,7 +10,7 @@ use Rattle.actl.specs.Sizes.{longestText}
 use Rattle.actl.specs.Actions.{Mask, inSet, Cond, silent, labels}
 use Rattle.actl.specs.Prepared.{maskWithin}
 
--- More than any formula's text is counted, and so n bytes more.
+-- A buffer of 512 bytes, and a count at `at` that can take n bytes more: it may go past any formula's text.
 pub record Room (out : List ℕ) (at n : ℕ) : Type 0 where
   pub long : length out ≡ longestText
   pub below : at + n ≤ 65536
