@@ -1,11 +1,8 @@
-pub mod Adds
 pub mod Closing
 pub mod Entry
 pub mod Line
-pub mod Masks
 pub mod NodeTexts
 pub mod Opening
-pub mod Sets
 pub mod Stack
 pub mod Walk
 pub mod Writing

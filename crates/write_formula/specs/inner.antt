@@ -1,3 +1,2 @@
-pub mod Adds
 pub mod Line
 pub mod Walk

@@ -20,8 +20,6 @@ ghost use Rattle.written_back.specs.FormulaWriting.{formulaWritten, textLeft};
 ghost use Rattle.written_back.specs.ReadBack.{Restored};
 ghost use Rattle.write_formula.specs.Replies.{writeReply};
 
-mod sets;
-mod text;
 mod walk;
 
 // What `write_formula` answers. specs/Replies.antt lists the number and the figure of each case.

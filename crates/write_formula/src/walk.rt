@@ -1,7 +1,7 @@
 // One walk over a formula's nodes: each writes itself, and behind an arm's T comes what is pending, `)` and `|` as bytes.
-use crate::sets::put_keyword;
-use crate::sets::put_until_then;
-use crate::text::put;
+use formula_pieces::sets::put_keyword;
+use formula_pieces::sets::put_until_then;
+use formula_pieces::text::put;
 use formulas::node::Condition;
 use formulas::node::Node;
 use formulas::node::node_at;
@@ -18,7 +18,7 @@ ghost use Rattle.actl.specs.inner.HoldsFormula.{HoldsFormula};
 ghost use Rattle.actl.specs.Sizes.{longestText};
 ghost use Rattle.actl.specs.Prepared.{slotWithin};
 ghost use Rattle.formulas.specs.inner.Access.{slotOfNode};
-ghost use Rattle.write_formula.specs.inner.Adds.{Room, Over};
+ghost use Rattle.formula_pieces.specs.inner.Adds.{Room, Over};
 ghost use Rattle.write_formula.specs.inner.Walk.{Walks, Stack, drained, rested, stackOf, opening, writtenAt, armAfter, pendingAfter, TextAdded};
 
 // Two bytes for each node.

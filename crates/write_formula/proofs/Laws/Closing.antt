@@ -8,9 +8,9 @@ use lib.Dec.{eqb}
 use lib.ListN.{length, getD, length-append}
 use borrow.Author.Tests.{eq-eqb, ne-eqb}
 use Rattle.write_formula.specs.declared.walk.Place.{Place}
-use Rattle.write_formula.specs.inner.Adds.{Adds}
+use Rattle.formula_pieces.specs.inner.Adds.{Adds}
 use Rattle.write_formula.specs.inner.Walk.{drained, rested, stackOf, Walks}
-use Rattle.write_formula.proofs.Laws.Adds.{adds-none, adds-then, adds-same}
+use Rattle.formula_pieces.proofs.Laws.Adds.{adds-none, adds-then, adds-same}
 
 -- A place that is an arm's.
 pub walks-arm : {l q : List ℕ} {top at end left : ℕ} {e x p pending : List ℕ} (r : Place) → (r .at ≡ end) × (r .top ≡ left) × (r .arm ≡ true)

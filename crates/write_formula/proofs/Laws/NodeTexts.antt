@@ -12,9 +12,9 @@ use Rattle.formulas.specs.declared.node.Node.{Node}
 use Rattle.formulas.specs.declared.node.Node.the-variants as node
 use Rattle.formulas.specs.declared.node.Condition.{Condition}
 use Rattle.write_formula.specs.declared.walk.Place.{Place}
-use Rattle.write_formula.specs.inner.Adds.{Adds, Over, CondWithin}
+use Rattle.formula_pieces.specs.inner.Adds.{Adds, Over, CondWithin}
 use Rattle.write_formula.specs.inner.Walk.{writtenAt, drained, rested, opening, armAfter, pendingAfter, stackOf, Walks}
-use Rattle.write_formula.proofs.Laws.Adds.{adds-then, adds-same}
+use Rattle.formula_pieces.proofs.Laws.Adds.{adds-then, adds-same}
 use Rattle.write_formula.proofs.Laws.Closing.{walks-arm}
 use Rattle.write_formula.proofs.Laws.Walk.{Alone, written-true, written-or}
 

@@ -6,9 +6,9 @@ use Prim.Native.Nat.{ℕ, _+_}
 use native.Mathlib.Omega.{arith}
 use lib.ListN.{set, length-set}
 use Rattle.write_formula.specs.declared.walk.Place.{Place}
-use Rattle.write_formula.specs.inner.Adds.{Adds}
+use Rattle.formula_pieces.specs.inner.Adds.{Adds}
 use Rattle.write_formula.specs.inner.Walk.{opening, pendingAfter, stackOf, Stack, Walks}
-use Rattle.write_formula.proofs.Laws.Adds.{adds-none}
+use Rattle.formula_pieces.proofs.Laws.Adds.{adds-none}
 use Rattle.write_formula.proofs.Laws.Stack.{stack-one, stack-two}
 
 module _ (arm : Bool) (pending : List ℕ) (top at : ℕ) (e : List ℕ) (s : Stack pending (top + 2)) where

@@ -15,9 +15,9 @@ use Rattle.actl.specs.inner.Prepared.{slotAt, preparedFormula}
 use Rattle.actl.proofs.Laws.Prepared.{prepared-of, form-slots}
 use Rattle.written_back.specs.FormulaText.{formulaText}
 use Rattle.write_formula.specs.declared.walk.Place.{Place}
-use Rattle.write_formula.specs.inner.Adds.{Adds}
+use Rattle.formula_pieces.specs.inner.Adds.{Adds}
 use Rattle.write_formula.specs.inner.Walk.{walked, writtenAt, armAfter, pendingAfter, stackOf, Walks}
-use Rattle.write_formula.proofs.Laws.Adds.{adds-none, adds-then, adds-same}
+use Rattle.formula_pieces.proofs.Laws.Adds.{adds-none, adds-then, adds-same}
 use Rattle.write_formula.proofs.Laws.Stack.{stack-length}
 use Rattle.write_formula.proofs.Laws.Walk.{walked-step, walked-end, walked-text, written-short}
 

@@ -2,7 +2,7 @@
 use borrow.Author.Needs.{needs}
 use mathlib.Core.Path.{_∙_}
 use native.Mathlib.Omega.{arith}
-use Rattle.write_formula.proofs.Laws.Adds.{room-after}
+use Rattle.formula_pieces.proofs.Laws.Adds.{room-after}
 use Rattle.write_formula.proofs.Laws.Closing.{Closing, closing-start, closing-more, closing-bar, closing-end}
 use Rattle.write_formula.proofs.walk.close.Statement.{statement}
 use Rattle.write_formula.proofs.walk.close.Tie as tie

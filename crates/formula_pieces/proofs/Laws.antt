@@ -1,0 +1,3 @@
+pub mod Adds
+pub mod Masks
+pub mod Sets
