@@ -6,15 +6,15 @@ pub const FORMULA_LENGTH: usize = 681;
 pub const MAX_BYTES: usize = 512;
 
 /// The kinds of nodes, as numbered in prepared bytes.
-const TRUE: u8 = 1;
-const NOT: u8 = 2;
-const OR: u8 = 3;
-const NEXT_SILENT: u8 = 4;
-const NEXT: u8 = 5;
-const ALL_SILENT: u8 = 6;
-const ALL: u8 = 7;
-const UNTIL: u8 = 8;
-const UNTIL_THEN: u8 = 9;
+pub const TRUE: u8 = 1;
+pub const NOT: u8 = 2;
+pub const OR: u8 = 3;
+pub const NEXT_SILENT: u8 = 4;
+pub const NEXT: u8 = 5;
+pub const ALL_SILENT: u8 = 6;
+pub const ALL: u8 = 7;
+pub const UNTIL: u8 = 8;
+pub const UNTIL_THEN: u8 = 9;
 
 /// A node before its arms, the left arm before the right: kind, first mask, second mask.
 pub struct Formula {

@@ -4,22 +4,14 @@
 //! numbers, tables and formulas it uses, it is left alone.
 
 use super::damage::{self, damaged};
-use super::formulas::{Formula, MAX_BYTES};
+use super::formulas::{
+    ALL, Formula, MAX_BYTES, NEXT, NEXT_SILENT, NOT, OR, TRUE, UNTIL, UNTIL_THEN,
+};
 use super::questions::{ASKED, Question, either, of_class};
 use super::rng::Rng;
 use super::tables::Exits::{All, Any};
 use super::tables::Table;
 use super::{Input, Kind, Lent, Make, kind, marks, short};
-
-/// The kinds of nodes, as numbered in prepared bytes.
-const TRUE: u8 = 1;
-const NOT: u8 = 2;
-const OR: u8 = 3;
-const NEXT_SILENT: u8 = 4;
-const NEXT: u8 = 5;
-const ALL_NEXT: u8 = 7;
-const UNTIL: u8 = 8;
-const UNTIL_THEN: u8 = 9;
 
 type Node = (u8, u64, u64);
 
@@ -198,7 +190,7 @@ fn with_nodes(rng: &Rng, table: Table, mut nodes: Vec<Node>) -> Question {
     nodes.push((TRUE, 0, 0));
     match rng.below(4) {
         0 => nodes.insert(0, (NOT, 0, 0)),
-        1 => drop(nodes.splice(..0, [(ALL_NEXT, any_set(rng, &table), 0), (NOT, 0, 0)])),
+        1 => drop(nodes.splice(..0, [(ALL, any_set(rng, &table), 0), (NOT, 0, 0)])),
         _ => {}
     }
     of_nodes(table, nodes)

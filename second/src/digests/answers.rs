@@ -168,6 +168,23 @@ fn build(
     Some(reply)
 }
 
+/// Both readings: the reply of the one that refused, else of the last; and what is prepared.
+fn both_read(
+    entries: &Entries,
+    table_text: &[u8],
+    line: &[u8],
+    shown: &mut Shown,
+) -> Option<(Reply, Vec<u8>, Vec<u8>)> {
+    let (mut table, mut formula) = (vec![0xa5; PREPARED], vec![0x5a; PREPARED]);
+    let mut reply = entries.read_table?(table_text, &mut table);
+    shown.reply("read_table", reply);
+    if reply.number == 0 {
+        reply = entries.read_formula?(&table, line, &mut formula);
+        shown.reply("read_formula", reply);
+    }
+    Some((reply, table, formula))
+}
+
 /// Both readings, writing and reading again. The reply is that of a refused reading, else that of
 /// writing. Whether what is prepared is the same again is shown, and not what it is.
 fn read_back(
@@ -177,13 +194,7 @@ fn read_back(
     text: &Lent,
     shown: &mut Shown,
 ) -> Option<Reply> {
-    let (mut table, mut formula) = (vec![0xa5; PREPARED], vec![0x5a; PREPARED]);
-    let mut reply = entries.read_table?(table_text, &mut table);
-    shown.reply("read_table", reply);
-    if reply.number == 0 {
-        reply = entries.read_formula?(&table, line, &mut formula);
-        shown.reply("read_formula", reply);
-    }
+    let (mut reply, table, formula) = both_read(entries, table_text, line, shown)?;
     if reply.number == 0 {
         let mut text = text.buffer();
         reply = entries.write_formula?(&table, &formula, inside(&mut text));
@@ -208,13 +219,7 @@ fn in_turn(
     places: [&Lent; 2],
     shown: &mut Shown,
 ) -> Option<Reply> {
-    let (mut table, mut formula) = (vec![0xa5; PREPARED], vec![0x5a; PREPARED]);
-    let mut reply = entries.read_table?(table_text, &mut table);
-    shown.reply("read_table", reply);
-    if reply.number == 0 {
-        reply = entries.read_formula?(&table, formula_text, &mut formula);
-        shown.reply("read_formula", reply);
-    }
+    let (mut reply, table, formula) = both_read(entries, table_text, formula_text, shown)?;
     if reply.number == 0 {
         let before = (table.clone(), formula.clone());
         shown.reply("verdict", entries.verdict?(&table, &formula));
