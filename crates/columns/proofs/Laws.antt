@@ -5,6 +5,7 @@ pub mod ColumnsRead
 pub mod Compared
 pub mod Copying
 pub mod Decimal
+pub mod Ends
 pub mod Figures
 pub mod Pasted
 pub mod Pasting

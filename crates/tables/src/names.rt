@@ -1,7 +1,9 @@
 // Names of labels: where a name ends in a text and which direction its mark gives it, whether two are equal, and where one stands in slots
-// of names. A slot has 16 bytes: the name's length, its bytes, zeros. Nothing else knows the bytes of a name or how names are compared.
+// of names. A slot has 16 bytes: the name's length, its bytes, zeros. A name is compared where it stands, and none is copied. Nothing else
+// knows the bytes of a name; two slots of a prepared table are compared whole, by `table_check`.
 use crate::prepared::byte;
 use crate::prepared::label_count;
+use columns::same::same_parts;
 use lts::sizes::HEAD;
 use lts::sizes::NAME_BYTES_AT;
 use lts::sizes::NAME_SLOT;
@@ -165,23 +167,19 @@ pub fn same_direction(a: Direction, b: Direction) -> bool
     direction_code(a) == direction_code(b)
 }
 
-// Whether the name in slot k is `name`: most differ in their lengths.
+// Whether the name in slot k is `name`; a beginning of it is another name.
 fn same_name(slots: &[u8], k: usize, name: &[u8]) -> bool
     requires { ⌜ (k * nameSlotLength + nameSlotLength ≤ length (now slots)) × (length (now name) ≤ longestName) ⌝ }
     ensures { λ r. ⌜ r ≡ sameBytes (storedName (now (slots .entry)) k) (now (name .entry)) ⌝ }
 {
-    if slots[k * NAME_SLOT] as usize != name.len() {
+    let at = k * NAME_SLOT;
+    let size = byte(slots, at);
+    if size != name.len() {
         return false;
     }
-    let at = k * NAME_SLOT + 1;
-    let mut i: usize = 0;
-    while i < name.len() {
-        if slots[at + i] != name[i] {
-            return false;
-        }
-        i += 1;
-    }
-    true
+    let from = at + 1;
+    let to = from + size;
+    same_parts(&slots[from..to], name)
 }
 
 // The number of the label, of those in the first `count` slots, that has a name.

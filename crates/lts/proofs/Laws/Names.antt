@@ -1,13 +1,12 @@
--- Names in slots: comparing one byte by byte, and looking one up slot by slot.
-use mathlib.Core.Path.{_≡_, refl, sym, ap, _∙_}
+-- Names in slots: comparing one, and looking one up slot by slot.
+use mathlib.Core.Path.{_≡_, refl, sym, ap, ap₂, _∙_}
 use mathlib.Core.Bool.{Bool, true, false, cond, _||_}
 use mathlib.Core.List.{List, [], _∷_, _++_, map}
 use mathlib.Core.Option.{none, some}
 use Prim.Native.Nat.{ℕ, suc, _+_, _-_, _*_, _≤_, _<_}
 use native.Mathlib.Numerals.{add-one}
 use native.Mathlib.Omega.{arith}
-use lib.ListN.{length, getD, drop, length-take, length-drop}
-use lib.Seq.{length-take-le, getD-take, getD-drop}
+use lib.ListN.{length, getD, take, drop, length-take, length-drop}
 use Rattle.lts.specs.Sizes.{nameSlotLength}
 use Rattle.columns.specs.Bytes.{sameBytes}
 use Rattle.columns.proofs.Laws.Compared.{same-of-unequal}
@@ -22,18 +21,15 @@ use Rattle.lts.proofs.Laws.NameRuns.{IsStem}
 use Rattle.lts.proofs.Laws.NameDirections.{three-names}
 use Rattle.columns.proofs.Laws.Bytes.{same-of}
 
--- The name in slot k, and one of another length or of the same.
-module _ (b : List ℕ) (k : ℕ) (name : List ℕ) (inside : k * nameSlotLength + nameSlotLength ≤ length b) (short : length name ≤ longestName) where
-  pub stored-differs : (getD b (k * nameSlotLength) 0 ≡ length name → ⊥) → false ≡ sameBytes (storedName b k) name
-  stored-differs d = sym (same-of-unequal (storedName b k) name (λ z.
+-- The name in slot k: one of another length differs, and it is the part of the slots that starts behind the length.
+module _ (b : List ℕ) (k : ℕ) (name : List ℕ) where
+  pub stored-differs : k * nameSlotLength + nameSlotLength ≤ length b → length name ≤ longestName → (getD b (k * nameSlotLength) 0 ≡ length name → ⊥)
+      → false ≡ sameBytes (storedName b k) name
+  stored-differs inside short d = sym (same-of-unequal (storedName b k) name (λ z.
       d (omega (arith, ap length z, length-take (getD b (k * nameSlotLength) 0) (drop (k * nameSlotLength + 1) b), length-drop (k * nameSlotLength + 1) b))))
 
-  module _ (same : getD b (k * nameSlotLength) 0 ≡ length name) where
-    pub stored-length : length (storedName b k) ≡ length name
-    stored-length = length-take-le (getD b (k * nameSlotLength) 0) (drop (k * nameSlotLength + 1) b) (omega (arith, length-drop (k * nameSlotLength + 1) b)) ∙ same
-
-    pub stored-byte : (i : ℕ) → i < length name → getD (storedName b k) i 0 ≡ getD b (k * nameSlotLength + 1 + i) 0
-    stored-byte i h = getD-take (getD b (k * nameSlotLength) 0) (drop (k * nameSlotLength + 1) b) i 0 (omega arith) ∙ getD-drop (k * nameSlotLength + 1) b i 0
+  pub stored-part : (p q : ℕ) → p ≡ k * nameSlotLength + 1 → q ≡ p + getD b (k * nameSlotLength) 0 → sameBytes (take (q - p) (drop p b)) name ≡ sameBytes (storedName b k) name
+  stored-part p q starts ends = let size : q - p ≡ getD b (k * nameSlotLength) 0 = omega arith in ap₂ (λ n m. sameBytes (take n (drop m b)) name) size starts
 
 -- A name looked for among the first `count` slots, from slot k.
 pub record SoughtFrom (b : List ℕ) (count : ℕ) (name : List ℕ) (k : ℕ) : Type 0 where
