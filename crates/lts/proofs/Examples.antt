@@ -1,7 +1,7 @@
 -- Worked examples: the definitions of tables, run. 01's table M is read and written back, and damaged in every way that is refused.
 use mathlib.Core.Path.{_≡_, refl}
-use mathlib.Core.List.{List, [], _∷_, _++_}
-use mathlib.Core.Option.{some}
+use mathlib.Core.List.{List, [], _∷_, _++_, map}
+use mathlib.Core.Option.{none, some}
 use Prim.Native.Nat.{ℕ}
 use Prim.Native.String.{String}
 use lib.ListN.{length, take}
@@ -9,6 +9,7 @@ use Rattle.lts.specs.Sizes.{tableLength}
 use Rattle.columns.specs.Ascii.{ascii}
 use Rattle.columns.specs.Columns.{column, digitsWithin}
 use Rattle.lts.specs.Reply.{accepted, refusal}
+use Rattle.lts.specs.Names.{findFrom, lookup}
 use Rattle.lts.specs.Directions.{neither, received, sent, labelDirection}
 use Rattle.lts.specs.Steps.{Step, Table}
 use Rattle.lts.specs.inner.Steps.{stepsFrom, alphabet}
@@ -177,3 +178,16 @@ thirteen-letters-and-a-mark = refl
 marked-name-used : readTable (lines ("     1     2     0     0" ∷ "     1 clamp?" ∷ "     2 clamp?" ∷ [])) ≡ refusal 3 3
 unfolding readTableWith readLabelsWith readTransitions column digitsWithin
 marked-name-used = refl
+
+-- 02: a name is looked up by all of its bytes: of names that differ in the first byte, the last one, the mark or what follows a beginning, each is a label of its own.
+abbrev pub alike : List (List ℕ)
+alike = ascii "clamp_1_open" ∷ ascii "blamp_1_open" ∷ ascii "clamp_1_opes" ∷ ascii "clamp_1_open!" ∷ ascii "clamp_1_open?" ∷ ascii "clamp" ∷ ascii "c" ∷ []
+
+each-by-itself : map (lookup alike) alike ≡ map some (1 ∷ 2 ∷ 3 ∷ 4 ∷ 5 ∷ 6 ∷ 7 ∷ [])
+unfolding findFrom
+each-by-itself = refl
+
+nearly-named : map (lookup alike) (ascii "clamp_1_ope" ∷ ascii "lamp_1_open" ∷ ascii "clamp_2_open" ∷ ascii "blamp_1_open!" ∷ ascii "clam" ∷ ascii "b" ∷ [] ∷ [])
+    ≡ none ∷ none ∷ none ∷ none ∷ none ∷ none ∷ none ∷ []
+unfolding findFrom
+nearly-named = refl
