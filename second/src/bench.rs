@@ -1,11 +1,12 @@
-//! Time per call of the library's entries beside the baseline's, on the same inputs in one run.
+//! Time per call of the library's entries beside the baseline's, and beside those of an earlier build
+//! if there is one, on the same inputs in one run.
 
 use std::hint::black_box;
 use std::io::{self, Write};
 use std::time::{Duration, Instant};
 
 use crate::baseline::BASELINE;
-use crate::entries::{EDGE_PLACE, Entries, ROW_PLACE};
+use crate::entries::{EDGE_PLACE, Entries, NONE, ROW_PLACE};
 use crate::formula::{Formula, MAX_BYTES, MAX_NODES};
 use crate::inputs::kinds::Kinds;
 use crate::inputs::questions::{Question, longest_listing};
@@ -17,7 +18,7 @@ use crate::reply::Reply;
 use crate::table::{MAX_LABELS, MAX_STATES, MAX_TRANSITIONS, Table};
 use crate::word::MAX_WORD;
 
-/// The two explainers are timed in turn, so often; the shortest time of each counts.
+/// The explainers are timed in turn, so often; the shortest time of each counts.
 const ROUNDS: usize = 31;
 const ROUND: Duration = Duration::from_millis(4);
 
@@ -88,10 +89,49 @@ fn marked() -> Input {
 /// 40 nodes and 512 bytes of operands of a direction, over the longest names with marks.
 fn operands() -> Input {
     let table = tables::longest_table(&mut Rng::new(3));
-    let mut text = b"EX[?|!|?|!|?]".repeat(MAX_NODES - 1);
+    read("operands", table, &padded(&b"EX[?|!|?|!|?]".repeat(MAX_NODES - 1)))
+}
+
+/// What has forty names that begin alike, for the readings.
+fn alike() -> [Input; 2] {
+    [forty(), short_names()]
+}
+
+/// Each of the names once, 430 bytes of them.
+fn forty() -> Input {
+    let name = |label: usize| match label {
+        0..=30 => format!("label_{label:05}"),
+        _ => format!("label_{label:04}"),
+    };
+    let names: Vec<String> = (1..=MAX_LABELS).map(name).collect();
+    of_operands("forty", &names, names.len())
+}
+
+/// Of one to seven bytes; each stands twice, and once more as long as they fit.
+fn short_names() -> Input {
+    let name = |label: usize| {
+        let (length, last) = (label % 7, b'a' + (label / 7) as u8);
+        format!("{}{}", &"sender"[..length], char::from(last))
+    };
+    let names: Vec<String> = (0..MAX_LABELS).map(name).collect();
+    of_operands("short names", &names, 97)
+}
+
+/// 40 nodes and 512 bytes over a largest table of these labels: so many operands, in turn.
+fn of_operands(size: &'static str, names: &[String], operands: usize) -> Input {
+    let mut table = tables::table_of_most(&mut Rng::new(3));
+    table.names = names.iter().map(|name| name.clone().into_bytes()).collect();
+    let set: Vec<&str> = names.iter().map(String::as_str).cycle().take(operands).collect();
+    let heads = format!("EX[{}]{}", set.join("|"), "~".repeat(MAX_NODES - 2));
+    read(size, table, &padded(heads.as_bytes()))
+}
+
+/// With `T` as the last of 512 bytes, behind blanks.
+fn padded(heads: &[u8]) -> Vec<u8> {
+    let mut text = heads.to_vec();
     text.resize(MAX_BYTES - 1, b' ');
     text.push(b'T');
-    read("operands", table, &text)
+    text
 }
 
 /// What has short forms, for reading a formula.
@@ -124,10 +164,7 @@ fn of_names(size: &'static str, heads: &str) -> Input {
     let mut table = tables::table_of_most(&mut Rng::new(3));
     table.names = (1..MAX_LABELS).map(|label| format!("a{label}").into_bytes()).collect();
     table.names.push(b"z".to_vec());
-    let mut text = heads.as_bytes().to_vec();
-    text.resize(MAX_BYTES - 1, b' ');
-    text.push(b'T');
-    read(size, table, &text)
+    read(size, table, &padded(heads.as_bytes()))
 }
 
 /// 512 bytes of 1,277 nodes, the most there can be; refused.
@@ -187,9 +224,7 @@ fn largest() -> Input {
         text.extend_from_slice(b"]EU[*]");
     }
     text.truncate(text.len() - b"EU[*]".len());
-    text.resize(MAX_BYTES - 1, b' ');
-    text.push(b'T');
-    Input::new("largest", text, &question)
+    Input::new("largest", padded(&text), &question)
 }
 
 /// Labels along the listing, through rows that were not left before as long as there are any.
@@ -287,8 +322,14 @@ pub fn has(part: &str) -> bool {
     CALLS.iter().any(|(entry, _)| entry.contains(part))
 }
 
-/// The rows whose names have this part; all have the empty one.
-pub fn run(library: &Entries, part: &str, out: &mut impl Write) -> io::Result<()> {
+/// The rows whose names have this part; all have the empty one. With an earlier build its times stand
+/// first, and before the ratio what part of them the library takes.
+pub fn run(
+    before: Option<&Entries>,
+    library: &Entries,
+    part: &str,
+    out: &mut impl Write,
+) -> io::Result<()> {
     let mut lent = Buffers {
         table: vec![0; TABLE_LENGTH],
         formula: vec![0; FORMULA_LENGTH],
@@ -296,26 +337,52 @@ pub fn run(library: &Entries, part: &str, out: &mut impl Write) -> io::Result<()
         rows: vec![0; 10_496 * ROW_PLACE],
         edges: vec![0; 1_000_000 * EDGE_PLACE],
     };
-    let head = ["entry", "input", "library", "baseline", "ratio"];
-    writeln!(out, "{:13} {:8} {:>12} {:>12} {:>7}", head[0], head[1], head[2], head[3], head[4])?;
-    let (inputs, directed, short_forms) = (inputs(), directed(), short_forms());
-    let many_names = many_names();
+    write_row(out, before.is_some(), ["entry", "input"], HEAD.map(str::to_owned))?;
+    let (inputs, directed, alike) = (inputs(), directed(), alike());
+    let (short_forms, many_names) = (short_forms(), many_names());
+    let explainers = [before.unwrap_or(&NONE), library, &BASELINE];
     for (entry, call) in CALLS.into_iter().filter(|(entry, _)| entry.contains(part)) {
         let directed = directed.iter().filter(|_| entry.starts_with("read_"));
+        let alike = alike.iter().filter(|_| entry.starts_with("read_"));
         let short_forms = short_forms.iter().filter(|_| entry == "read_formula");
         let many_names = many_names.iter().filter(|_| entry == "write_formula");
-        for input in inputs.iter().chain(directed).chain(short_forms).chain(many_names) {
-            let [library, baseline] = time(call, [library, &BASELINE], input, &mut lent);
-            let baseline = baseline.expect("the baseline has all entries");
-            let (time, ratio) = match library {
-                Some(library) => (in_microseconds(library), format!("{:.2}", library / baseline)),
-                None => ("-".into(), "-".into()),
-            };
-            let (size, baseline) = (input.size, in_microseconds(baseline));
-            writeln!(out, "{entry:13} {size:8} {time:>12} {baseline:>12} {ratio:>7}")?;
+        let inputs = inputs.iter().chain(directed).chain(alike).chain(short_forms);
+        for input in inputs.chain(many_names) {
+            let times = time(call, explainers, input, &mut lent);
+            write_row(out, before.is_some(), [entry, input.size], columns(times))?;
         }
     }
     Ok(())
+}
+
+const HEAD: [&str; 5] = ["before", "library", "baseline", "of before", "ratio"];
+
+/// Three times and two ratios; what an explainer lacks is a dash.
+fn columns([before, library, baseline]: [Option<f64>; 3]) -> [String; 5] {
+    let shown = |seconds: Option<f64>| seconds.map_or("-".into(), in_microseconds);
+    let of = |other: Option<f64>| match (library, other) {
+        (Some(library), Some(other)) => format!("{:.2}", library / other),
+        _ => "-".into(),
+    };
+    [shown(before), shown(library), shown(baseline), of(before), of(baseline)]
+}
+
+/// Without an earlier build its two columns are left out.
+fn write_row(
+    out: &mut impl Write,
+    with_before: bool,
+    [entry, input]: [&str; 2],
+    [before, library, baseline, of_before, ratio]: [String; 5],
+) -> io::Result<()> {
+    write!(out, "{entry:13} {input:11}")?;
+    if with_before {
+        write!(out, " {before:>12}")?;
+    }
+    write!(out, " {library:>12} {baseline:>12}")?;
+    if with_before {
+        write!(out, " {of_before:>9}")?;
+    }
+    writeln!(out, " {ratio:>7}")
 }
 
 fn in_microseconds(seconds: f64) -> String {
@@ -325,12 +392,12 @@ fn in_microseconds(seconds: f64) -> String {
 /// Seconds per call, or none for an explainer that lacks the entry.
 fn time(
     call: Call,
-    explainers: [&Entries; 2],
+    explainers: [&Entries; 3],
     input: &Input,
     lent: &mut Buffers,
-) -> [Option<f64>; 2] {
-    let mut shortest = [None; 2];
-    let mut calls = [1; 2];
+) -> [Option<f64>; 3] {
+    let mut shortest = [None; 3];
+    let mut calls = [1; 3];
     for _ in 0..ROUNDS {
         for (which, of) in explainers.into_iter().enumerate() {
             let Some(reply) = call(of, input, lent) else {

@@ -8,7 +8,7 @@ use std::time::Instant;
 
 use second::digests::answers::Explainer;
 use second::digests::{BASE, CORPORA, Corpus};
-use second::entries::SECOND;
+use second::entries::{Entries, SECOND};
 use second::reply::Reply;
 use second::tally::{self, Tally};
 use second::views::View;
@@ -23,7 +23,7 @@ second program FILE --seed NUMBER --count NUMBER
 second views SCRIPT --seed NUMBER --count NUMBER
 second fuzz --seed NUMBER --count NUMBER
 second digests FILE [--corpus NAME] [--compare STORED | --each ENTRY KIND]
-second bench [ENTRY]";
+second bench [--before LIBRARY] [ENTRY]";
 
 /// What should have occurred and did not.
 type Missing = fn(&Tally) -> Vec<String>;
@@ -56,8 +56,10 @@ fn main() -> ExitCode {
             }
         }
         ["digests", file, ref asked @ ..] => digests(file, &BASE, asked),
-        ["bench"] => bench(""),
-        ["bench", part] if bench::has(part) => bench(part),
+        ["bench", "--before", file] => bench_beside(file, ""),
+        ["bench", "--before", file, part] if bench::has(part) => bench_beside(file, part),
+        ["bench"] => bench(None, ""),
+        ["bench", part] if bench::has(part) => bench(None, part),
         _ => usage(),
     }
 }
@@ -89,8 +91,19 @@ fn wrote(written: io::Result<()>) -> ExitCode {
     }
 }
 
-fn bench(part: &str) -> ExitCode {
-    wrote(bench::run(&link::library(), part, &mut io::stdout()))
+fn bench(before: Option<&Entries>, part: &str) -> ExitCode {
+    wrote(bench::run(before, &link::library(), part, &mut io::stdout()))
+}
+
+/// Beside an earlier build, a shared library.
+fn bench_beside(file: &str, part: &str) -> ExitCode {
+    match link::earlier::library(Path::new(file)) {
+        Ok(before) => bench(Some(&before), part),
+        Err(told) => {
+            eprintln!("second: {told}");
+            ExitCode::from(2)
+        }
+    }
 }
 
 fn view(view: View, folder: &str) -> ExitCode {

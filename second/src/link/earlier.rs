@@ -1,0 +1,88 @@
+//! An earlier build, made into a shared library, so that its functions stand beside the linked ones of
+//! the same names.
+
+use std::ffi::{CStr, CString, c_char, c_int, c_void};
+use std::mem::transmute;
+use std::path::Path;
+use std::sync::OnceLock;
+
+use super::UNWRITTEN;
+use crate::entries::{self, Entries};
+use crate::interface::{interface, slice};
+use crate::reply::Reply;
+
+unsafe extern "C" {
+    fn dlopen(file: *const c_char, how: c_int) -> *mut c_void;
+    fn dlsym(library: *mut c_void, name: *const c_char) -> *mut c_void;
+    fn dlerror() -> *const c_char;
+}
+
+/// All of it is bound at once, so that no call of an entry binds what it needs.
+const NOW: c_int = 2;
+
+fn opened(file: &Path) -> Result<*mut c_void, String> {
+    // A name without a folder would be looked for among the system's libraries.
+    let place = file.canonicalize().map_err(|error| format!("{}: {error}", file.display()))?;
+    let file = CString::new(place.as_os_str().as_encoded_bytes()).expect("no zero byte");
+    // SAFETY: the name ends in a zero byte; what fails leaves an error, a text that ends so too.
+    unsafe {
+        let library = dlopen(file.as_ptr(), NOW);
+        match library.is_null() {
+            true => Err(CStr::from_ptr(dlerror()).to_string_lossy().into_owned()),
+            false => Ok(library),
+        }
+    }
+}
+
+/// A function's type, if the library has it.
+macro_rules! function {
+    (($($slice:ident: $kind:tt),*) [$($value:ident),*]) => {
+        Option<unsafe extern "C" fn($(pointer!($kind), usize,)* *mut u64 $(, value!($value))*) -> u32>
+    };
+}
+
+macro_rules! earlier {
+    ($($type:ident $entry:ident $function:ident($($slice:ident: $kind:tt),*) [$($value:ident),*];)*) => {
+        struct Functions {
+            $($entry: function!(($($slice: $kind),*) [$($value),*])),*
+        }
+
+        /// Of the one earlier build that is loaded.
+        static LOADED: OnceLock<Functions> = OnceLock::new();
+
+        /// The entries that it has. One is loaded in a process at the most.
+        pub fn library(file: &Path) -> Result<Entries, String> {
+            let library = opened(file)?;
+            let functions = Functions {
+                $($entry: {
+                    let name = CString::new(stringify!($function)).expect("no zero byte");
+                    // SAFETY: null, which is none, or a function that its header declares as ours
+                    // does: the caller names a build of this library.
+                    unsafe {
+                        transmute::<*mut c_void, function!(($($slice: $kind),*) [$($value),*])>(
+                            dlsym(library, name.as_ptr()),
+                        )
+                    }
+                }),*
+            };
+            let entries = Entries {
+                $($entry: functions.$entry.map(|_| $entry as entries::$type)),*
+            };
+            match LOADED.set(functions) {
+                Ok(()) => Ok(entries),
+                Err(_) => Err("an earlier build is loaded already".into()),
+            }
+        }
+
+        $(
+            #[allow(clippy::too_many_arguments)]
+            fn $entry($($slice: slice!($kind),)* $($value: &mut u64),*) -> Reply {
+                let function = LOADED.get().and_then(|functions| functions.$entry);
+                let function = function.expect("only what is loaded is an entry");
+                called!(function, ($($slice: $kind),*) [$($value),*])
+            }
+        )*
+    };
+}
+
+interface!(earlier);
