@@ -8,7 +8,7 @@ use crate::formula::MAX_BYTES;
 use crate::inputs::kinds::{self, Kinds, Way, way};
 use crate::inputs::lending::{self, LENGTHS, lend};
 use crate::inputs::rng::Rng;
-use crate::inputs::tables::{NAMED, NAMES_OF};
+use crate::inputs::tables::{expected_names, with_any_names};
 use crate::inputs::{formula_texts, formulas, questions, table_texts, tables, words, written};
 use crate::interface::interface;
 use crate::listing::Listing;
@@ -93,19 +93,20 @@ fn expected(entry: &str) -> (&'static [u32], Vec<Expected>) {
             [lending::expected(&lending::TABLE), lending::expected(&lending::FORMULA)];
         questions::expected().into_iter().chain(table).chain(formula)
     };
-    let names = || kinds::expected(NAMED, &NAMES_OF);
     match entry {
         "read_table" => {
             let texts = kinds::expected(TEXT, &table_texts::TEXTS);
             let lengths = kinds::expected(WRITTEN, &LENGTHS);
-            (&[0, 1, 2, 3, 4, 14], texts.into_iter().chain(lengths).chain(names()).collect())
+            let all = texts.into_iter().chain(lengths).chain(expected_names()).collect();
+            (&[0, 1, 2, 3, 4, 14], all)
         }
         "read_formula" => {
             let texts = kinds::expected(TEXT, &formula_texts::TEXTS);
+            let lookups = kinds::expected(TEXT, &formula_texts::LOOKUPS);
             let lengths = kinds::expected(WRITTEN, &LENGTHS);
             let lent = lending::expected(&lending::TABLE);
-            let all = texts.into_iter().chain(lengths).chain(lent).chain(names()).collect();
-            (&[0, 5, 6, 7, 8, 9, 10, 14], all)
+            let all = texts.into_iter().chain(lookups).chain(lengths).chain(lent);
+            (&[0, 5, 6, 7, 8, 9, 10, 14], all.chain(expected_names()).collect())
         }
         "write_formula" => {
             let written = kinds::expected(WRITTEN_BACK, &written::QUESTIONS);
@@ -166,6 +167,7 @@ pub fn read_table(rng: &mut Rng) -> Input<compare::ReadTable> {
     let length = kinds.make(rng, WRITTEN, &LENGTHS, &TABLE_LENGTH);
     let size = tables::size(rng, 40);
     let table = tables::table(rng, &mut kinds, size);
+    let table = with_any_names(rng, &mut kinds, table);
     let text = kinds.make(rng, TEXT, &table_texts::TEXTS, &table);
     Input { case: compare::ReadTable { text, table: lent(rng, length) }, kinds: kinds.0 }
 }
@@ -174,9 +176,14 @@ pub fn read_formula(rng: &mut Rng) -> Input<compare::ReadFormula> {
     let mut kinds = Kinds::default();
     let size = tables::size(rng, 60);
     let table = tables::table(rng, &mut kinds, size);
+    let table = with_any_names(rng, &mut kinds, table);
     let bytes = lend(rng, &mut kinds, &lending::TABLE, &table);
     let length = kinds.make(rng, WRITTEN, &LENGTHS, &FORMULA_LENGTH);
-    let text = kinds.make(rng, TEXT, &formula_texts::TEXTS, &table);
+    let aside = &mut rng.aside(TEXT);
+    let text = match aside.one_in(12) {
+        true => kinds.make(aside, TEXT, &formula_texts::LOOKUPS, &table),
+        false => kinds.make(rng, TEXT, &formula_texts::TEXTS, &table),
+    };
     let case = compare::ReadFormula { table: bytes, text, formula: lent(rng, length) };
     Input { case, kinds: kinds.0 }
 }

@@ -1,6 +1,7 @@
 //! Texts of formulas, with all the faults that 5 to 9 refuse. What is wrong with a name's mark is in
 //! `marks`, what is wrong about a short form in `short`.
 
+use super::alike::near;
 use super::bytes::{damage, damage_an_end, random_bytes};
 use super::formulas::{
     absent_name, class, formula, is_name, node_count, small_tokens, spaced, tokens,
@@ -79,6 +80,17 @@ pub const TEXTS: [Way<Table, Vec<u8>>; 36] = [
     way("about 512 bytes or far more", 4, &[5, 6], |rng, _| extreme_text(rng)),
 ];
 
+/// Texts that look names up, over names that nearly equal each other above all.
+pub const LOOKUPS: [Way<Table, Vec<u8>>; 2] = [
+    way("name near one of the table's", 2, &[7], |rng, table| {
+        with_absent(rng, table, |rng, table| match rng.some(table.labels(), |_| true) {
+            Some(label) => absent_near(rng, table, label),
+            None => absent_name(rng),
+        })
+    }),
+    way("each name alone", 1, &[0], each_name),
+];
+
 /// In one of these ways.
 pub fn text(rng: &mut Rng, table: &Table) -> Vec<u8> {
     (pick(rng, &TEXTS).make)(rng, table)
@@ -107,9 +119,14 @@ fn faulty_tokens(rng: &mut Rng, table: &Table) -> Vec<Vec<u8>> {
 }
 
 pub fn lacking_name(rng: &mut Rng, table: &Table) -> Vec<u8> {
+    with_absent(rng, table, |rng, _| absent_name(rng))
+}
+
+/// With a name that the table lacks.
+fn with_absent(rng: &mut Rng, table: &Table, absent: fn(&mut Rng, &Table) -> Vec<u8>) -> Vec<u8> {
     let mut tokens = small_tokens(rng, table, 12);
     let names: Vec<usize> = (0..tokens.len()).filter(|&at| is_name(&tokens[at])).collect();
-    let absent = absent_name(rng);
+    let absent = absent(rng, table);
     match names.is_empty() {
         true => [b"EX[".as_slice(), &absent, b"]", &tokens.concat()].concat(),
         false => {
@@ -117,6 +134,30 @@ pub fn lacking_name(rng: &mut Rng, table: &Table) -> Vec<u8> {
             tokens.concat()
         }
     }
+}
+
+fn absent_near(rng: &mut Rng, table: &Table, label: usize) -> Vec<u8> {
+    loop {
+        let absent = near(rng, &table.names[label]);
+        if !table.names.contains(&absent) {
+            return absent;
+        }
+    }
+}
+
+/// A node for each name, as far as the nodes and the bytes go.
+fn each_name(rng: &mut Rng, table: &Table) -> Vec<u8> {
+    let mut names = table.names.clone();
+    rng.shuffle(&mut names);
+    let mut text = Vec::new();
+    for name in names.iter().take(MAX_NODES - 1) {
+        let node = [b"EX[".as_slice(), name, b"]"].concat();
+        if text.len() + node.len() < MAX_BYTES {
+            text.extend_from_slice(&node);
+        }
+    }
+    text.push(b'T');
+    text
 }
 
 /// Negations, or whatever fits into the length.

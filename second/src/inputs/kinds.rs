@@ -12,6 +12,12 @@ impl Kinds {
         self.0.push(Kind { part, name });
     }
 
+    /// Of another kind than it was made as.
+    pub fn note_instead(&mut self, part: &'static str, name: &'static str) {
+        self.0.retain(|kind| kind.part != part);
+        self.note(part, name);
+    }
+
     /// A part, made in one of these ways.
     pub fn make<Of, Made>(
         &mut self,

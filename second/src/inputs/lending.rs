@@ -1,5 +1,5 @@
-//! Prepared bytes as they are lent: whole, damaged where a field begins or ends and elsewhere, one
-//! byte short or long.
+//! Prepared bytes as they are lent: whole, damaged where a field begins or ends and elsewhere, with a
+//! slot twice, one byte short or long.
 
 use super::bytes::{another_byte, random_bytes};
 use super::kinds::{self, Kinds, Way, must, way};
@@ -25,6 +25,9 @@ const fn place<Of>(name: &'static str, at: fn(&mut Rng, &Of) -> Option<usize>) -
     Place { name, at }
 }
 
+/// False if nothing can be repeated.
+type Repeat<Of> = fn(&mut Rng, &Of, &mut [u8]) -> bool;
+
 /// A prepared form and its telling bytes.
 pub struct Layout<Of: 'static> {
     part: &'static str,
@@ -33,6 +36,8 @@ pub struct Layout<Of: 'static> {
     refusal: Refusal,
     bytes: fn(&Of) -> Vec<u8>,
     pub places: &'static [Place<Of>],
+    /// What stands in one slot stands in another too, where that is refused and if there are two.
+    repeat: Option<Repeat<Of>>,
     /// Anything else that no reading leaves.
     damage: fn(&mut Rng, &Of, &mut [u8]),
 }
@@ -44,6 +49,7 @@ pub const TABLE: Layout<Table> = Layout {
     refusal: Refusal::PreparedTable,
     bytes: prepared::table_bytes,
     places: &TABLE_PLACES,
+    repeat: Some(tables::repeat_name),
     damage: tables::damage_prepared,
 };
 
@@ -54,6 +60,7 @@ pub const FORMULA: Layout<Question> = Layout {
     refusal: Refusal::PreparedFormula,
     bytes: |question| prepared::formula_bytes(&question.formula),
     places: &FORMULA_PLACES,
+    repeat: None,
     damage: |rng, question, bytes| {
         formulas::damage_prepared(rng, &question.formula, question.table.labels(), bytes);
     },
@@ -176,8 +183,10 @@ pub const LENGTHS: [Way<usize, usize>; 6] = [
 
 const WHOLE: &str = "whole";
 const ANYHOW: &str = "damaged anyhow";
+const REPEATED: &str = "one slot twice";
 
-/// One in ten is damaged at one of its places, some elsewhere, and one in eight has any length.
+/// One in ten is damaged at one of its places, some elsewhere, some have a slot twice, and one in eight
+/// has any length.
 pub fn lend<Of>(rng: &mut Rng, kinds: &mut Kinds, layout: &Layout<Of>, of: &Of) -> Vec<u8> {
     let mut bytes = (layout.bytes)(of);
     match rng.below(40) {
@@ -190,7 +199,12 @@ pub fn lend<Of>(rng: &mut Rng, kinds: &mut Kinds, layout: &Layout<Of>, of: &Of) 
             kinds.note(layout.part, ANYHOW);
             (layout.damage)(rng, of, &mut bytes);
         }
-        _ => kinds.note(layout.part, WHOLE),
+        _ => {
+            let aside = &mut rng.aside(REPEATED);
+            let repeat = layout.repeat.filter(|_| aside.one_in(25));
+            let is_repeated = repeat.is_some_and(|repeat| repeat(aside, of, &mut bytes));
+            kinds.note(layout.part, if is_repeated { REPEATED } else { WHOLE });
+        }
     }
     if rng.one_in(8) {
         let length = kinds.make(rng, layout.length, &LENGTHS, &bytes.len());
@@ -220,6 +234,7 @@ pub fn expected<Of>(layout: &Layout<Of>) -> Vec<Expected> {
     let mut expected = kinds::expected(layout.length, &LENGTHS);
     expected.push(must(layout.part, WHOLE, &[0]));
     expected.push(refused(layout.part, ANYHOW));
+    expected.extend(layout.repeat.map(|_| refused(layout.part, REPEATED)));
     expected.extend(layout.places.iter().map(|place| refused(layout.damaged, place.name)));
     expected
 }

@@ -3,6 +3,7 @@
 pub mod rng;
 pub mod bytes;
 pub mod kinds;
+pub mod alike;
 pub mod tables;
 pub mod formulas;
 pub mod marks;

@@ -2,7 +2,7 @@
 
 use super::kinds::{self, Kinds, must};
 use super::rng::Rng;
-use super::tables::{EXITS, EXITS_OF, NAMED, NAMES_OF, Size};
+use super::tables::{EXITS, EXITS_OF, Size, expected_names, with_any_names};
 use super::{formulas, tables};
 use crate::formula::{Formula, MAX_NODES, Node, Set};
 use crate::table::{MAX_LABELS, MAX_STATES, MAX_TRANSITIONS, Table};
@@ -39,15 +39,15 @@ pub fn of_any_size(rng: &mut Rng, kinds: &mut Kinds, rarity: usize, largest_in: 
     }
     let size = tables::size(rng, rarity);
     kinds.note(PART, size.name());
-    of_size(rng, kinds, size)
+    let Question { table, formula } = of_size(rng, kinds, size);
+    Question { table: with_any_names(rng, kinds, table), formula }
 }
 
 /// All that `of_any_size` must have made.
 pub fn expected() -> Vec<Expected> {
     let sizes = Size::NAMES.into_iter().chain([LARGEST]);
     let sizes = sizes.map(|name| must(PART, name, &[0]));
-    let names = kinds::expected(NAMED, &NAMES_OF);
-    sizes.chain(names).chain(kinds::expected(EXITS, &EXITS_OF)).collect()
+    sizes.chain(expected_names()).chain(kinds::expected(EXITS, &EXITS_OF)).collect()
 }
 
 /// What `with_long_words` must have made.

@@ -16,6 +16,12 @@ impl Rng {
         Rng::new(mixed(mixed(seed, kind), index))
     }
 
+    /// Another one, by this one's state and a part's name. What is drawn of it changes nothing of what is
+    /// drawn of this one, so that the rest of an input stays what it is without that part.
+    pub fn aside(&self, part: &str) -> Rng {
+        Rng::of_input(self.state, part, 0)
+    }
+
     pub fn draw(&mut self) -> u64 {
         self.state = self.state.wrapping_add(0x9e37_79b9_7f4a_7c15);
         let mut mixed = self.state;

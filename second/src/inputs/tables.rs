@@ -2,13 +2,15 @@
 
 use std::collections::BTreeSet;
 
+use super::alike;
 use super::bytes::TELLING;
-use super::kinds::{Kinds, Way, way};
+use super::kinds::{self, Kinds, Way, must, way};
 use super::rng::Rng;
 use crate::prepared::{NAME_SLOT, NAMES, TABLE_LENGTH, TRANSITION_SLOT, TRANSITIONS};
 use crate::table::{
     IDLE, MARKS, MAX_LABELS, MAX_STATES, MAX_STEM, MAX_TRANSITIONS, SILENT, Step, Table,
 };
+use crate::tally::Expected;
 
 #[derive(Clone, Copy, PartialEq, Eq)]
 pub enum Size {
@@ -233,6 +235,25 @@ pub const NAMES_OF: [Way<usize, Vec<Vec<u8>>>; 6] = [
     }),
 ];
 
+const NEAR: &str = "nearly equal";
+
+/// One table in eight has other names, which nearly equal each other.
+pub fn with_any_names(rng: &Rng, kinds: &mut Kinds, mut table: Table) -> Table {
+    let aside = &mut rng.aside(NAMED);
+    if table.labels() > 0 && aside.one_in(8) {
+        kinds.note_instead(NAMED, NEAR);
+        table.names = alike::names(aside, table.labels());
+    }
+    table
+}
+
+/// All names that `with_any_names` must have left or made.
+pub fn expected_names() -> Vec<Expected> {
+    let mut expected = kinds::expected(NAMED, &NAMES_OF);
+    expected.push(must(NAMED, NEAR, &[0]));
+    expected
+}
+
 /// A small table with all three names of some stem.
 pub fn with_three_of_a_stem(rng: &mut Rng) -> Table {
     let labels = rng.between(3, 6);
@@ -338,6 +359,18 @@ fn damage_names(rng: &mut Rng, table: &Table, bytes: &mut [u8]) {
         1 => bytes[slot] = rng.pick(&[0, 1, 2, 11, 12, 13, 14, 15, 16, 255]),
         _ => bytes[slot + rng.below(NAME_SLOT)] = rng.pick(TELLING),
     }
+}
+
+/// The name of one label is that of another too; if there are two.
+pub fn repeat_name(rng: &mut Rng, table: &Table, bytes: &mut [u8]) -> bool {
+    if table.labels() < 2 {
+        return false;
+    }
+    let label = rng.below(table.labels());
+    let other = (label + rng.between(1, table.labels() - 1)) % table.labels();
+    let [slot, other] = [label, other].map(|label| NAMES + label * NAME_SLOT);
+    bytes.copy_within(other..other + NAME_SLOT, slot);
+    true
 }
 
 /// One more mark behind a name, counted or not; thirteen letters; a mark within.
