@@ -8,21 +8,22 @@ use std::path::PathBuf;
 
 use common::loops::with_loops;
 use second::digests::answers::Explainer;
-use second::digests::{self, BASE, Corpus, IDLE, MARKS, SHORT, WRITTEN, difference};
+use second::digests::{self, BASE, Corpus, IDLE, MARKS, NAMES, SHORT, WRITTEN, difference};
 use second::entries::{self, Entries, SECOND};
 use second::prepared;
 use second::reply::Reply;
 use second::table::SILENT;
 
 /// Each corpus and its stored lines.
-fn stored() -> [(Corpus, Vec<&'static str>); 5] {
+fn stored() -> [(Corpus, Vec<&'static str>); 6] {
     let lines = |file: &'static str| file.lines().filter(|line| !line.starts_with('#')).collect();
     let base = lines(include_str!("../corpus/base.txt"));
     let marks = lines(include_str!("../corpus/marks.txt"));
     let short = lines(include_str!("../corpus/short.txt"));
     let idle = lines(include_str!("../corpus/idle.txt"));
     let written = lines(include_str!("../corpus/written.txt"));
-    [(BASE, base), (MARKS, marks), (SHORT, short), (IDLE, idle), (WRITTEN, written)]
+    let names = lines(include_str!("../corpus/names.txt"));
+    [(BASE, base), (MARKS, marks), (SHORT, short), (IDLE, idle), (WRITTEN, written), (NAMES, names)]
 }
 
 fn explainer(entries: Entries) -> Explainer {
@@ -81,7 +82,7 @@ fn every_kind_has_a_stored_line_and_no_line_is_without_a_kind() {
 
 #[test]
 fn every_refusal_of_every_entry_is_among_the_answers() {
-    let [(_, base), (_, marks), (_, short), (_, idle), (_, written)] = stored();
+    let [base, marks, short, idle, written, names] = stored().map(|(_, lines)| lines);
     all_are_among(
         &base,
         &[
@@ -110,6 +111,16 @@ fn every_refusal_of_every_entry_is_among_the_answers() {
     );
     all_are_among(&idle, &[("accepts", &[0, 13]), ("texts", &[0, 2])]);
     all_are_among(&written, &[("write_formula", &[0, 10, 14, 15]), ("read_back", &[0, 6, 7, 15])]);
+    all_are_among(
+        &names,
+        &[
+            ("read_table", &[0, 3]),
+            ("read_formula", &[0, 7, 10]),
+            ("verdict", &[0, 10]),
+            ("accepts", &[0, 10]),
+            ("texts", &[0, 3]),
+        ],
+    );
 }
 
 fn all_are_among(lines: &[&str], expected: &[(&str, &[u32])]) {
@@ -165,6 +176,22 @@ fn a_byte_behind_a_text_changes_its_inputs() {
     assert!(differing_in(&WRITTEN, wrong, "write_formula", "class-1") > 700);
     assert!(differing_in(&WRITTEN, wrong, "write_formula", "511-bytes") > 90);
     assert_eq!(differing_in(&WRITTEN, wrong, "write_formula", "512-bytes"), 0);
+}
+
+#[test]
+fn names_are_answered_by_whether_they_are_equal() {
+    let lines = stored().into_iter().find(|(corpus, _)| corpus.name == NAMES.name).expect("it").1;
+    for line in &lines[1..] {
+        let words: Vec<&str> = line.split_whitespace().collect();
+        let [entry, kind, count] = words[..3] else { panic!("{line}") };
+        let number = match entry {
+            "read_table" | "texts" if kind.contains("equal") => 3,
+            _ if kind.contains("equal") => 10,
+            _ if kind.contains("absent") => 7,
+            _ => 0,
+        };
+        assert_eq!(words[4..], [format!("{number}:{count}")], "{line}");
+    }
 }
 
 #[test]

@@ -1,6 +1,6 @@
 //! The corpus `base`, whose answers `corpus/base.txt` holds. This generator is left alone and uses
 //! nothing else of the crate, so that its inputs stay what they are, byte for byte; new kinds of
-//! input get a new corpus beside it, as in `marks`, `short`, `idle` and `written`.
+//! input get a new corpus beside it, as in `marks`, `short`, `idle`, `written` and `names`.
 
 mod calls;
 mod damage;
@@ -8,6 +8,7 @@ mod folders;
 mod formulas;
 pub mod idle;
 pub mod marks;
+pub mod names;
 mod questions;
 mod read_formula;
 mod read_table;
@@ -217,5 +218,6 @@ mod tests {
         no_two_have_one_name(short::kinds());
         no_two_have_one_name(idle::kinds());
         no_two_have_one_name(written::kinds());
+        no_two_have_one_name(names::kinds());
     }
 }

@@ -50,7 +50,13 @@ pub const WRITTEN: Corpus = Corpus {
     kinds: || corpus::written::kinds().collect(),
 };
 
-pub const CORPORA: [Corpus; 5] = [BASE, MARKS, SHORT, IDLE, WRITTEN];
+pub const NAMES: Corpus = Corpus {
+    name: "names",
+    generator: "second/src/corpus/names.rs",
+    kinds: || corpus::names::kinds().collect(),
+};
+
+pub const CORPORA: [Corpus; 6] = [BASE, MARKS, SHORT, IDLE, WRITTEN, NAMES];
 
 impl Corpus {
     pub fn kinds(&self) -> Vec<Kind> {
