@@ -81,6 +81,22 @@ fn deep_texts() -> Vec<Vec<u8>> {
     texts.into_iter().map(String::into_bytes).collect()
 }
 
+/// A name of each length, which is compared to its end where brackets and heads are deepest.
+fn deep_lookups() -> (Vec<u8>, Vec<Vec<u8>>) {
+    let name = |length: usize| match length {
+        13 => b"abcdefghijkl?".to_vec(),
+        _ => b"abcdefghijkl"[..length].to_vec(),
+    };
+    let names: Vec<Vec<u8>> = (1..=13).map(name).collect();
+    let text = |name: &[u8], unit: &str| {
+        let end = [b"EX[(~".as_slice(), name, b")] T"].concat();
+        [unit.repeat((MAX_BYTES - end.len()) / unit.len()).into_bytes(), end].concat()
+    };
+    let units = ["(", "~", "~(", "EX[*](", "T|(", "BOX[*](", "AGT&("];
+    let texts = names.iter().flat_map(|name| units.map(|unit| text(name, unit))).collect();
+    (prepared::table_bytes(&Table { names, ..small_table() }), texts)
+}
+
 /// The longest listing; forty nodes within each other or side by side.
 fn large_questions() -> Vec<Question> {
     let mut questions = vec![longest_listing(&mut Rng::new(3))];
@@ -151,6 +167,11 @@ fn calls(entry: &str) -> Vec<Call> {
         "read_formula" => {
             let table = prepared::table_bytes(&small_table());
             let formula = lent(FORMULA_LENGTH);
+            calls.extend(
+                texts.map(|text| call(ReadFormula { table: table.clone(), text, formula })),
+            );
+            let (table, texts) = deep_lookups();
+            let texts = texts.into_iter();
             calls.extend(
                 texts.map(|text| call(ReadFormula { table: table.clone(), text, formula })),
             );
