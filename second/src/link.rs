@@ -1,5 +1,5 @@
-//! The static library's entries, and those of an earlier build. Any bytes and lengths are handed over
-//! as they are.
+//! The static library's entries, and those of builds that are loaded. Any bytes and lengths are handed
+//! over as they are.
 
 pub mod stack;
 
@@ -50,4 +50,4 @@ macro_rules! called {
 #[cfg(feature = "library")]
 mod linked;
 
-pub mod earlier;
+pub mod loaded;

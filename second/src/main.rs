@@ -8,7 +8,7 @@ use std::time::Instant;
 
 use second::digests::answers::Explainer;
 use second::digests::{BASE, CORPORA, Corpus};
-use second::entries::{Entries, SECOND};
+use second::entries::SECOND;
 use second::reply::Reply;
 use second::tally::{self, Tally};
 use second::views::View;
@@ -23,7 +23,7 @@ second program FILE --seed NUMBER --count NUMBER
 second views SCRIPT --seed NUMBER --count NUMBER
 second fuzz --seed NUMBER --count NUMBER
 second digests FILE [--corpus NAME] [--compare STORED | --each ENTRY KIND]
-second bench [--before LIBRARY] [ENTRY]";
+second bench [--before BUILD] [--library BUILD] [ENTRY]";
 
 /// What should have occurred and did not.
 type Missing = fn(&Tally) -> Vec<String>;
@@ -56,10 +56,7 @@ fn main() -> ExitCode {
             }
         }
         ["digests", file, ref asked @ ..] => digests(file, &BASE, asked),
-        ["bench", "--before", file] => bench_beside(file, ""),
-        ["bench", "--before", file, part] if bench::has(part) => bench_beside(file, part),
-        ["bench"] => bench(None, ""),
-        ["bench", part] if bench::has(part) => bench(None, part),
+        ["bench", ref asked @ ..] => bench(asked),
         _ => usage(),
     }
 }
@@ -91,18 +88,34 @@ fn wrote(written: io::Result<()>) -> ExitCode {
     }
 }
 
-fn bench(before: Option<&Entries>, part: &str) -> ExitCode {
-    wrote(bench::run(before, &link::library(), part, &mut io::stdout()))
-}
-
-/// Beside an earlier build, a shared library.
-fn bench_beside(file: &str, part: &str) -> ExitCode {
-    match link::earlier::library(Path::new(file)) {
-        Ok(before) => bench(Some(&before), part),
+/// An earlier build beside the library, and another one in its place, are shared libraries.
+fn bench(asked: &[&str]) -> ExitCode {
+    let (before, asked) = option("--before", asked);
+    let (library, asked) = option("--library", asked);
+    let part = match asked {
+        [] => "",
+        [part] if bench::has(part) => part,
+        _ => return usage(),
+    };
+    let before = before.map(|file| link::loaded::library::<0>(Path::new(file))).transpose();
+    let library = library.map(|file| link::loaded::library::<1>(Path::new(file))).transpose();
+    match before.and_then(|before| Ok((before, library?))) {
+        Ok((before, library)) => {
+            let library = library.unwrap_or_else(link::library);
+            wrote(bench::run(before.as_ref(), &library, part, &mut io::stdout()))
+        }
         Err(told) => {
             eprintln!("second: {told}");
             ExitCode::from(2)
         }
+    }
+}
+
+/// What stands behind this word, if it comes first, and the rest.
+fn option<'a>(word: &str, asked: &'a [&'a str]) -> (Option<&'a str>, &'a [&'a str]) {
+    match asked {
+        [first, file, rest @ ..] if *first == word => (Some(file), rest),
+        _ => (None, asked),
     }
 }
 

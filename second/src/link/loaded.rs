@@ -1,5 +1,5 @@
-//! An earlier build, made into a shared library, so that its functions stand beside the linked ones of
-//! the same names.
+//! Builds of the library that were made into shared libraries, so that the functions of several stand
+//! beside each other under the same names.
 
 use std::ffi::{CStr, CString, c_char, c_int, c_void};
 use std::mem::transmute;
@@ -41,17 +41,17 @@ macro_rules! function {
     };
 }
 
-macro_rules! earlier {
+macro_rules! loaded {
     ($($type:ident $entry:ident $function:ident($($slice:ident: $kind:tt),*) [$($value:ident),*];)*) => {
         struct Functions {
             $($entry: function!(($($slice: $kind),*) [$($value),*])),*
         }
 
-        /// Of the one earlier build that is loaded.
-        static LOADED: OnceLock<Functions> = OnceLock::new();
+        /// Of each build by its place.
+        static LOADED: [OnceLock<Functions>; 2] = [const { OnceLock::new() }; 2];
 
-        /// The entries that it has. One is loaded in a process at the most.
-        pub fn library(file: &Path) -> Result<Entries, String> {
+        /// The entries that a build has. At each place, 0 and 1, one is loaded at the most.
+        pub fn library<const PLACE: usize>(file: &Path) -> Result<Entries, String> {
             let library = opened(file)?;
             let functions = Functions {
                 $($entry: {
@@ -66,18 +66,18 @@ macro_rules! earlier {
                 }),*
             };
             let entries = Entries {
-                $($entry: functions.$entry.map(|_| $entry as entries::$type)),*
+                $($entry: functions.$entry.map(|_| $entry::<PLACE> as entries::$type)),*
             };
-            match LOADED.set(functions) {
+            match LOADED[PLACE].set(functions) {
                 Ok(()) => Ok(entries),
-                Err(_) => Err("an earlier build is loaded already".into()),
+                Err(_) => Err("a build is loaded there already".into()),
             }
         }
 
         $(
             #[allow(clippy::too_many_arguments)]
-            fn $entry($($slice: slice!($kind),)* $($value: &mut u64),*) -> Reply {
-                let function = LOADED.get().and_then(|functions| functions.$entry);
+            fn $entry<const PLACE: usize>($($slice: slice!($kind),)* $($value: &mut u64),*) -> Reply {
+                let function = LOADED[PLACE].get().and_then(|functions| functions.$entry);
                 let function = function.expect("only what is loaded is an entry");
                 called!(function, ($($slice: $kind),*) [$($value),*])
             }
@@ -85,4 +85,4 @@ macro_rules! earlier {
     };
 }
 
-interface!(earlier);
+interface!(loaded);
