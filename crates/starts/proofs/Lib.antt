@@ -1,0 +1,5 @@
+pub mod Answers
+pub mod Anywhere
+pub mod Beginnings
+pub mod Prepared
+pub mod Wrong
