@@ -3,6 +3,7 @@ ghost use mathlib.Core.Path.{_≡_};
 ghost use Rattle.lts.specs.TableReading.{tableReplied, tableLeft};
 ghost use Rattle.actl.specs.FormulaReading.{formulaReplied, formulaLeft};
 ghost use Rattle.satisfaction.specs.VerdictAsked.{verdictReplied};
+ghost use Rattle.starts.specs.VerdictsAsked.{verdictsReplied, verdictsLeft};
 ghost use Rattle.automaton.specs.Build.{buildReplied, rowsLeft, edgesLeft};
 ghost use Rattle.automaton.specs.WordAsked.{wordReplied};
 ghost use Rattle.written_back.specs.FormulaWriting.{formulaWritten, textLeft};
@@ -21,9 +22,11 @@ use replies::build_edges;
 use replies::formula_answer;
 use replies::table_answer;
 use replies::verdict_answer;
+use replies::verdicts_answer;
 use replies::word_answer;
 use replies::write_answer;
 use table_text::read_table;
+use verdicts::verdicts;
 use words::accepts;
 use write_formula::write_formula;
 
@@ -61,6 +64,24 @@ pub extern "C" fn explainer_verdict(table: &[u8], formula: &[u8], figure: &mut u
     ensures { λ _. ⌜ now (figure .exit) ≡ figureIn (λ holds. holds) (verdictReplied (now (table .entry)) (now (formula .entry))) ⌝ }
 {
     let answer = verdict_answer(verdict(table, formula));
+    *figure = answer.figure;
+    answer.number
+}
+
+#[no_mangle]
+pub extern "C" fn explainer_verdicts(
+    table: &[u8],
+    formula: &[u8],
+    starts: &[u8],
+    answers: &mut [u8],
+    figure: &mut u64,
+) -> u32
+    ensures { λ r. ⌜ r ≡ numberIn (verdictsReplied (now (table .entry)) (now (formula .entry)) (now (starts .entry)) (now (answers .entry))) ⌝ }
+    ensures { λ _. ⌜ now (answers .exit) ≡ verdictsLeft (now (table .entry)) (now (formula .entry)) (now (starts .entry)) (now (answers .entry)) ⌝ }
+    ensures { λ _. ⌜ now (figure .exit) ≡ figureIn (λ joint. joint)
+        (verdictsReplied (now (table .entry)) (now (formula .entry)) (now (starts .entry)) (now (answers .entry))) ⌝ }
+{
+    let answer = verdicts_answer(verdicts(table, formula, starts, answers));
     *figure = answer.figure;
     answer.number
 }

@@ -4,6 +4,7 @@ ghost use Rattle.table_text.specs.Replies.{tableReply};
 ghost use Rattle.formula_text.specs.Replies.{formulaReply};
 ghost use Rattle.formula_check.specs.Inputs.{unpreparedNumber, unpreparedFigure};
 ghost use Rattle.labelling.specs.Replies.{verdictReply};
+ghost use Rattle.verdicts.specs.Replies.{verdictsReply};
 ghost use Rattle.building.specs.Replies.{buildReply};
 ghost use Rattle.words.specs.Replies.{wordReply};
 ghost use Rattle.write_formula.specs.Replies.{writeReply};
@@ -14,6 +15,7 @@ use formula_check::inputs::Unprepared;
 use formula_text::FormulaReply;
 use labelling::VerdictReply;
 use table_text::TableReply;
+use verdicts::VerdictsReply;
 use words::WordReply;
 use write_formula::WriteReply;
 
@@ -77,6 +79,17 @@ pub fn verdict_answer(reply: VerdictReply) -> Answer
         VerdictReply::Holds => numbered(0, 1),
         VerdictReply::Fails => numbered(0, 0),
         VerdictReply::Refused(why) => unprepared_answer(why),
+    }
+}
+
+pub fn verdicts_answer(reply: VerdictsReply) -> Answer
+    ensures { λ r. ⌜ Says (λ joint. joint) (verdictsReply reply) r ⌝ }
+{
+    match reply {
+        VerdictsReply::HoldsAtAll => numbered(0, 1),
+        VerdictsReply::FailsSomewhere => numbered(0, 0),
+        VerdictsReply::StartWrong(index) => numbered(16, index),
+        VerdictsReply::Refused(why) => unprepared_answer(why),
     }
 }
 
