@@ -19,11 +19,12 @@ use Rattle.actl.specs.Sizes.{longestText}
 use Rattle.actl.specs.Formulas.{Formula}
 use Rattle.actl.specs.inner.Reader.{read}
 use Rattle.actl.specs.inner.Reading.{readUnlimited, readFormula}
-use Rattle.actl.proofs.Laws.Refusals.{result-numbers}
+use Rattle.actl.proofs.Laws.Refusals.{result-numbers, reading-numbers}
 use Rattle.automaton.specs.inner.Search.{listing}
 use Rattle.automaton.specs.Build.{fitted}
 use Rattle.automaton.proofs.Refusals.{fitted-numbers}
 use Rattle.explanations.specs.Explanation.{andThen, explanation}
+use Rattle.explanations.specs.inner.BothTexts.{Read, readings}
 use Rattle.explanations.specs.inner.Printed.{withLength}
 use Rattle.explanations.specs.inner.Sizes.{keptLength}
 
@@ -47,6 +48,37 @@ other-next n (refusal k m) f g o h = other-kept n (refusal k m) o
 -- Both texts read, then anything else.
 abbrev pub readings-then : {B : Type 0} → (Table → Formula → Reply B) → List ℕ → List ℕ → Reply B
 readings-then next table text = andThen (readTable table) (λ t. andThen (readFormula (t .names) text) (next t))
+
+-- It goes on with what was read, and refuses with 1 to 9 or as what comes next does.
+pub of-readings : {B : Type 0} (next : Table → Formula → Reply B) (table text : List ℕ)
+    → readings-then next table text ≡ andThen (readings table text) (λ x. next (x .table) (x .formula))
+of-readings {B} next table text = by-table (readTable table)
+  where
+    goes : Read → Reply B
+    goes x = next (x .table) (x .formula)
+
+    by-formula : (t : Table) (r : Reply Formula) → andThen r (next t) ≡ andThen (andThen r (λ F. accepted (record { table = t; formula = F }))) goes
+    by-formula t (accepted F) = refl
+    by-formula t (refusal n g) = refl
+
+    by-table : (r : Reply Table) → andThen r (λ t. andThen (readFormula (t .names) text) (next t))
+        ≡ andThen (andThen r (λ t. andThen (readFormula (t .names) text) (λ F. accepted (record { table = t; formula = F })))) goes
+    by-table (accepted t) = by-formula t (readFormula (t .names) text)
+    by-table (refusal n g) = refl
+
+numbered-next : {A B : Type 0} (P : ℕ → Type 0) (r : Reply A) (f : A → Reply B) → Numbered P r → ((a : A) → Numbered P (f a))
+    → Numbered P (andThen r f)
+numbered-next P (accepted a) f o h = h a
+numbered-next P (refusal n g) f o h = o
+
+pub then-numbers : {B : Type 0} (most : ℕ) → 9 ≤ most → (next : Table → Formula → Reply B) → ((t : Table) (F : Formula) → Numbered (Between 1 most) (next t F))
+    → (table text : List ℕ) → Numbered (Between 1 most) (readings-then next table text)
+then-numbers most h next o table text =
+    numbered-next (Between 1 most) (readTable table) _
+    (numbered-so (Between 1 4) (Between 1 most) (λ n b. (b .0, omega (arith, b .1))) (readTable table) (table-numbers table)) (λ t.
+    numbered-next (Between 1 most) (readFormula (t .names) text) _
+    (numbered-so (Between 5 9) (Between 1 most) (λ n b. (omega (arith, b .0), omega (arith, b .1))) (readFormula (t .names) text)
+    (reading-numbers (t .names) text)) (o t))
 
 -- If that is never refused with 5, the beginnings get the answer of the whole texts.
 module _ {B : Type 0} (next : Table → Formula → Reply B) (other : (t : Table) (F : Formula) → Other (next t F)) where

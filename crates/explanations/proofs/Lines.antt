@@ -28,7 +28,7 @@ module _ {A : Type 0} (d : A) (out : ℕ → List A → List ℕ) (f : ℕ → L
       let rest = lines-from (suc k) l (λ i b. let z : k + suc i ≡ suc k + i = omega arith in subst (λ n. f n ≡ line n (getD l i d)) z (h (suc i) (omega arith))) in
       (λ i. first i ++ rest i) ∙ sym (more k x l)
 
-  lines-are : (l : List A) → ((i : ℕ) → i < length l → f i ≡ line i (getD l i d)) → bind f (upFrom 0 (length l)) ≡ out 0 l
+  pub lines-are : (l : List A) → ((i : ℕ) → i < length l → f i ≡ line i (getD l i d)) → bind f (upFrom 0 (length l)) ≡ out 0 l
   lines-are l h = lines-from 0 l (λ i b. subst (λ n. f n ≡ line n (getD l i d)) (sym (zero-add i)) (h i b))
 
 abbrev rowLine : ℕ → Row → List ℕ

@@ -8,34 +8,26 @@ use lib.ListN.{length}
 use borrow.Author.Tests.{leb-true, le-leb}
 use Rattle.lts.specs.Sizes.{tableLength}
 use Rattle.lts.specs.Reply.{Reply, accepted, refusal, leftIn, answers}
-use Rattle.lts.specs.Steps.{Table, labels}
-use Rattle.lts.specs.Reading.{readTable}
+use Rattle.lts.specs.Steps.{labels}
 use Rattle.lts.proofs.Laws.Reading.{unless-to, unless-of}
-use Rattle.lts.proofs.Laws.Refusals.{Numbered, Between, numbered-so, numbered-unless, table-numbers}
+use Rattle.lts.proofs.Laws.Refusals.{Numbered, Between, numbered-unless}
 use Rattle.actl.specs.Sizes.{formulaLength, longestText}
-use Rattle.actl.specs.Formulas.{Formula}
-use Rattle.actl.specs.inner.Reading.{readFormula}
 use Rattle.actl.specs.inner.Prepared.{preparedFormula}
 use Rattle.actl.specs.FormulaReading.{withTable, withFormula}
-use Rattle.actl.proofs.Laws.Refusals.{reading-numbers}
 use Rattle.actl.proofs.Laws.Replies.{refusal-is-not-accepted}
 use Rattle.explanations.specs.Explanation.{andThen}
 use Rattle.explanations.specs.inner.BothTexts.{Read, readings}
+use Rattle.explanations.proofs.Beginnings.{of-readings, then-numbers}
 use Rattle.replies.specs.Interface.{numberIn, figureIn}
 use Rattle.replies.specs.inner.Says.{Says}
 use Rattle.replies.specs.declared.Answer.{Answer}
 use Rattle.explainer.proofs.Answers.{said-of}
 use Rattle.explainer.proofs.Into.{WasRead}
 use Rattle.written_back.specs.FormulaText.{formulaText}
+use Rattle.written_back.proofs.Written.{textIn}
 use Rattle.written_back.specs.FormulaWriting.{unlessLong, formulaWriting, formulaWritten, textLeft}
 use Rattle.formula_line.specs.LineText.{writtenBack}
 use Rattle.formula_line.specs.inner.Back.{WroteBack}
-
--- A reply that goes on with what was accepted refuses with the numbers of both.
-numbered-next : {A B : Type 0} (P : ℕ → Type 0) (r : Reply A) (f : A → Reply B) → Numbered P r → ((a : A) → Numbered P (f a))
-    → Numbered P (andThen r f)
-numbered-next P (accepted a) f o h = h a
-numbered-next P (refusal n g) f o h = o
 
 -- What is said of a text's length is said of the text.
 length-said : (r : Reply (List ℕ)) {a : Answer} → Says (λ n. n) (answers length r) a → Says length r a
@@ -43,43 +35,23 @@ length-said (accepted s) said = record { number-said = said .number-said; figure
 length-said (refusal n g) said = record { number-said = said .number-said; figure-said = said .figure-said }
 
 abbrev textOf : Read → Reply (List ℕ)
-textOf x = unlessLong (formulaText (x .table .names) (x .formula))
+textOf x = textIn (x .table) (x .formula)
 
 module _ (tableText text : List ℕ) where
-  of-readings : writtenBack tableText text ≡ andThen (readings tableText text) textOf
-  unfolding writtenBack
-  of-readings = by-table (readTable tableText)
-    where
-      by-formula : (t : Table) (r : Reply Formula)
-          → andThen r (λ F. unlessLong (formulaText (t .names) F))
-          ≡ andThen (andThen r (λ F. accepted (record { table = t; formula = F }))) textOf
-      by-formula t (accepted F) = refl
-      by-formula t (refusal n g) = refl
-
-      by-table : (r : Reply Table)
-          → andThen r (λ t. andThen (readFormula (t .names) text) (λ F. unlessLong (formulaText (t .names) F)))
-          ≡ andThen (andThen r (λ t. andThen (readFormula (t .names) text) (λ F. accepted (record { table = t; formula = F })))) textOf
-      by-table (accepted t) = by-formula t (readFormula (t .names) text)
-      by-table (refusal n g) = refl
-
   of-read : {r : Reply Read} → readings tableText text ≡ r → writtenBack tableText text ≡ andThen r textOf
-  of-read e = of-readings ∙ ap (λ r. andThen r textOf) e
+  unfolding writtenBack
+  of-read e = of-readings textIn tableText text ∙ ap (λ r. andThen r textOf) e
 
   -- No refusal has the number 0.
   pub back-numbers : Numbered (Between 1 15) (writtenBack tableText text)
   unfolding writtenBack
-  back-numbers =
-      numbered-next (Between 1 15) (readTable tableText) _
-      (numbered-so (Between 1 4) (Between 1 15) (λ n h. (h .0, omega (arith, h .1))) (readTable tableText) (table-numbers tableText)) (λ t.
-      numbered-next (Between 1 15) (readFormula (t .names) text) _
-      (numbered-so (Between 5 9) (Between 1 15) (λ n h. (omega (arith, h .0), omega (arith, h .1))) (readFormula (t .names) text)
-      (reading-numbers (t .names) text)) (λ F.
+  back-numbers = then-numbers 15 (omega arith) textIn (λ t F.
       let s = formulaText (t .names) F in
-      numbered-unless (Between 1 15) (leb (length s) longestText) 15 (length s) (accepted s) (omega arith, omega arith) tt))
+      numbered-unless (Between 1 15) (leb (length s) longestText) 15 (length s) (accepted s) (omega arith, omega arith) tt) tableText text
 
   -- A text that is written has at most 512 bytes.
   pub written-short : (s : List ℕ) → writtenBack tableText text ≡ accepted s → length s ≤ longestText
-  written-short s e = by (readings tableText text) (sym of-readings ∙ e)
+  written-short s e = by (readings tableText text) (sym (of-read refl) ∙ e)
     where
       by : (r : Reply Read) → andThen r textOf ≡ accepted s → length s ≤ longestText
       by (refusal n g) d = absurd (refusal-is-not-accepted d)

@@ -72,15 +72,19 @@ module _ (states : ℕ) where
             let (k, found, b) = too-many states starts few (omega (arith, leb-false (length starts) mostStates d)) in
             let z : _≡_ {A = ℕ} 0 1 = cc in absurd (omega arith)
 
+    -- What is wrong at the beginning is wrong in the whole.
+    pub wrong-later : (n k : ℕ) → wrongStart states (take n starts) ≡ some k → wrongStart states starts ≡ some k
+    unfolding wrongStart
+    wrong-later n k e = ap (wrongFrom states 0 0) (sym (take-append-drop n starts)) ∙ wrong-stays 0 0 (take n starts) (drop n starts) k e
+
     -- The first 257 entries decide, or as many as there are.
     pub wrong-begun : states ≤ mostStates → (n : ℕ) → min (length starts) enoughStarts ≤ n → wrongStart states (take n starts) ≡ wrongStart states starts
-    unfolding wrongStart
     wrong-begun few n enough = by (leb (length starts) n) refl
       where
         longer : n < length starts → wrongStart states (take n starts) ≡ wrongStart states starts
         longer h =
             let (k, found, b) = too-many states (take n starts) few (omega (arith, length-take-le n starts (omega arith))) in
-            found ∙ sym (ap (wrongFrom states 0 0) (sym (take-append-drop n starts)) ∙ wrong-stays 0 0 (take n starts) (drop n starts) k found)
+            found ∙ sym (wrong-later n k found)
 
         by : (b : Bool) → leb (length starts) n ≡ b → wrongStart states (take n starts) ≡ wrongStart states starts
         by true e = ap (wrongStart states) (take-all n starts (leb-true (length starts) n e))
