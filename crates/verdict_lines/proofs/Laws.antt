@@ -2,3 +2,4 @@ pub mod Asking
 pub mod Entries
 pub mod Lines
 pub mod Listing
+pub mod Written

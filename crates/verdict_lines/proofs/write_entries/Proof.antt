@@ -46,8 +46,7 @@ loop-again c =
     let second = c .before .before .before .before in
     let first = second .before .before in
     let here = first .before .before in
-    let loop = turn here .loop in
-    (
+    let loop = turn here .loop in (
       line-more (start here .pre) (loop .inv .0) (here .loop-test .taken) _ _ (first .wide .ensures .0) (first .wide .ensures .1) (second .wide2 .ensures .0)
           (second .wide2 .ensures .1) (c .before .before .write-pair .ensures),
       omega (arith, here .loop-test .taken),
