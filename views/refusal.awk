@@ -1,4 +1,5 @@
-# A refusal in words, from its number and figure. Input: the bytes of table.txt (for 1 to 4) or of formula.txt (6, 7), as od -An -v -tu1 prints them.
+# A refusal in words, from its number and figure, and from the listed states in columns (for 16). Input: the bytes of table.txt (for 1 to 4, and 16) or of formula.txt (6, 7), as
+# od -An -v -tu1 prints them.
 
 BEGIN {
   bytes = 0
@@ -94,6 +95,19 @@ function formula_refused(offset,    ends, blanks) {
     say("formula.txt, offset " offset ": no formula goes on like this", text(0, ends), blanks "^")
 }
 
+# The entry of the list, counted from 0.
+function state(k) {
+  return substr(starts, 6 * k + 1, 6) + 0
+}
+
+# The table begins with the count of its states, in six columns.
+function start_refused(k) {
+  if (state(k) >= text(0, 6) + 0)
+    say("entry " k " of the list, counted from 0: the table has no state " state(k))
+  else
+    say("entry " k " of the list, counted from 0: state " state(k) " is not above the one before, state " state(k - 1))
+}
+
 function say(words, shown_first, shown_second) {
   print "explain: refused (" number "): " words
   if (shown_first != "" || shown_second != "")
@@ -119,6 +133,8 @@ END {
     say("the automaton has " figure " edges; the program has places for 4096")
   else if (number == 15)
     say("the text written back has " figure " bytes, more than 512")
+  else if (number == 16)
+    start_refused(figure + 0)
   else
     say("figure " figure)
 }

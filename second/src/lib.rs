@@ -27,6 +27,7 @@ pub mod baseline;
 pub mod link;
 
 pub mod print;
+pub mod starts;
 pub mod views;
 
 pub mod tally;
@@ -38,6 +39,7 @@ pub mod fuzz;
 pub mod read_back;
 pub mod trials;
 pub mod program;
+pub mod print_verdicts;
 pub mod script;
 pub mod digests;
 pub mod bench;

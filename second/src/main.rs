@@ -12,14 +12,18 @@ use second::entries::SECOND;
 use second::reply::Reply;
 use second::tally::{self, Tally};
 use second::views::View;
-use second::{bench, digests, fuzz, link, print, program, read_back, script, views};
+use second::{
+    bench, digests, fuzz, link, print, print_verdicts, program, read_back, script, starts, views,
+};
 
 const USAGE: &str = "second explain FOLDER
 second dot FOLDER
 second aut FOLDER
 second words NUMBER FOLDER
 second formula FOLDER
+second starts LIST FOLDER
 second program FILE --seed NUMBER --count NUMBER
+second print_verdicts FILE --seed NUMBER --count NUMBER
 second views SCRIPT --seed NUMBER --count NUMBER
 second fuzz --seed NUMBER --count NUMBER
 second digests FILE [--corpus NAME] [--compare STORED | --each ENTRY KIND]
@@ -42,8 +46,14 @@ fn main() -> ExitCode {
             Err(_) => usage(),
         },
         ["formula", folder] => view(View::Formula, folder),
+        ["starts", list, folder] if starts::in_columns(list).is_some() => {
+            view(View::Starts(list), folder)
+        }
         ["program", file, ref inputs @ ..] => {
             seeded(inputs, |seed, count| in_folders(&PROGRAM, file, seed, count))
+        }
+        ["print_verdicts", file, ref inputs @ ..] => {
+            seeded(inputs, |seed, count| in_folders(&PRINT_VERDICTS, file, seed, count))
         }
         ["views", file, ref inputs @ ..] => {
             seeded(inputs, |seed, count| in_folders(&VIEWS, file, seed, count))
@@ -125,7 +135,8 @@ fn view(view: View, folder: &str) -> ExitCode {
         Ok(text) => wrote(io::stdout().write_all(text.as_bytes())),
         Err(refusal) => {
             let reply = refusal.into();
-            if view == View::Formula && io::stdout().write_all(&print::refusal(reply)).is_err() {
+            let is_printed = matches!(view, View::Formula | View::Starts(_));
+            if is_printed && io::stdout().write_all(&print::refusal(reply)).is_err() {
                 return ExitCode::FAILURE;
             }
             let Reply { number, figure } = reply;
@@ -151,6 +162,16 @@ const PROGRAM: Comparison = Comparison {
     },
     enough: program::ENOUGH,
     missing: program::missing,
+};
+
+const PRINT_VERDICTS: Comparison = Comparison {
+    name: "print_verdicts",
+    run: |file, place, seed, count| {
+        let print = |folder: &Path, list: &[u8]| print_verdicts::output_in(file, folder, list);
+        print_verdicts::run(print, place, seed, count)
+    },
+    enough: print_verdicts::ENOUGH,
+    missing: print_verdicts::missing,
 };
 
 const VIEWS: Comparison = Comparison {

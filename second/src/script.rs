@@ -1,5 +1,6 @@
-//! The script `explain`, run on random folders: its listing, its views and the formula that it writes
-//! back are the second explainer's texts, and a refusal is told in the same words whatever was asked for.
+//! The script `explain`, run on random folders: its listing, its views, the formula that it writes back
+//! and its verdicts at several states are the second explainer's texts, and a refusal is told in the same
+//! words whatever was asked for.
 
 use std::io;
 use std::path::Path;
@@ -7,6 +8,7 @@ use std::process::{Command, Output, Stdio};
 
 use crate::inputs::folders::{Files, NUMBERS};
 use crate::inputs::kinds::{self, must};
+use crate::inputs::lists::{LIST, LISTS, typed};
 use crate::inputs::views::{LONGER, WAYS, folder, word_count};
 use crate::print;
 use crate::reply::Reply;
@@ -42,15 +44,21 @@ const fn formula(name: &'static str, is_in: fn(&str) -> bool) -> Sign {
     Sign { view: FORMULA, name, is_in }
 }
 
-const FORMULA: &str = "--formula";
+const fn starts(name: &'static str, is_in: fn(&str) -> bool) -> Sign {
+    Sign { view: STARTS, name, is_in }
+}
 
-/// A folder with a listing whose formula is refused when it is written back.
-const TOO_LONG: &str = "too long";
-/// A folder with too many rows or edges whose formula is written back.
+const FORMULA: &str = "--formula";
+const STARTS: &str = "--starts";
+
+/// A folder with a listing that is refused: its formula is too long when it is written back, or the list
+/// of states is refused.
+const REFUSED: &str = "refused of a folder with a listing";
+/// A folder with too many rows or edges that is answered.
 const NOT_BUILT: &str = "written of a folder without a listing";
 
 /// Each of these must be in some text of its view.
-const SIGNS: [Sign; 25] = [
+const SIGNS: [Sign; 29] = [
     dot("all witnesses", |text| text.contains("\"holds: all witnesses\"")),
     dot("all counterexamples", |text| text.contains("\"does not hold: all counterexamples\"")),
     dot("no witness", |text| text.contains("\"does not hold: no word is a witness\"")),
@@ -80,7 +88,20 @@ const SIGNS: [Sign; 25] = [
     formula("no labels", |text| text.contains("~*")),
     formula("several names", |text| sets(text).any(|set| set.contains('|'))),
     formula("marked names", |text| sets(text).any(|set| set.contains(['?', '!']))),
+    starts("no state", |text| text == "     1     0\n"),
+    starts("holds at all", |text| text.starts_with("     1") && verdicts(text).next().is_some()),
+    starts("holds at some", |text| {
+        text.starts_with("     0") && verdicts(text).any(|of| of == "1")
+    }),
+    starts("holds at none", |text| {
+        text.starts_with("     0") && verdicts(text).all(|of| of == "0")
+    }),
 ];
+
+/// Behind each state.
+fn verdicts(text: &str) -> impl Iterator<Item = &str> {
+    text.lines().skip(1).filter_map(|line| line.split_whitespace().nth(1))
+}
 
 /// What stands in square brackets.
 fn sets(text: &str) -> impl Iterator<Item = &str> {
@@ -96,9 +117,13 @@ fn joined(text: &str) -> impl Iterator<Item = usize> {
 /// What should have occurred among enough folders and did not.
 pub fn missing(tally: &Tally) -> Vec<String> {
     let signs = SIGNS.iter().map(|sign| must(sign.view, sign.name, &[0]));
-    let written = [must(FORMULA, TOO_LONG, &[0]), must(FORMULA, NOT_BUILT, &[11, 12])];
+    let programs = [FORMULA, STARTS];
+    let refused = programs.map(|view| must(view, REFUSED, &[0]));
+    let written = programs.map(|view| must(view, NOT_BUILT, &[11, 12]));
+    let lists = LISTS.iter().map(|way| must(LIST, way.name, &[0]));
     let ways = kinds::expected(PART, &WAYS).into_iter().chain(kinds::expected(PART, &[LONGER]));
-    let expected: Vec<Expected> = ways.chain(signs).chain(written).collect();
+    let expected: Vec<Expected> =
+        ways.chain(signs).chain(refused).chain(written).chain(lists).collect();
     tally.missing(&NUMBERS, ENOUGH, &expected)
 }
 
@@ -115,7 +140,10 @@ pub fn run(
     Trials { place, seed, count }.each(folder, |index, name, files| {
         let mut shown = Shown { kinds: vec![Kind { part: PART, name }], ..Shown::default() };
         let words = View::Words(word_count(seed, index));
-        for view in [View::Listing, View::Dot, View::Aut, words, View::Formula] {
+        let (list, states) = typed(seed, index, files.table.contents());
+        shown.kinds.push(Kind { part: LIST, name: list });
+        let starts = View::Starts(&states);
+        for view in [View::Listing, View::Dot, View::Aut, words, View::Formula, starts] {
             let output = explain(view, place).map_err(|error| error.to_string())?;
             let asked = format!("explain {view}");
             let agrees = shown.agrees(view, files, output);
@@ -142,8 +170,8 @@ impl Shown {
         match views::text(view, files.table.contents(), files.formula.contents()) {
             Ok(text) => {
                 self.kinds.extend(signs(view, &text));
-                if view == View::Formula && self.number != 0 {
-                    self.kinds.push(Kind { part: FORMULA, name: NOT_BUILT });
+                if self.number != 0 {
+                    self.kinds.extend(program(view).map(|part| Kind { part, name: NOT_BUILT }));
                 }
                 trials::writes(text.as_bytes(), 0, &output)?;
                 trials::is_quiet(&output)
@@ -159,12 +187,10 @@ impl Shown {
             _ => Vec::new(),
         };
         trials::writes(&line, 1, &output)?;
-        match view {
-            View::Listing => self.number = refusal.number,
-            View::Formula if self.number == 0 => {
-                self.kinds.push(Kind { part: FORMULA, name: TOO_LONG });
-            }
-            _ => {}
+        if view == View::Listing {
+            self.number = refusal.number;
+        } else if self.number == 0 {
+            self.kinds.extend(program(view).map(|part| Kind { part, name: REFUSED }));
         }
         let known = self.words.iter().find(|(known, _)| *known == refusal);
         let words = known.map_or(&output.stderr, |(_, words)| words);
@@ -177,6 +203,15 @@ impl Shown {
     }
 }
 
+/// The option of a view that has a program of its own, which builds nothing.
+fn program(view: View) -> Option<&'static str> {
+    match view {
+        View::Formula => Some(FORMULA),
+        View::Starts(_) => Some(STARTS),
+        _ => None,
+    }
+}
+
 fn signs(view: View, text: &str) -> impl Iterator<Item = Kind> {
     let view = view.to_string();
     let are_in = move |sign: &&Sign| view.starts_with(sign.view) && (sign.is_in)(text);
@@ -185,7 +220,10 @@ fn signs(view: View, text: &str) -> impl Iterator<Item = Kind> {
 
 /// The output of a script for this folder.
 pub fn output_of(script: &Path, view: View, folder: &Path) -> io::Result<Output> {
-    let options = view.to_string();
-    let options = options.split_whitespace();
-    Command::new(script).args(options).arg(folder).stdin(Stdio::null()).output()
+    let mut command = Command::new(script);
+    match view {
+        View::Starts(list) => command.args([STARTS, list]),
+        _ => command.args(view.to_string().split_whitespace()),
+    };
+    command.arg(folder).stdin(Stdio::null()).output()
 }

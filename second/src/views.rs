@@ -1,5 +1,5 @@
 //! What is written of a folder: its listing, or a view of it for Graphviz, in the Aldebaran format,
-//! or by its least words; or its formula, written back.
+//! or by its least words; or its formula, written back; or its verdicts at several states.
 
 use std::fmt;
 
@@ -10,20 +10,22 @@ use crate::listing::{Edge, Listing};
 use crate::print::{self, EDGE_PLACES, ROW_PLACES};
 use crate::reply::Refusal;
 use crate::table::{IDLE, SILENT, Table};
-use crate::{verdict, writing};
+use crate::{starts, verdict, writing};
 
 #[derive(Clone, Copy, Debug, PartialEq, Eq)]
-pub enum View {
+pub enum View<'a> {
     Listing,
     Dot,
     Aut,
     Words(usize),
     /// Nothing is built for it, so its refusals are 1 to 9 and 15.
     Formula,
+    /// Of a list of states, as it is typed. Nothing is built for it, so its refusals are 1 to 9 and 16.
+    Starts(&'a str),
 }
 
 /// The script's options for it.
-impl fmt::Display for View {
+impl fmt::Display for View<'_> {
     fn fmt(&self, to: &mut fmt::Formatter) -> fmt::Result {
         match self {
             View::Listing => Ok(()),
@@ -31,6 +33,7 @@ impl fmt::Display for View {
             View::Aut => write!(to, "--aut"),
             View::Words(count) => write!(to, "--words {count}"),
             View::Formula => write!(to, "--formula"),
+            View::Starts(list) => write!(to, "--starts \"{list}\""),
         }
     }
 }
@@ -47,6 +50,11 @@ pub fn text(view: View, table: &[u8], formula: &[u8]) -> Result<String, Refusal>
         View::Aut => Ok(explained()?.aut()),
         View::Words(count) => Ok(explained()?.words(count)),
         View::Formula => written_back(table, print::line_of(formula)),
+        View::Starts(list) => {
+            let list = starts::in_columns(list).expect("a list");
+            let verdicts = starts::verdicts(table, formula, &list)?;
+            Ok(String::from_utf8(starts::text(&verdicts)).expect("ASCII"))
+        }
     }
 }
 

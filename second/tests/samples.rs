@@ -56,6 +56,16 @@ fn the_example_shows_the_changer_with_its_listing_and_words_byte_for_byte() {
     assert_eq!(shown, [table, formula, listing, words, directions, short_forms, first, second]);
 }
 
+#[test]
+fn the_readme_shows_verdicts_of_the_changer_byte_for_byte() {
+    let [table, formula] =
+        ["table", "formula"].map(|name| read(&format!("samples/changer/{name}.txt")));
+    let list = "0 3 5";
+    let verdicts = views::text(View::Starts(list), table.as_bytes(), formula.as_bytes());
+    let command = format!("bin/explain --starts \"{list}\" samples/changer\n");
+    assert!(shown(&read("README.md")).contains(&(command + &verdicts.expect("verdicts"))));
+}
+
 /// Each ends in the idle step of the wait.
 fn words_into_the_wait() -> [Vec<u8>; 3] {
     [vec![1, 2, 5], vec![1, 2, 3, 5], vec![1, 2, 5, 6, 5]].map(|ways| [ways, vec![IDLE]].concat())

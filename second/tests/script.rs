@@ -12,6 +12,7 @@ use second::print::{files_in, line_of, refusal};
 use second::reply::Reply;
 use second::script;
 use second::table::Table;
+use second::verdict::holds;
 use second::views::{View, text};
 
 /// As in .ci/program.
@@ -40,7 +41,7 @@ fn right(view: View, folder: &Path) -> Output {
 #[test]
 fn a_right_script_is_not_blamed_and_leaves_no_folder() {
     let place = place("right");
-    let explain = |view, folder: &Path| Ok(right(view, folder));
+    let explain = |view: View, folder: &Path| Ok(right(view, folder));
     let tally = script::run(explain, &place, SEED, FOLDERS).expect("no difference");
     assert_eq!(tally.inputs, FOLDERS);
     assert_eq!(script::missing(&tally), [""; 0]);
@@ -50,7 +51,7 @@ fn a_right_script_is_not_blamed_and_leaves_no_folder() {
 /// What is told of a script that is wrong, if it is found; the folder is kept, and removed here.
 fn told(test: &str, wrong: impl Fn(View, &Path, Output) -> Output) -> Option<String> {
     let place = place(test);
-    let explain = |view, folder: &Path| Ok(wrong(view, folder, right(view, folder)));
+    let explain = |view: View, folder: &Path| Ok(wrong(view, folder, right(view, folder)));
     let told = script::run(explain, &place, SEED, FOLDERS).err()?;
     assert!(told.contains(&place.display().to_string()), "{told}");
     fs::remove_dir_all(&place).expect("the folder is kept");
@@ -58,7 +59,7 @@ fn told(test: &str, wrong: impl Fn(View, &Path, Output) -> Output) -> Option<Str
 }
 
 struct Shown<'a> {
-    view: View,
+    view: View<'a>,
     folder: &'a Path,
     lines: Vec<String>,
 }
@@ -367,7 +368,7 @@ fn faults_in_formulas_are_found() {
 
 #[test]
 fn a_formula_that_is_too_long_is_refused_and_one_without_a_listing_is_not() {
-    let too_long = |view, folder: &Path| {
+    let too_long = |view: View, folder: &Path| {
         let [table, formula] = files_in(folder);
         let refused = text(view, &table, &formula).err();
         view == View::Formula && refused.is_some_and(|refused| Reply::from(refused).number == 15)
@@ -397,6 +398,110 @@ fn a_formula_that_is_too_long_is_refused_and_one_without_a_listing_is_not() {
     assert!(built.expect("found").contains("\nexplain --formula: "));
 }
 
+/// With another line for each listed state.
+fn with_verdicts(shown: &mut Shown, change: impl Fn(&Shown, u8, bool) -> String) {
+    let (table, formula) = shown.question();
+    let lines = shown.lines[1..].iter().map(|line| {
+        let state: u8 = line[..6].trim_start().parse().expect("a state");
+        let at_state = Table { start: state, ..table.clone() };
+        change(shown, state, holds(&at_state, &formula))
+    });
+    let lines = lines.collect::<Vec<String>>();
+    shown.lines.splice(1.., lines);
+}
+
+fn line(numbers: [u64; 2]) -> String {
+    numbers.map(|number| format!("{number:>6}")).concat()
+}
+
+#[test]
+fn faults_in_verdicts_are_found() {
+    are_found(
+        "--starts",
+        &[
+            ("the verdict is that of the table's start", |shown| {
+                let (table, formula) = shown.question();
+                let verdict = holds(&table, &formula);
+                with_verdicts(shown, |_, state, _| line([state.into(), verdict.into()]));
+            }),
+            ("the last state has the verdict of the one before", |shown| {
+                if let [_, .., before, last] = &mut shown.lines[..] {
+                    last.replace_range(6.., &before[6..]);
+                }
+            }),
+            ("all hold if one does", |shown| {
+                let any = shown.lines[1..].iter().any(|line| line.ends_with('1'));
+                shown.lines[0].replace_range(..6, &format!("{:>6}", u8::from(any)));
+            }),
+            ("all hold if the last does", |shown| {
+                let last = shown.lines.last().is_some_and(|line| line.ends_with('1'));
+                shown.lines[0].replace_range(..6, &format!("{:>6}", u8::from(last)));
+            }),
+            ("it does not hold at none", |shown| {
+                if shown.lines.len() == 1 {
+                    shown.lines[0] = line([0, 0]);
+                }
+            }),
+            ("those are counted that hold", |shown| {
+                let times = shown.lines[1..].iter().filter(|line| line.ends_with('1')).count();
+                shown.lines[0].replace_range(6.., &format!("{times:>6}"));
+            }),
+            ("the count comes first", |shown| {
+                let (all, count) = shown.lines[0].split_at(6);
+                shown.lines[0] = [count, all].concat();
+            }),
+            ("verdicts come before their states", |shown| {
+                with_verdicts(shown, |_, state, verdict| line([verdict.into(), state.into()]));
+            }),
+            ("states are counted from 1", |shown| {
+                with_verdicts(shown, |_, state, verdict| {
+                    line([u64::from(state) + 1, verdict.into()])
+                });
+            }),
+            ("the last state is lost", |shown| {
+                if shown.lines.len() > 1 {
+                    shown.lines.pop();
+                }
+            }),
+            ("they fall", |shown| shown.lines[1..].reverse()),
+            ("numbers as they are typed", |shown| {
+                let View::Starts(list) = shown.view else { panic!("no list") };
+                let typed = list.split_whitespace().zip(&mut shown.lines[1..]);
+                typed.for_each(|(state, line)| line.replace_range(..6, &format!("{state:>6}")));
+            }),
+        ],
+    );
+}
+
+#[test]
+fn a_list_that_is_refused_is_told_and_one_of_no_state_is_not_refused() {
+    let refused = |view: View, folder: &Path| {
+        let [table, formula] = files_in(folder);
+        let refused = text(view, &table, &formula).err().map(Reply::from);
+        refused.is_some_and(|refused| refused.number == 16)
+    };
+    let is_found = |test: &str, wrong: &dyn Fn(View, &Path, Output) -> Output| {
+        let told = told(test, wrong).expect(test);
+        assert!(told.contains("\nexplain --starts "), "{told}");
+    };
+    is_found("accepted", &|view, folder, output| match refused(view, folder) {
+        true => says(0, b"     1     0\n", b""),
+        false => output,
+    });
+    is_found("silent list", &|view, folder, output| match refused(view, folder) {
+        true => says(1, b"", b""),
+        false => output,
+    });
+    is_found("line of a list", &|view, folder, output| match refused(view, folder) {
+        true => says(1, b"    16     0\n", &output.stderr),
+        false => output,
+    });
+    is_found("no state", &|view, _, output| match (view, &output.stdout[..]) {
+        (View::Starts(_), b"     1     0\n") => says(1, b"", b"refused\n"),
+        _ => output,
+    });
+}
+
 fn is_told(test: &str, piece: &str, wrong: fn(View, Output) -> Output) {
     let told = told(test, |view, _, output| wrong(view, output)).expect(test);
     assert!(told.contains(piece), "{told}");
@@ -408,8 +513,9 @@ fn code(output: &Output) -> i32 {
 
 #[test]
 fn another_exit_or_other_words_of_a_refusal_are_found() {
-    is_told("success", "\nexplain: exit status: 0", |_, output| {
-        says(0, &output.stdout, &output.stderr)
+    is_told("success", "\nexplain: exit status: 0", |view, output| match view {
+        View::Listing => says(0, &output.stdout, &output.stderr),
+        _ => output,
     });
     is_told("quiet", "explain --words", |view, output| match view {
         View::Words(_) => says(code(&output), &output.stdout, b""),

@@ -16,4 +16,5 @@ pub mod lending;
 pub mod words;
 pub mod edits;
 pub mod folders;
+pub mod lists;
 pub mod views;
