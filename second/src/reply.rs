@@ -34,6 +34,8 @@ pub enum Refusal {
     ShortBuffer(usize),
     /// A formula written back, by its length.
     TextLength(usize),
+    /// A listed state, by its index, that is not above the one before it or that the table lacks.
+    Starts(usize),
 }
 
 impl From<Refusal> for Reply {
@@ -55,6 +57,7 @@ impl From<Refusal> for Reply {
             Refusal::Word(index) => (13, index),
             Refusal::ShortBuffer(needed) => (14, needed),
             Refusal::TextLength(length) => (15, length),
+            Refusal::Starts(index) => (16, index),
         };
         Reply { number, figure: figure as u64 }
     }
