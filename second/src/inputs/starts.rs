@@ -58,7 +58,7 @@ const LISTS: [Way<usize, Vec<u8>>; 13] = [
     }),
     way("256 entries, all states in turn", 1, &[0, 16], |_, &states| in_turn(states, 256)),
     way("257 entries or more, all states in turn", 2, &[16], |rng, &states| {
-        let length = rng.pick(&[257, 257, 300, 512, 513]);
+        let length = rng.pick(&[257, 257, 300, 512, 513, 65_536, 70_000]);
         in_turn(states, length)
     }),
 ];
