@@ -475,24 +475,23 @@ fn faults_in_the_length_of_lists_are_found() {
             first_wrong(&starts[..starts.len().min(states)], states)
         },
     }
-    let cut = |name: &'static str, entry: Verdicts| wrong(name, entry);
     all_are_found(&[
-        cut("a list is cut at 255", |table, formula, starts, answers| {
+        wrong("a list is cut at 255", |table, formula, starts, answers| {
             verdicts(table, formula, &starts[..starts.len().min(255)], answers)
         }),
-        cut("a list is cut at 256", |table, formula, starts, answers| {
+        wrong("a list is cut at 256", |table, formula, starts, answers| {
             verdicts(table, formula, &starts[..starts.len().min(256)], answers)
         }),
-        cut("the low byte of its length is taken for it", |table, formula, starts, answers| {
+        wrong("the low byte of its length is taken for it", |table, formula, starts, answers| {
             verdicts(table, formula, &starts[..starts.len() % 256], answers)
         }),
-        cut("the low two bytes of its length", |table, formula, starts, answers| {
+        wrong("the low two bytes of its length", |table, formula, starts, answers| {
             verdicts(table, formula, &starts[..starts.len() % 65_536], answers)
         }),
-        cut("the last of a list is not looked at", |table, formula, starts, answers| {
+        wrong("the last of a list is not looked at", |table, formula, starts, answers| {
             verdicts(table, formula, &starts[..starts.len().saturating_sub(1)], answers)
         }),
-        cut("no list may be empty", |table, formula, starts, answers| {
+        wrong("no list may be empty", |table, formula, starts, answers| {
             match verdicts(table, formula, starts, answers) {
                 Reply { number: 0, .. } if starts.is_empty() => Reply { number: 16, figure: 0 },
                 reply => reply,

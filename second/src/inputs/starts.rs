@@ -15,16 +15,10 @@ const PART: &str = "starts";
 const LISTS: [Way<usize, Vec<u8>>; 13] = [
     way("none", 3, &[0], |_, _| Vec::new()),
     way("all states", 3, &[0], |_, &states| all(states)),
-    way("all states but one", 2, &[0], |rng, &states| {
-        let mut list = all(states);
-        list.remove(rng.below(states));
-        list
-    }),
+    way("all states but one", 2, &[0], |rng, &states| all_but_one(rng, states)),
     way("one state", 3, &[0], |rng, &states| vec![rng.below(states) as u8]),
     way("rising, the last state among them", 4, &[0], |rng, &states| {
-        let mut list = some(rng, states - 1);
-        list.push((states - 1) as u8);
-        list
+        some_and(rng, states - 1, states - 1)
     }),
     way("rising, without the last state", 4, &[0], |rng, &states| some(rng, states - 1)),
     way("one entry twice", 2, &[16], |rng, &states| {
@@ -65,17 +59,9 @@ const LISTS: [Way<usize, Vec<u8>>; 13] = [
 
 /// Over a table that lacks a state.
 const LISTS_OF_FEWER: [Way<usize, Vec<u8>>; 5] = [
-    way("rising, to the count of states", 4, &[16], |rng, &states| {
-        let mut list = some(rng, states);
-        list.push(states as u8);
-        list
-    }),
+    way("rising, to the count of states", 4, &[16], |rng, &states| some_and(rng, states, states)),
     way("the count of states alone", 1, &[16], |_, &states| vec![states as u8]),
-    way("rising, to 255", 1, &[16], |rng, &states| {
-        let mut list = some(rng, states);
-        list.push(u8::MAX);
-        list
-    }),
+    way("rising, to 255", 1, &[16], |rng, &states| some_and(rng, states, MAX_STATES - 1)),
     way("a state that the table lacks, then others", 2, &[16], |rng, &states| {
         let mut list = some_at_least_one(rng, states);
         let index = rng.below(list.len());
@@ -89,11 +75,7 @@ const LISTS_OF_FEWER: [Way<usize, Vec<u8>>; 5] = [
 const LISTS_OF_MOST: [Way<usize, Vec<u8>>; 6] = [
     way("state 255 alone", 1, &[0], |_, _| vec![u8::MAX]),
     way("all 256", 1, &[0], |_, &states| all(states)),
-    way("all 256 but one", 1, &[0], |rng, &states| {
-        let mut list = all(states);
-        list.remove(rng.below(states));
-        list
-    }),
+    way("all 256 but one", 1, &[0], |rng, &states| all_but_one(rng, states)),
     way("256 entries, the last not above", 1, &[16], |rng, &states| {
         let mut list = all(states);
         list[states - 1] = rng.pick(&[0, 128, 253, 254]);
@@ -117,10 +99,23 @@ fn in_turn(states: usize, entries: usize) -> Vec<u8> {
     (0..entries).map(|index| (index % states) as u8).collect()
 }
 
-/// Rising; of many states mostly few.
+fn all_but_one(rng: &mut Rng, states: usize) -> Vec<u8> {
+    let mut list = all(states);
+    list.remove(rng.below(states));
+    list
+}
+
+/// Rising: all of them, a half, a third, or about six.
 fn some(rng: &mut Rng, states: usize) -> Vec<u8> {
     let one_in = rng.pick(&[1, 2, 2, 3, states.div_ceil(6)]).max(1);
     all(states).into_iter().filter(|_| rng.one_in(one_in)).collect()
+}
+
+/// And one more behind them.
+fn some_and(rng: &mut Rng, states: usize, last: usize) -> Vec<u8> {
+    let mut list = some(rng, states);
+    list.push(last as u8);
+    list
 }
 
 fn some_at_least_one(rng: &mut Rng, states: usize) -> Vec<u8> {
