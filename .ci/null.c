@@ -6,6 +6,7 @@
 
 static uint8_t table[EXPLAINER_TABLE_LENGTH];
 static uint8_t formula[EXPLAINER_FORMULA_LENGTH];
+static uint8_t answers[EXPLAINER_MOST_STATES];
 static int failed;
 
 static void expect(const char *call, uint32_t number, uint64_t figure, uint32_t expected, uint64_t of)
@@ -38,6 +39,12 @@ int main(void)
     expect("read_formula", n, f, EXPLAINER_ACCEPTED, 0);
     n = explainer_verdict(table, sizeof table, NULL, 0, &f);
     expect("verdict", n, f, EXPLAINER_BUFFER_SHORT, EXPLAINER_FORMULA_LENGTH);
+    n = explainer_verdicts(NULL, 0, NULL, 0, NULL, 0, NULL, 0, &f);
+    expect("verdicts", n, f, EXPLAINER_BUFFER_SHORT, EXPLAINER_TABLE_LENGTH);
+    n = explainer_verdicts(table, sizeof table, formula, sizeof formula, NULL, 0, NULL, 0, &f);
+    expect("verdicts", n, f, EXPLAINER_BUFFER_SHORT, EXPLAINER_MOST_STATES);
+    n = explainer_verdicts(table, sizeof table, formula, sizeof formula, NULL, 0, answers, sizeof answers, &f);
+    expect("verdicts", n, f, EXPLAINER_ACCEPTED, 1);
     n = explainer_build(table, sizeof table, formula, sizeof formula, NULL, 0, NULL, 0, &f, &edges);
     expect("build", n, f, EXPLAINER_ROWS_SHORT, 3);
     n = explainer_accepts(table, sizeof table, formula, sizeof formula, NULL, 0, &f);
@@ -50,11 +57,15 @@ int main(void)
     expect("explain", n, f, EXPLAINER_ROWS_SHORT, 3);
     n = explainer_write_formula(table, sizeof table, formula, sizeof formula, NULL, 0, &f);
     expect("write_formula", n, f, EXPLAINER_BUFFER_SHORT, EXPLAINER_LONGEST_FORMULA_TEXT);
+    if (answers[0] != 0) {
+        printf("verdicts at no state writes an answer\n");
+        failed = 1;
+    }
     if (verdict != 7 || formula_class != 7 || edges != 7) {
         printf("a refusal writes a value\n");
         failed = 1;
     }
-    if (explainer_refusal(EXPLAINER_BUFFER_SHORT) == NULL || explainer_refusal(EXPLAINER_TEXT_TOO_LONG) == NULL || explainer_refusal(16) != NULL) {
+    if (explainer_refusal(EXPLAINER_BUFFER_SHORT) == NULL || explainer_refusal(EXPLAINER_STARTS_BAD) == NULL || explainer_refusal(17) != NULL) {
         printf("explainer_refusal has other words\n");
         failed = 1;
     }

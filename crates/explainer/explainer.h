@@ -20,7 +20,8 @@
 
 /* The lengths, in bytes, of a prepared table and a prepared formula, and of a place for a row and for an edge. A prepared buffer under its
    length is refused (14); past its length it is neither read nor written. n bytes lent for rows or edges are n / 3 or n / 5 places. What is
-   lent for the text of a formula has EXPLAINER_LONGEST_FORMULA_TEXT bytes or more; with fewer it is refused (14). */
+   lent for the text of a formula has EXPLAINER_LONGEST_FORMULA_TEXT bytes or more, and for the answers at listed states
+   EXPLAINER_MOST_STATES or more; with fewer it is refused (14). */
 #define EXPLAINER_TABLE_LENGTH 3718
 #define EXPLAINER_FORMULA_LENGTH 681
 #define EXPLAINER_ROW_LENGTH 3
@@ -62,12 +63,14 @@
 #define EXPLAINER_WORD_BAD 13               /* the index of the first such label below 1,024, else 1,024 */
 #define EXPLAINER_BUFFER_SHORT 14           /* the length that is needed */
 #define EXPLAINER_TEXT_TOO_LONG 15          /* the length of the text */
+#define EXPLAINER_STARTS_BAD 16             /* the index of the first such state */
 
 /* The stack that each call takes at most, in bytes: measured on the inputs that take most, rounded up to a multiple of 16,384. */
 #define EXPLAINER_READ_TABLE_STACK 16384
 #define EXPLAINER_READ_FORMULA_STACK 196608
 #define EXPLAINER_WRITE_FORMULA_STACK 16384
 #define EXPLAINER_VERDICT_STACK 32768
+#define EXPLAINER_VERDICTS_STACK 32768
 #define EXPLAINER_BUILD_STACK 98304
 #define EXPLAINER_ACCEPTS_STACK 49152
 #define EXPLAINER_EXPLAIN_STACK 196608
@@ -91,6 +94,12 @@ uint32_t explainer_write_formula(const uint8_t *table, size_t table_len, const u
 
 /* Whether a prepared formula holds at the start of a prepared table. Accepted: *figure is 1 if it holds, else 0. Refused: 10, 14. */
 uint32_t explainer_verdict(const uint8_t *table, size_t table_len, const uint8_t *formula, size_t formula_len, uint64_t *figure);
+
+/* Whether a prepared formula holds at each listed state of a prepared table, in place of its start. starts has a state in each byte, strictly
+   rising. Accepted: *figure is 1 if it holds at all of them, and if none is listed, else 0; answers has 1 at the index of each state where it
+   holds, 0 where not, and what stands past them stays. Refused: 10, 14, 16. */
+uint32_t explainer_verdicts(const uint8_t *table, size_t table_len, const uint8_t *formula, size_t formula_len,
+                            const uint8_t *starts, size_t starts_len, uint8_t *answers, size_t answers_len, uint64_t *figure);
 
 /* Builds the automaton of all finite witnesses or counterexamples into places for rows and edges. Accepted: *figure is the count of rows and
    *edge_count the count of edges. Refused: 10, 11, 12, 14. */
@@ -128,8 +137,9 @@ static inline const char *explainer_refusal(uint32_t number)
     case EXPLAINER_ROWS_SHORT: return "there are more rows than lent places";
     case EXPLAINER_EDGES_SHORT: return "there are more edges than lent places";
     case EXPLAINER_WORD_BAD: return "a label of the word is above the label count and not 99, or the word is over 1,024";
-    case EXPLAINER_BUFFER_SHORT: return "a prepared buffer, or the one for a text, is under its length";
+    case EXPLAINER_BUFFER_SHORT: return "a prepared buffer, or the one for a text or for answers, is under its length";
     case EXPLAINER_TEXT_TOO_LONG: return "the formula's text is over 512 bytes, and not written";
+    case EXPLAINER_STARTS_BAD: return "a listed state is not above the one before, or the table lacks it";
     default: return NULL;
     }
 }

@@ -28,6 +28,8 @@ struct Input {
     formula_text: Vec<u8>,
     table: Vec<u8>,
     formula: Vec<u8>,
+    /// All states.
+    starts: Vec<u8>,
     word: Vec<u8>,
     /// That each call answers.
     number: u32,
@@ -42,6 +44,7 @@ impl Input {
             formula_text,
             table: prepared::table_bytes(table),
             formula: prepared::formula_bytes(formula),
+            starts: (0..table.states).map(|state| state as u8).collect(),
             word: word_along(&Listing::of(table, formula)),
             number: 0,
         }
@@ -208,6 +211,7 @@ fn to_write(size: &'static str, question: &Question) -> Input {
         formula_text: Vec::new(),
         table: prepared::table_bytes(&question.table),
         formula: prepared::formula_bytes(&question.formula),
+        starts: Vec::new(),
         word: Vec::new(),
         number: 0,
     }
@@ -250,17 +254,19 @@ struct Buffers {
     table: Vec<u8>,
     formula: Vec<u8>,
     text: Vec<u8>,
+    answers: Vec<u8>,
     rows: Vec<u8>,
     edges: Vec<u8>,
 }
 
 type Call = fn(&Entries, &Input, &mut Buffers) -> Option<Reply>;
 
-const CALLS: [(&str, Call); 8] = [
+const CALLS: [(&str, Call); 9] = [
     ("read_table", read_table),
     ("read_formula", read_formula),
     ("write_formula", write_formula),
     ("verdict", verdict),
+    ("verdicts", verdicts),
     ("build", build),
     ("accepts", accepts),
     ("whole", whole),
@@ -281,6 +287,10 @@ fn write_formula(of: &Entries, input: &Input, lent: &mut Buffers) -> Option<Repl
 
 fn verdict(of: &Entries, input: &Input, _: &mut Buffers) -> Option<Reply> {
     Some(of.verdict?(&input.table, &input.formula))
+}
+
+fn verdicts(of: &Entries, input: &Input, lent: &mut Buffers) -> Option<Reply> {
+    Some(of.verdicts?(&input.table, &input.formula, &input.starts, &mut lent.answers))
 }
 
 fn build(of: &Entries, input: &Input, lent: &mut Buffers) -> Option<Reply> {
@@ -334,6 +344,7 @@ pub fn run(
         table: vec![0; TABLE_LENGTH],
         formula: vec![0; FORMULA_LENGTH],
         text: vec![0; MAX_BYTES],
+        answers: vec![0; MAX_STATES],
         rows: vec![0; 10_496 * ROW_PLACE],
         edges: vec![0; 1_000_000 * EDGE_PLACE],
     };
@@ -348,9 +359,27 @@ pub fn run(
         let many_names = many_names.iter().filter(|_| entry == "write_formula");
         let inputs = inputs.iter().chain(directed).chain(alike).chain(short_forms);
         for input in inputs.chain(many_names) {
-            let times = time(call, explainers, input, &mut lent);
+            let times = time(explainers.map(|of| (of, call)), input, &mut lent);
             write_row(out, before.is_some(), [entry, input.size], columns(times))?;
         }
+        if entry == "verdicts" {
+            write_beside_one(out, library, &largest(), &mut lent)?;
+        }
+    }
+    Ok(())
+}
+
+/// The library's verdicts at all states of an input beside its verdict at the start.
+fn write_beside_one(
+    out: &mut impl Write,
+    library: &Entries,
+    input: &Input,
+    lent: &mut Buffers,
+) -> io::Result<()> {
+    if let [Some(all), Some(one)] = time([(library, verdicts), (library, verdict)], input, lent) {
+        let (starts, ratio) = (input.starts.len(), all / one);
+        let [all, one] = [all, one].map(in_microseconds);
+        writeln!(out, "verdicts at {starts} starts {all}, one verdict {one}: {ratio:.2}")?;
     }
     Ok(())
 }
@@ -389,17 +418,16 @@ fn in_microseconds(seconds: f64) -> String {
     format!("{:.3} us", seconds * 1e6)
 }
 
-/// Seconds per call, or none for an explainer that lacks the entry.
-fn time(
-    call: Call,
-    explainers: [&Entries; 3],
+/// Seconds per call, each of an explainer, or none if it lacks the entry.
+fn time<const N: usize>(
+    timed: [(&Entries, Call); N],
     input: &Input,
     lent: &mut Buffers,
-) -> [Option<f64>; 3] {
-    let mut shortest = [None; 3];
-    let mut calls = [1; 3];
+) -> [Option<f64>; N] {
+    let mut shortest = [None; N];
+    let mut calls = [1; N];
     for _ in 0..ROUNDS {
-        for (which, of) in explainers.into_iter().enumerate() {
+        for (which, (of, call)) in timed.into_iter().enumerate() {
             let Some(reply) = call(of, input, lent) else {
                 continue;
             };

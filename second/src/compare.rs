@@ -56,7 +56,7 @@ pub trait Case {
 
     fn outcome(reply: Reply) -> Outcome {
         let is_one_of_few = match reply.number {
-            0 => matches!(Self::ENTRY, "verdict" | "accepts"),
+            0 => matches!(Self::ENTRY, "verdict" | "verdicts" | "accepts"),
             number => matches!(number, 10 | 14),
         };
         Outcome { number: reply.number, figure: is_one_of_few.then_some(reply.figure) }

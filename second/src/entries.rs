@@ -5,7 +5,7 @@ use crate::interface::{interface, slice};
 use crate::listing::Listing;
 use crate::prepared::{self, FORMULA_LENGTH, TABLE_LENGTH};
 use crate::reply::{Refusal, Reply};
-use crate::table::Table;
+use crate::table::{MAX_STATES, Table};
 use crate::{verdict, word, writing};
 
 pub const ROW_PLACE: usize = 3;
@@ -67,6 +67,23 @@ pub fn verdict(table: &[u8], formula: &[u8]) -> Reply {
     let question = question(table, formula);
     let verdict = question.map(|(table, formula)| verdict::holds(&table, &formula).into());
     verdict.into()
+}
+
+pub fn verdicts(table: &[u8], formula: &[u8], starts: &[u8], answers: &mut [u8]) -> Reply {
+    let outcome = both_long_enough(table, formula)
+        .and_then(|()| long_enough(answers, MAX_STATES))
+        .and_then(|()| question(table, formula))
+        .and_then(|(table, formula)| {
+            verdict::check(starts, table.states)?;
+            Ok(verdict::holds_at(starts, &table, &formula))
+        })
+        .map(|holds| {
+            for (answer, &holds) in answers.iter_mut().zip(&holds) {
+                *answer = holds.into();
+            }
+            (!holds.contains(&false)).into()
+        });
+    outcome.into()
 }
 
 pub fn build(

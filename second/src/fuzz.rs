@@ -9,10 +9,13 @@ use crate::inputs::kinds::{self, Kinds, Way, way};
 use crate::inputs::lending::{self, LENGTHS, lend};
 use crate::inputs::rng::Rng;
 use crate::inputs::tables::{expected_names, with_any_names};
-use crate::inputs::{formula_texts, formulas, questions, table_texts, tables, words, written};
+use crate::inputs::{
+    formula_texts, formulas, questions, starts, table_texts, tables, words, written,
+};
 use crate::interface::interface;
 use crate::listing::Listing;
 use crate::prepared::{FORMULA_LENGTH, TABLE_LENGTH};
+use crate::table::MAX_STATES;
 use crate::tally::{Expected, Kind, Tally};
 
 /// The first input to which the answers differ, and how.
@@ -114,6 +117,10 @@ fn expected(entry: &str) -> (&'static [u32], Vec<Expected>) {
             (&[0, 10, 14, 15], questions().chain(written).chain(lengths).collect())
         }
         "verdict" => (&[0, 10, 14], questions().collect()),
+        "verdicts" => {
+            let lengths = kinds::expected(WRITTEN, &LENGTHS);
+            (&[0, 10, 14, 16], questions().chain(starts::expected()).chain(lengths).collect())
+        }
         "build" => {
             let rows = kinds::expected(ROWS, &PLACES);
             let edges = kinds::expected(EDGES, &PLACES);
@@ -207,6 +214,19 @@ pub fn verdict(rng: &mut Rng) -> Input<compare::Verdict> {
     let table = lend(rng, &mut kinds, &lending::TABLE, &question.table);
     let formula = lend(rng, &mut kinds, &lending::FORMULA, &question);
     Input { case: compare::Verdict { table, formula }, kinds: kinds.0 }
+}
+
+pub fn verdicts(rng: &mut Rng) -> Input<compare::Verdicts> {
+    let mut kinds = Kinds::default();
+    let question = questions::of_any_size(rng, &mut kinds, 100, 400);
+    let question = starts::telling(rng, question);
+    let starts = starts::list(rng, &mut kinds, question.table.states);
+    starts::note_where(&mut kinds, &question, &starts);
+    let table = lend(rng, &mut kinds, &lending::TABLE, &question.table);
+    let formula = lend(rng, &mut kinds, &lending::FORMULA, &question);
+    let length = kinds.make(rng, WRITTEN, &LENGTHS, &MAX_STATES);
+    let case = compare::Verdicts { table, formula, starts, answers: lent(rng, length) };
+    Input { case, kinds: kinds.0 }
 }
 
 pub fn build(rng: &mut Rng) -> Input<compare::Build> {

@@ -15,6 +15,8 @@ macro_rules! interface {
             WriteFormula write_formula explainer_write_formula(
                 table: read, formula: read, text: written) [];
             Verdict verdict explainer_verdict(table: read, formula: read) [];
+            Verdicts verdicts explainer_verdicts(
+                table: read, formula: read, starts: read, answers: written) [];
             Build build explainer_build(
                 table: read, formula: read, rows: written, edges: written) [edge_count];
             Accepts accepts explainer_accepts(table: read, formula: read, word: read) [];

@@ -34,7 +34,7 @@ pub enum Refusal {
     ShortBuffer(usize),
     /// A formula written back, by its length.
     TextLength(usize),
-    /// An entry of a list of states, by its index from 0.
+    /// A listed state, by its index, that is not above the one before it or that the table lacks.
     Start(usize),
 }
 

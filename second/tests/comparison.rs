@@ -43,6 +43,15 @@ fn a_number_or_a_kind_of_input_that_dries_up_is_told() {
     let answers = accepts.kinds.get_mut(&long).expect("long words");
     assert!(answers.remove(&Outcome::YES).is_some());
     assert!(told(accepts).contains("accepts: no word: 514 to 1,022 labels answered 0, figure 1"));
+    let verdicts = tallies.iter_mut().find(|tally| tally.of == "verdicts").expect("starts");
+    for (part, name) in [("starts", "none"), ("holds", "at the first, not at the last")] {
+        let kind = Kind { part, name };
+        assert!(verdicts.kinds.remove(&kind).is_some());
+        assert!(told(verdicts).contains(&format!("verdicts: no {kind}")));
+    }
+    let count = Kind { part: "starts", name: "the count of states alone" };
+    verdicts.kinds.get_mut(&count).expect("such lists").remove(&Outcome::of(16));
+    assert!(told(verdicts).contains(&format!("verdicts: no {count} answered 16")));
 }
 
 #[test]

@@ -8,14 +8,14 @@ use std::path::PathBuf;
 
 use common::loops::with_loops;
 use second::digests::answers::Explainer;
-use second::digests::{self, BASE, Corpus, IDLE, MARKS, NAMES, SHORT, WRITTEN, difference};
+use second::digests::{self, BASE, Corpus, IDLE, MARKS, NAMES, SHORT, STARTS, WRITTEN, difference};
 use second::entries::{self, Entries, SECOND};
 use second::prepared;
 use second::reply::Reply;
 use second::table::SILENT;
 
 /// Each corpus and its stored lines.
-fn stored() -> [(Corpus, Vec<&'static str>); 6] {
+fn stored() -> [(Corpus, Vec<&'static str>); 7] {
     let lines = |file: &'static str| file.lines().filter(|line| !line.starts_with('#')).collect();
     let base = lines(include_str!("../corpus/base.txt"));
     let marks = lines(include_str!("../corpus/marks.txt"));
@@ -23,7 +23,16 @@ fn stored() -> [(Corpus, Vec<&'static str>); 6] {
     let idle = lines(include_str!("../corpus/idle.txt"));
     let written = lines(include_str!("../corpus/written.txt"));
     let names = lines(include_str!("../corpus/names.txt"));
-    [(BASE, base), (MARKS, marks), (SHORT, short), (IDLE, idle), (WRITTEN, written), (NAMES, names)]
+    let starts = lines(include_str!("../corpus/starts.txt"));
+    [
+        (BASE, base),
+        (MARKS, marks),
+        (SHORT, short),
+        (IDLE, idle),
+        (WRITTEN, written),
+        (NAMES, names),
+        (STARTS, starts),
+    ]
 }
 
 fn explainer(entries: Entries) -> Explainer {
@@ -82,7 +91,7 @@ fn every_kind_has_a_stored_line_and_no_line_is_without_a_kind() {
 
 #[test]
 fn every_refusal_of_every_entry_is_among_the_answers() {
-    let [base, marks, short, idle, written, names] = stored().map(|(_, lines)| lines);
+    let [base, marks, short, idle, written, names, starts] = stored().map(|(_, lines)| lines);
     all_are_among(
         &base,
         &[
@@ -121,6 +130,7 @@ fn every_refusal_of_every_entry_is_among_the_answers() {
             ("texts", &[0, 3]),
         ],
     );
+    all_are_among(&starts, &[("verdicts", &[0, 10, 14, 16])]);
 }
 
 fn all_are_among(lines: &[&str], expected: &[(&str, &[u32])]) {
@@ -191,6 +201,63 @@ fn names_are_answered_by_whether_they_are_equal() {
             _ => 0,
         };
         assert_eq!(words[4..], [format!("{number}:{count}")], "{line}");
+    }
+}
+
+#[test]
+fn lists_of_states_are_answered_by_whether_they_rise() {
+    let lines = stored().into_iter().find(|(corpus, _)| corpus.name == STARTS.name).expect("it").1;
+    let kinds = lines[1..].iter().map(|line| line.split_whitespace().collect::<Vec<&str>>());
+    let made = kinds.take_while(|words| words[1] != "any-bytes");
+    for words in made {
+        let number = if words[1].starts_with("bad-") { 16 } else { 0 };
+        assert_eq!(words[4..], [format!("{number}:{}", words[2])], "{}", words[1]);
+    }
+    let figures = |name: &str| -> BTreeSet<String> {
+        let lines = each(SECOND, &STARTS, "verdicts", name);
+        lines.iter().map(|line| line.split_whitespace().nth(2).expect("it").to_owned()).collect()
+    };
+    for (name, figure) in [
+        ("none", "1"),
+        ("bad-count-alone", "0"),
+        ("bad-falling", "1"),
+        ("bad-256-entries-the-last", "255"),
+        ("bad-257-entries", "256"),
+        ("bad-300-entries", "256"),
+        ("bad-70000-entries", "256"),
+    ] {
+        assert_eq!(figures(name), BTreeSet::from([figure.to_owned()]), "{name}");
+    }
+}
+
+#[test]
+fn an_answer_behind_the_listed_states_changes_its_inputs() {
+    let verdicts: entries::Verdicts = |table, formula, starts, answers| {
+        let reply = entries::verdicts(table, formula, starts, answers);
+        if let (0, Some(byte)) = (reply.number, answers.get_mut(starts.len())) {
+            *byte = 2;
+        }
+        reply
+    };
+    let wrong = Entries { verdicts: Some(verdicts), ..SECOND };
+    assert!(differing_in(&STARTS, wrong, "verdicts", "none") > 390);
+    assert!(differing_in(&STARTS, wrong, "verdicts", "largest-255-of-256") > 25);
+    assert_eq!(differing_in(&STARTS, wrong, "verdicts", "largest-all-256"), 0);
+    assert_eq!(differing_in(&STARTS, wrong, "verdicts", "bad-falling"), 0);
+}
+
+#[test]
+fn answers_at_the_start_of_the_table_change_its_inputs() {
+    let verdicts: entries::Verdicts = |table, formula, starts, answers| {
+        let reply = entries::verdicts(table, formula, starts, answers);
+        let at_start = entries::verdict(table, formula).figure;
+        answers.iter_mut().take(starts.len()).for_each(|answer| *answer = at_start as u8);
+        reply
+    };
+    let wrong = Entries { verdicts: Some(verdicts), ..SECOND };
+    for (name, least) in [("all-states-class-1", 100), ("all-states-idle-class-2", 100)] {
+        let differing = differing_in(&STARTS, wrong, "verdicts", name);
+        assert!(differing > least, "{name}: {differing}");
     }
 }
 

@@ -54,6 +54,7 @@ fn constants() -> Vec<(&'static str, usize)> {
         ("WORD_BAD", number(Refusal::Word(0))),
         ("BUFFER_SHORT", number(Refusal::ShortBuffer(0))),
         ("TEXT_TOO_LONG", number(Refusal::TextLength(0))),
+        ("STARTS_BAD", number(Refusal::Start(0))),
     ]
 }
 
@@ -116,11 +117,11 @@ fn each_function_has_a_figure_for_its_stack_and_the_documents_have_it_too() {
 fn each_returned_number_has_words() {
     let header = header();
     let defines = defines().into_iter();
-    let returned = defines.skip_while(|(name, _)| name != "EXPLAINER_ACCEPTED").take(16);
+    let returned = defines.skip_while(|(name, _)| name != "EXPLAINER_ACCEPTED").take(17);
     for (name, _) in returned {
         let words = header.split(&format!("case {name}: return \"")).nth(1);
         let words = words.and_then(|rest| rest.split_once("\";"));
         assert!(words.is_some_and(|(words, _)| !words.is_empty()), "{name}");
     }
-    assert_eq!(header.matches("case EXPLAINER_").count(), 16);
+    assert_eq!(header.matches("case EXPLAINER_").count(), 17);
 }

@@ -12,7 +12,7 @@ use common::found::{SEED, all_are_found};
 use common::line::{Fault, Line};
 use common::loops::{exchanged, with_loops, without_lone_loops};
 use second::baseline::{
-    BASELINE, accepts, build, read_formula, read_table, verdict, write_formula,
+    BASELINE, accepts, build, read_formula, read_table, verdict, verdicts, write_formula,
 };
 use second::entries::{EDGE_PLACE, Entries, NONE, ROW_PLACE, SECOND};
 use second::formula::{Condition, Formula, MAX_BYTES, MAX_NODES, Node, Set};
@@ -109,6 +109,9 @@ fn ignoring_of_table<const AT: usize>() -> Entries {
             write_formula(&without_table_byte::<AT>(table), formula, text)
         }),
         verdict: Some(|table, formula| verdict(&without_table_byte::<AT>(table), formula)),
+        verdicts: Some(|table, formula, starts, answers| {
+            verdicts(&without_table_byte::<AT>(table), formula, starts, answers)
+        }),
         build: Some(|table, formula, rows, edges, edge_count| {
             build(&without_table_byte::<AT>(table), formula, rows, edges, edge_count)
         }),
@@ -126,6 +129,9 @@ fn ignoring_of_formula<const AT: usize>() -> Entries {
             write_formula(table, &without_formula_byte::<AT>(formula), text)
         }),
         verdict: Some(|table, formula| verdict(table, &without_formula_byte::<AT>(formula))),
+        verdicts: Some(|table, formula, starts, answers| {
+            verdicts(table, &without_formula_byte::<AT>(formula), starts, answers)
+        }),
         build: Some(|table, formula, rows, edges, edge_count| {
             build(table, &without_formula_byte::<AT>(formula), rows, edges, edge_count)
         }),
@@ -138,11 +144,12 @@ fn ignoring_of_formula<const AT: usize>() -> Entries {
 
 /// Each of the explainer's entries alone.
 fn one_by_one(wrong: Entries) -> Vec<(&'static str, Entries)> {
-    let Entries { read_formula, write_formula, verdict, build, accepts, .. } = wrong;
+    let Entries { read_formula, write_formula, verdict, verdicts, build, accepts, .. } = wrong;
     let entries = [
         ("read_formula", Entries { read_formula, ..NONE }, read_formula.is_some()),
         ("write_formula", Entries { write_formula, ..NONE }, write_formula.is_some()),
         ("verdict", Entries { verdict, ..NONE }, verdict.is_some()),
+        ("verdicts", Entries { verdicts, ..NONE }, verdicts.is_some()),
         ("build", Entries { build, ..NONE }, build.is_some()),
         ("accepts", Entries { accepts, ..NONE }, accepts.is_some()),
     ];
@@ -270,6 +277,32 @@ fn faults_at_all_limits_together_are_found() {
                 ..NONE
             },
         ),
+        (
+            "the last answer at a listed state",
+            Entries {
+                verdicts: Some(|table, formula, starts, answers| {
+                    let reply = verdicts(table, formula, starts, answers);
+                    if reply.number == 0 && is_largest(table, formula) && !starts.is_empty() {
+                        answers[starts.len() - 1] ^= 1;
+                    }
+                    reply
+                }),
+                ..NONE
+            },
+        ),
+        (
+            "the last of all 256 answers",
+            Entries {
+                verdicts: Some(|table, formula, starts, answers| {
+                    let reply = verdicts(table, formula, starts, answers);
+                    if reply.number == 0 && is_largest(table, formula) && starts.len() == 256 {
+                        answers[255] ^= 1;
+                    }
+                    reply
+                }),
+                ..NONE
+            },
+        ),
     ]);
 }
 
@@ -293,6 +326,7 @@ fn lengths_off_by_one_are_found() {
         read_formula: Some(|of, text, written| read_formula(&table(of), text, written)),
         write_formula: Some(|of, node, text| write_formula(&table(of), node, text)),
         verdict: Some(|of, node| verdict(&table(of), node)),
+        verdicts: Some(|of, node, starts, lent| verdicts(&table(of), node, starts, lent)),
         build: Some(|of, node, rows, edges, count| build(&table(of), node, rows, edges, count)),
         accepts: Some(|of, node, word| accepts(&table(of), node, word)),
         ..NONE
@@ -301,6 +335,7 @@ fn lengths_off_by_one_are_found() {
     all_are_found(&one_by_one(Entries {
         write_formula: Some(|of, node, text| write_formula(of, &formula(node), text)),
         verdict: Some(|of, node| verdict(of, &formula(node))),
+        verdicts: Some(|of, node, starts, lent| verdicts(of, &formula(node), starts, lent)),
         build: Some(|of, node, rows, edges, count| build(of, &formula(node), rows, edges, count)),
         accepts: Some(|of, node, word| accepts(of, &formula(node), word)),
         ..NONE
@@ -973,6 +1008,10 @@ fn ruled_by<R: Rule>() -> Entries {
             Some(other) => verdict(&other.table, &other.formula),
             None => verdict(table, formula),
         }),
+        verdicts: Some(|table, formula, starts, answers| match respelled::<R>(table, formula) {
+            Some(other) => verdicts(&other.table, &other.formula, starts, answers),
+            None => verdicts(table, formula, starts, answers),
+        }),
         build: Some(|table, formula, rows, edges, edge_count| {
             let Some(other) = respelled::<R>(table, formula) else {
                 return build(table, formula, rows, edges, edge_count);
@@ -1005,7 +1044,8 @@ fn faults_in_the_silence_of_idle_steps_are_found() {
     all_are_found(&one_by_one(ruled_by::<MetByAComplement>()));
     println!("99 stops an until");
     // No verdict depends on it: an idle step leads nowhere else.
-    all_are_found(&one_by_one(Entries { verdict: None, ..ruled_by::<StopsAnUntil>() }));
+    let wrong = Entries { verdict: None, verdicts: None, ..ruled_by::<StopsAnUntil>() };
+    all_are_found(&one_by_one(wrong));
 }
 
 #[test]

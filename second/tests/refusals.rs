@@ -7,6 +7,7 @@ use second::entries;
 use second::inputs::rng::filled;
 use second::prepared::{FORMULA_LENGTH, TABLE_LENGTH};
 use second::reply::Reply;
+use second::table::MAX_STATES;
 
 /// Reads a table, and checks that a refusal leaves all lent bytes.
 fn read(text: &[u8], length: usize) -> Reply {
@@ -272,9 +273,18 @@ impl Lent {
         entries::accepts(&self.table, &self.formula, word)
     }
 
-    fn every_question(&mut self) -> [Reply; 3] {
+    /// Asks at these states, and checks that a refusal leaves all lent bytes.
+    fn verdicts(&self, starts: &[u8], length: usize) -> Reply {
+        let before = filled(4, length);
+        let mut answers = before.clone();
+        let reply = entries::verdicts(&self.table, &self.formula, starts, &mut answers);
+        assert!(reply.number == 0 || answers == before, "a refusal writes nothing");
+        reply
+    }
+
+    fn every_question(&mut self) -> [Reply; 4] {
         let verdict = entries::verdict(&self.table, &self.formula);
-        [verdict, self.build(), self.accepts(&[])]
+        [verdict, self.build(), self.accepts(&[]), self.verdicts(&[], MAX_STATES)]
     }
 }
 
@@ -283,9 +293,9 @@ fn short_prepared_buffers_are_14_the_table_first() {
     let mut lent = lent();
     lent.formula.truncate(FORMULA_LENGTH - 1);
     lent.table[0] = 0;
-    assert_eq!(lent.every_question(), [refused(14, 681); 3]);
+    assert_eq!(lent.every_question(), [refused(14, 681); 4]);
     lent.table.truncate(TABLE_LENGTH - 1);
-    assert_eq!(lent.every_question(), [refused(14, 3_718); 3]);
+    assert_eq!(lent.every_question(), [refused(14, 3_718); 4]);
     let mut short = vec![0; FORMULA_LENGTH - 1];
     let reply = entries::read_formula(&lent.table, b"", &mut short);
     assert_eq!(reply, refused(14, 3_718));
@@ -298,7 +308,7 @@ fn bytes_behind_the_prepared_ones_are_not_read() {
     let mut lent = lent();
     lent.table.extend_from_slice(b"more");
     lent.formula.extend_from_slice(b"more");
-    assert_eq!(lent.every_question().map(|reply| reply.number), [0; 3]);
+    assert_eq!(lent.every_question().map(|reply| reply.number), [0; 4]);
 }
 
 #[test]
@@ -326,7 +336,7 @@ fn a_table_that_no_reading_leaves_is_10_before_the_formula() {
         let mut lent = lent();
         damage(&mut lent.table);
         lent.formula[0] = 0;
-        assert_eq!(lent.every_question(), [refused(10, 0); 3], "damage {number}");
+        assert_eq!(lent.every_question(), [refused(10, 0); 4], "damage {number}");
         let reply = entries::read_formula(&lent.table, &[b'?'; 600], &mut lent.formula);
         assert_eq!(reply, refused(10, 0), "damage {number}");
     }
@@ -353,7 +363,7 @@ fn bytes_that_are_not_the_one_form_of_a_formula_are_10() {
     for (number, damage) in damages.iter().enumerate() {
         let mut lent = lent();
         damage(&mut lent.formula);
-        assert_eq!(lent.every_question(), [refused(10, 1); 3], "damage {number}");
+        assert_eq!(lent.every_question(), [refused(10, 1); 4], "damage {number}");
     }
 }
 
@@ -384,9 +394,9 @@ fn a_formula_that_lacks_a_class_is_10_when_prepared() {
         lent.formula[1 + node * 17..][..17].fill(0);
         lent.formula[1 + node * 17] = kind;
     }
-    assert_eq!(lent.every_question(), [refused(10, 1); 3]);
+    assert_eq!(lent.every_question(), [refused(10, 1); 4]);
     lent.formula[1] = 7;
-    assert_eq!(lent.every_question().map(|reply| reply.number), [0; 3]);
+    assert_eq!(lent.every_question().map(|reply| reply.number), [0; 4]);
 }
 
 #[test]
@@ -439,4 +449,88 @@ fn a_word_is_13_at_its_first_label_above_the_count() {
     assert_eq!(lent.accepts(&long), refused(13, 1_024));
     long[1_023] = 9;
     assert_eq!(lent.accepts(&long), refused(13, 1_023));
+}
+
+#[test]
+fn a_listed_state_is_16_if_it_is_not_above_the_one_before_it_or_the_table_lacks_it() {
+    let lent = lent();
+    let reply = |starts: &[u8]| lent.verdicts(starts, MAX_STATES);
+    for (starts, index) in [
+        (&[3][..], 0),
+        (&[255], 0),
+        (&[0, 0], 1),
+        (&[1, 0], 1),
+        (&[0, 1, 1, 0], 2),
+        (&[0, 2, 1, 3], 2),
+        (&[0, 1, 2, 3], 3),
+        (&[0, 3, 3, 0], 1),
+        (&[0, 1, 2, 255], 3),
+        (&[2, 0, 1], 1),
+    ] {
+        assert_eq!(reply(starts), refused(16, index), "{starts:?}");
+    }
+    for starts in [&[][..], &[0], &[0, 1]] {
+        assert_eq!(reply(starts), Reply::accepted(1), "{starts:?}");
+    }
+    for starts in [&[2][..], &[0, 2], &[1, 2], &[0, 1, 2]] {
+        assert_eq!(reply(starts), Reply::accepted(0), "{starts:?}");
+    }
+}
+
+#[test]
+fn a_list_of_over_256_states_is_16_whatever_the_table() {
+    let mut lent = lent();
+    let list = |length: usize| (0..length).map(|index| index as u8).collect::<Vec<u8>>();
+    for length in [256, 257, 300, 70_000] {
+        assert_eq!(lent.verdicts(&list(length), MAX_STATES), refused(16, 3), "{length}");
+    }
+    lent.table[0..2].copy_from_slice(&256u16.to_le_bytes());
+    assert_eq!(lent.verdicts(&list(256), MAX_STATES), Reply::accepted(0));
+    for length in [257, 258, 300, 70_000] {
+        assert_eq!(lent.verdicts(&list(length), MAX_STATES), refused(16, 256), "{length}");
+    }
+    let mut repeated = list(300);
+    repeated[200] = 199;
+    assert_eq!(lent.verdicts(&repeated, MAX_STATES), refused(16, 200));
+}
+
+#[test]
+fn answers_stand_at_the_index_of_their_state_and_the_rest_stays() {
+    let lent = lent();
+    for (starts, answered) in [
+        (&[][..], &[][..]),
+        (&[0], &[1]),
+        (&[2], &[0]),
+        (&[1, 2], &[1, 0]),
+        (&[0, 1, 2], &[1, 1, 0]),
+    ] {
+        for length in [MAX_STATES, MAX_STATES + 1, MAX_STATES + 77] {
+            let before = filled(5, length);
+            let mut answers = before.clone();
+            let reply = entries::verdicts(&lent.table, &lent.formula, starts, &mut answers);
+            assert_eq!(reply, Reply::accepted(u64::from(!answered.contains(&0))));
+            assert_eq!(answers[..starts.len()], *answered);
+            assert_eq!(answers[starts.len()..], before[starts.len()..]);
+        }
+    }
+}
+
+#[test]
+fn short_answers_are_14_behind_the_prepared_buffers_and_before_10_and_16() {
+    let mut lent = lent();
+    let wrong = &[3, 2, 1];
+    for length in [0, 1, 255] {
+        assert_eq!(lent.verdicts(wrong, length), refused(14, 256));
+    }
+    assert_eq!(lent.verdicts(&[], 255), refused(14, 256));
+    lent.formula[0] = 0;
+    assert_eq!(lent.verdicts(wrong, 255), refused(14, 256));
+    assert_eq!(lent.verdicts(wrong, MAX_STATES), refused(10, 1));
+    lent.table[0] = 0;
+    assert_eq!(lent.verdicts(wrong, 255), refused(14, 256));
+    assert_eq!(lent.verdicts(wrong, MAX_STATES), refused(10, 0));
+    lent.formula.truncate(FORMULA_LENGTH - 1);
+    assert_eq!(lent.verdicts(wrong, 255), refused(14, 681));
+    lent.table.truncate(TABLE_LENGTH - 1);
+    assert_eq!(lent.verdicts(wrong, 255), refused(14, 3_718));
 }

@@ -7,7 +7,7 @@ use std::process::{Command, ExitStatus};
 
 use common::header::defines;
 use second::compare::{
-    Accepts, Build, Case, Explain, Lent, ReadFormula, ReadTable, Verdict, WriteFormula,
+    Accepts, Build, Case, Explain, Lent, ReadFormula, ReadTable, Verdict, Verdicts, WriteFormula,
 };
 use second::entries::{EDGE_PLACE, ROW_PLACE};
 use second::formula::{Formula, MAX_BYTES};
@@ -21,7 +21,7 @@ use second::interface::INTERFACE;
 use second::link::library;
 use second::link::stack::{PAGE, Stack};
 use second::prepared::{self, FORMULA_LENGTH, TABLE_LENGTH};
-use second::table::Table;
+use second::table::{MAX_STATES, Table};
 
 /// More than any call takes.
 const PLENTY: usize = 1 << 20;
@@ -189,6 +189,13 @@ fn calls(entry: &str) -> Vec<Call> {
         "verdict" => {
             calls.extend(large.map(|(table, formula)| call(Verdict { table, formula })));
             calls.extend(random(3).map(|mut rng| call(fuzz::verdict(&mut rng).case)));
+        }
+        "verdicts" => {
+            let (starts, answers) = ((0..=u8::MAX).collect::<Vec<_>>(), lent(MAX_STATES));
+            calls.extend(large.map(|(table, formula)| {
+                call(Verdicts { table, formula, starts: starts.clone(), answers })
+            }));
+            calls.extend(random(8).map(|mut rng| call(fuzz::verdicts(&mut rng).case)));
         }
         "build" => {
             let (rows, edges) = (lent(ROWS), lent(EDGES));

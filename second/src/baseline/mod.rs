@@ -13,7 +13,7 @@ mod explain;
 
 pub use automaton::{accepts, build};
 pub use explain::explain;
-pub use labelling::verdict;
+pub use labelling::{verdict, verdicts};
 pub use read_formula::read_formula;
 pub use read_table::read_table;
 pub use write_formula::write_formula;
@@ -25,6 +25,7 @@ pub const BASELINE: Entries = Entries {
     read_formula: Some(read_formula),
     write_formula: Some(write_formula),
     verdict: Some(verdict),
+    verdicts: Some(verdicts),
     build: Some(build),
     accepts: Some(accepts),
     explain: Some(explain),

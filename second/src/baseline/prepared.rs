@@ -57,6 +57,20 @@ pub fn question<'a>(table: &'a [u8], formula: &[u8]) -> Result<(Table<'a>, Formu
     Ok((table, formula))
 }
 
+/// The same, if what is lent beside them has so many bytes.
+pub fn question_with<'a>(
+    table: &'a [u8],
+    formula: &[u8],
+    lent: &[u8],
+    length: usize,
+) -> Result<(Table<'a>, Formula), Refusal> {
+    let are_long = table.len() >= TABLE_LENGTH && formula.len() >= FORMULA_LENGTH;
+    if are_long && lent.len() < length {
+        return Err(Refusal::ShortBuffer(length));
+    }
+    question(table, formula)
+}
+
 pub fn checked_table(bytes: &[u8; TABLE_LENGTH]) -> Option<Table<'_>> {
     let states = u16::from_le_bytes([bytes[0], bytes[1]]) as usize;
     let labels = bytes[2] as usize;

@@ -4,10 +4,10 @@
 use super::graph::Bits;
 use super::prepared::{
     ALL_NEXT, ALL_NEXT_SILENT, Formula, NEXT, NEXT_SILENT, NOT, OR, TRUE, Table, UNTIL_THEN,
-    question,
+    question_with,
 };
 use crate::formula::MAX_BYTES;
-use crate::prepared::{FORMULA_LENGTH, NAME_SLOT, TABLE_LENGTH};
+use crate::prepared::NAME_SLOT;
 use crate::reply::{Refusal, Reply};
 
 pub fn write_formula(table: &[u8], formula: &[u8], text: &mut [u8]) -> Reply {
@@ -15,11 +15,7 @@ pub fn write_formula(table: &[u8], formula: &[u8], text: &mut [u8]) -> Reply {
 }
 
 fn written(table: &[u8], formula: &[u8], text: &mut [u8]) -> Result<u64, Refusal> {
-    let are_long = table.len() >= TABLE_LENGTH && formula.len() >= FORMULA_LENGTH;
-    if are_long && text.len() < MAX_BYTES {
-        return Err(Refusal::ShortBuffer(MAX_BYTES));
-    }
-    let (table, formula) = question(table, formula)?;
+    let (table, formula) = question_with(table, formula, text, MAX_BYTES)?;
     let mut line = Line { bytes: [0; SCRATCH], length: 0 };
     line.formula(&table, &formula);
     match line.bytes[..MAX_BYTES].get(..line.length) {

@@ -1,6 +1,7 @@
 //! The corpus `base`, whose answers `corpus/base.txt` holds. This generator is left alone and uses
 //! nothing else of the crate, so that its inputs stay what they are, byte for byte; new kinds of
-//! input get a new corpus beside it, as in `marks`, `short`, `idle`, `written` and `names`.
+//! input get a new corpus beside it, as in `marks`, `short`, `idle`, `written`, `names` and
+//! `starts`.
 
 mod calls;
 mod damage;
@@ -14,6 +15,7 @@ mod read_formula;
 mod read_table;
 mod rng;
 pub mod short;
+pub mod starts;
 mod tables;
 pub mod written;
 
@@ -66,6 +68,12 @@ pub enum Input {
     Verdict {
         table: Vec<u8>,
         formula: Vec<u8>,
+    },
+    Verdicts {
+        table: Vec<u8>,
+        formula: Vec<u8>,
+        starts: Vec<u8>,
+        answers: Lent,
     },
     Build {
         table: Vec<u8>,
@@ -219,5 +227,6 @@ mod tests {
         no_two_have_one_name(idle::kinds());
         no_two_have_one_name(written::kinds());
         no_two_have_one_name(names::kinds());
+        no_two_have_one_name(starts::kinds());
     }
 }

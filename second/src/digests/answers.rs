@@ -131,6 +131,14 @@ fn call(entries: &Entries, input: &Input, shown: &mut Shown) -> Option<Reply> {
             shown.buffers(&[&table, &formula]);
             reply
         }
+        Input::Verdicts { table, formula, starts, answers } => {
+            let (table, formula, starts) = (table.clone(), formula.clone(), starts.clone());
+            let mut answers = answers.buffer();
+            let reply = entries.verdicts?(&table, &formula, &starts, inside(&mut answers));
+            shown.reply("verdicts", reply);
+            shown.buffers(&[&table, &formula, &starts, &answers]);
+            reply
+        }
         Input::Build { table, formula, rows, edges } => {
             let (table, formula) = (table.clone(), formula.clone());
             let reply = build(entries, [&table, &formula], [rows, edges], shown)?;

@@ -35,6 +35,10 @@ impl Inputs {
                 self.lent(&[text]);
             }
             Input::Verdict { table, formula } => self.bytes(&[table, formula]),
+            Input::Verdicts { table, formula, starts, answers } => {
+                self.bytes(&[table, formula, starts]);
+                self.lent(&[answers]);
+            }
             Input::Build { table, formula, rows, edges } => {
                 self.bytes(&[table, formula]);
                 self.lent(&[rows, edges]);

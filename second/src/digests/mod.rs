@@ -56,7 +56,13 @@ pub const NAMES: Corpus = Corpus {
     kinds: || corpus::names::kinds().collect(),
 };
 
-pub const CORPORA: [Corpus; 6] = [BASE, MARKS, SHORT, IDLE, WRITTEN, NAMES];
+pub const STARTS: Corpus = Corpus {
+    name: "starts",
+    generator: "second/src/corpus/starts.rs",
+    kinds: || corpus::starts::kinds().collect(),
+};
+
+pub const CORPORA: [Corpus; 7] = [BASE, MARKS, SHORT, IDLE, WRITTEN, NAMES, STARTS];
 
 impl Corpus {
     pub fn kinds(&self) -> Vec<Kind> {

@@ -13,6 +13,7 @@ pub mod formula_texts;
 pub mod questions;
 pub mod written;
 pub mod lending;
+pub mod starts;
 pub mod words;
 pub mod edits;
 pub mod folders;
