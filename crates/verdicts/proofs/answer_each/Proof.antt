@@ -75,10 +75,12 @@ loop-again : tie.Need-loop-again Inv-loop μ-loop
 loop-again c =
     let asked = c .before .before in
     let here = asked .before in
-    let loop = turn here .loop in (
+    let a = start (labelled here) .args in
+    let loop = turn here .loop in
+    (
       omega (arith, here .loop-test .taken),
-      answered-on _ _ _ (room (labelled here)) (loop .i) _ _ (here .loop-test .taken) (asked .byte .ensures .count) (c .before .bit .ensures) (c .both .ensures)
-          (loop .inv .1),
+      answered-on (labelled here .label-nodes .result) (a .starts .now) (a .answers .now) (room (labelled here)) (loop .i) (asked .byte .result)
+          (c .before .bit .result) (here .loop-test .taken) (asked .byte .ensures .count) (c .before .bit .ensures) (c .both .ensures) (loop .inv .1),
     )
 
 same-length : tie.Need-same-length Inv-loop μ-loop
