@@ -1,4 +1,5 @@
 // Where the nodes of a formula hold, and the verdict.
+use actl::sizes::NODE_POSITIONS;
 use formula_check::inputs::Inputs;
 use formula_check::inputs::Unprepared;
 use formula_check::inputs::check_inputs;
@@ -34,7 +35,8 @@ fn holds_at_start(table: &[u8], formula: &[u8]) -> bool
     let all = steps_of(table);
     let shape = shape_of(formula);
     let ends = shape.ends;
-    let flags = nodes::label_nodes(table, &all.steps, &all.firsts, formula, &ends);
+    let mut flags = [false; NODE_POSITIONS];
+    nodes::label_nodes(table, &all.steps, &all.firsts, formula, &ends, &mut flags);
     let start = start_state(table);
     flags[start]
 }

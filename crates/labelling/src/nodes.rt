@@ -21,9 +21,10 @@ ghost use Rattle.lts.specs.Steps.{labels};
 ghost use Rattle.lts.specs.inner.Prepared.{tableIn};
 ghost use Rattle.lts.specs.inner.HoldsTable.{HoldsTable};
 ghost use Rattle.tables.specs.inner.StepArray.{StepsOf};
-ghost use Rattle.until_search.specs.inner.Flags.{flagAt, nodeHolds, Flags};
+ghost use Rattle.until_search.specs.inner.Flags.{nodeHolds, Flags};
+ghost use Rattle.labelling.specs.inner.Rows.{rowAt, RowIn, RowOf};
 ghost use Rattle.until_search.specs.inner.Links.{Linked};
-ghost use Rattle.labelling.specs.inner.Nodes.{RowRead, RowPut, ArmsLabelled, NodeRow, NodesLabelled};
+ghost use Rattle.labelling.specs.inner.Nodes.{RowPut, ArmsLabelled, NodeRow, NodesLabelled};
 ghost use Rattle.actl.specs.inner.HoldsFormula.{HoldsFormula, ArmsEnd};
 
 // Where a node holds, from where its arms hold.
@@ -33,40 +34,33 @@ fn label_node(
     firsts: &[u16; FIRSTS],
     links: &[u16; STEPS],
     node: Node,
-    arm: &[bool; STATES],
-    other: &[bool; STATES],
+    flags: &[bool; NODE_POSITIONS],
+    arm: usize,
+    other: usize,
 ) -> [bool; STATES]
     requires { ⌜ HoldsTable (now table) ⌝ }
     requires { ⌜ StepsOf (tableIn (now table)) (now steps) (now firsts) ⌝ }
-    requires { ⌜ Linked (tableIn (now table)) (now links) ⌝ }
-    ensures { λ r. ⌜ Flags (tableIn (now (table .entry)) .states) (nodeHolds (tableIn (now (table .entry))) node (flagAt (now (arm .entry))) (flagAt (now (other .entry)))) r ⌝ }
+    requires { ⌜ Linked (tableIn (now table)) (now links) × RowIn arm × RowIn other ⌝ }
+    ensures { λ r. ⌜ Flags (tableIn (now (table .entry)) .states)
+        (nodeHolds (tableIn (now (table .entry))) node (rowAt (now (flags .entry)) arm) (rowAt (now (flags .entry)) other)) r ⌝ }
 {
-    let flags = label_at_once(steps, firsts, state_count(table), node, arm, other);
+    let found = label_at_once(steps, firsts, state_count(table), node, flags, arm, other);
     match node {
-        Node::True => flags,
-        Node::Not => flags,
-        Node::Or => flags,
-        Node::Ex(_) => flags,
-        Node::Ax(_) => flags,
-        Node::Until(set) => until(table, links, set, &flags),
-        Node::UntilThen(set, _) => until(table, links, set, &flags),
+        Node::True => found,
+        Node::Not => found,
+        Node::Or => found,
+        Node::Ex(_) => found,
+        Node::Ax(_) => found,
+        Node::Until(set) => until(table, links, set, &found),
+        Node::UntilThen(set, _) => until(table, links, set, &found),
     }
 }
 
-// The row of node k; no state, if there is no place for such a node.
-fn row(flags: &[bool; NODE_POSITIONS], k: usize) -> [bool; STATES]
-    ensures { λ r. ⌜ RowRead k (now (flags .entry)) r ⌝ }
+// Where the row of node k begins; of some other one, if there is no place for such a node.
+fn row_of(k: usize) -> usize
+    ensures { λ r. ⌜ RowOf k r ⌝ }
 {
-    let mut found = [false; STATES];
-    if NODES <= k {
-        return found;
-    }
-    let mut s = 0;
-    while s < STATES {
-        found[s] = flags[k * STATES + s];
-        s += 1;
-    }
-    found
+    if k < NODES { k * STATES } else { 0 }
 }
 
 fn put_row(flags: &mut [bool; NODE_POSITIONS], k: usize, found: &[bool; STATES])
@@ -96,32 +90,32 @@ fn row_from_arms(
     ensures { λ r. ⌜ NodeRow (now (table .entry)) (now (formula .entry)) k r ⌝ }
 {
     let node = node_at(formula, k);
-    let arm = row(flags, k + 1);
-    let other = row(flags, right_arm(ends, k));
-    label_node(table, steps, firsts, links, node, &arm, &other)
+    let arm = row_of(k + 1);
+    let other = row_of(right_arm(ends, k));
+    label_node(table, steps, firsts, links, node, flags, arm, other)
 }
 
-// Node k and state s at k * 256 + s. The two arrays of steps may be fields of one value.
+// Node k and state s at k * 256 + s, whatever stood there. The two arrays of steps may be fields of one value.
 pub fn label_nodes<'a>(
     table: &[u8],
     steps: &'a [u16; STEPS],
     firsts: &'a [u16; FIRSTS],
     formula: &[u8],
     ends: &[u8; NODES],
-) -> [bool; NODE_POSITIONS]
+    flags: &mut [bool; NODE_POSITIONS],
+)
     requires { ⌜ HoldsTable (now table) ⌝ }
     requires { ⌜ StepsOf (tableIn (now table)) (now steps) (now firsts) ⌝ }
     requires { ⌜ HoldsFormula (labels (tableIn (now table))) (now formula) ⌝ }
     requires { ⌜ ArmsEnd (labels (tableIn (now table))) (now formula) (now ends) ⌝ }
-    ensures { λ r. ⌜ NodesLabelled (now (table .entry)) (now (formula .entry)) r ⌝ }
+    requires { ⌜ length (now flags) ≡ nodePositions ⌝ }
+    ensures { λ _. ⌜ NodesLabelled (now (table .entry)) (now (formula .entry)) (now (flags .exit)) ⌝ }
 {
     let links = entering(table);
-    let mut flags = [false; NODE_POSITIONS];
     let mut k = node_count(formula);
     while 0 < k {
         k -= 1;
-        let found = row_from_arms(table, steps, firsts, &links, formula, ends, &flags, k);
-        put_row(&mut flags, k, &found);
+        let found = row_from_arms(table, steps, firsts, &links, formula, ends, flags, k);
+        put_row(flags, k, &found);
     }
-    flags
 }

@@ -1,4 +1,5 @@
-// What holds at a state by the steps that leave it, idle steps included.
+// What holds at a state by the steps that leave it, idle steps included. The arms' rows stand among the flags of all nodes, and are not copied.
+use actl::sizes::NODE_POSITIONS;
 use formulas::node::Condition;
 use formulas::node::Node;
 use lts::sizes::FIRSTS;
@@ -15,7 +16,16 @@ ghost use Rattle.lts.specs.inner.Steps.{Carried};
 ghost use Rattle.tables.specs.inner.StepArray.{stepsIn, StepsFit};
 ghost use Rattle.actl.specs.Actions as actions;
 ghost use Rattle.formulas.specs.inner.Access.{condIn};
-ghost use Rattle.until_search.specs.inner.Flags.{flagAt, asWanted, someStep, atOnce, Flags};
+ghost use Rattle.until_search.specs.inner.Flags.{asWanted, someStep, atOnce, Flags};
+ghost use Rattle.labelling.specs.inner.Rows.{rowAt, RowIn};
+
+// The flag of state s in the row that begins at `at`.
+fn flag(flags: &[bool; NODE_POSITIONS], at: usize, s: usize) -> bool
+    requires { ⌜ RowIn at × (s < mostStates) ⌝ }
+    ensures { λ r. ⌜ r ≡ rowAt (now (flags .entry)) at s ⌝ }
+{
+    flags[at + s]
+}
 
 fn leads(wanted: bool, condition: Condition, label: usize, there: bool) -> bool
     requires { ⌜ Carried label ⌝ }
@@ -34,12 +44,13 @@ fn some_step(
     firsts: &[u16; FIRSTS],
     wanted: bool,
     condition: Condition,
-    arm: &[bool; STATES],
+    flags: &[bool; NODE_POSITIONS],
+    arm: usize,
     s: usize,
 ) -> bool
     requires { ⌜ StepsFit (now steps) (now firsts) ⌝ }
-    requires { ⌜ s < mostStates ⌝ }
-    ensures { λ r. ⌜ r ≡ someStep wanted (condIn condition) (flagAt (now (arm .entry))) (stepsIn (now (steps .entry)) (now (firsts .entry)) s) ⌝ }
+    requires { ⌜ (s < mostStates) × RowIn arm ⌝ }
+    ensures { λ r. ⌜ r ≡ someStep wanted (condIn condition) (rowAt (now (flags .entry)) arm) (stepsIn (now (steps .entry)) (now (firsts .entry)) s) ⌝ }
 {
     let span = leaving(firsts, s);
     let end = span.to;
@@ -47,7 +58,8 @@ fn some_step(
     while k < end {
         let step = steps[k];
         let to = state_of(step);
-        if leads(wanted, condition, label_of(step), arm[to]) {
+        let there = flag(flags, arm, to);
+        if leads(wanted, condition, label_of(step), there) {
             return true;
         }
         k += 1;
@@ -60,22 +72,25 @@ fn at_once(
     steps: &[u16; STEPS],
     firsts: &[u16; FIRSTS],
     node: Node,
-    arm: &[bool; STATES],
-    other: &[bool; STATES],
+    flags: &[bool; NODE_POSITIONS],
+    arm: usize,
+    other: usize,
     s: usize,
 ) -> bool
     requires { ⌜ StepsFit (now steps) (now firsts) ⌝ }
-    requires { ⌜ s < mostStates ⌝ }
-    ensures { λ r. ⌜ r ≡ atOnce node (flagAt (now (arm .entry))) (flagAt (now (other .entry))) s (stepsIn (now (steps .entry)) (now (firsts .entry)) s) ⌝ }
+    requires { ⌜ (s < mostStates) × RowIn arm × RowIn other ⌝ }
+    ensures { λ r. ⌜ r ≡ atOnce node (rowAt (now (flags .entry)) arm) (rowAt (now (flags .entry)) other) s (stepsIn (now (steps .entry)) (now (firsts .entry)) s) ⌝ }
 {
     match node {
         Node::True => true,
-        Node::Not => !arm[s],
-        Node::Or => arm[s] || other[s],
-        Node::Ex(condition) => some_step(steps, firsts, true, condition, arm, s),
-        Node::Ax(condition) => !some_step(steps, firsts, false, condition, arm, s),
-        Node::Until(_) => arm[s],
-        Node::UntilThen(_, last) => some_step(steps, firsts, true, Condition::Labels(last), arm, s),
+        Node::Not => !flag(flags, arm, s),
+        Node::Or => flag(flags, arm, s) || flag(flags, other, s),
+        Node::Ex(condition) => some_step(steps, firsts, true, condition, flags, arm, s),
+        Node::Ax(condition) => !some_step(steps, firsts, false, condition, flags, arm, s),
+        Node::Until(_) => flag(flags, arm, s),
+        Node::UntilThen(_, last) => {
+            some_step(steps, firsts, true, Condition::Labels(last), flags, arm, s)
+        }
     }
 }
 
@@ -85,18 +100,19 @@ pub fn label_at_once(
     firsts: &[u16; FIRSTS],
     states: usize,
     node: Node,
-    arm: &[bool; STATES],
-    other: &[bool; STATES],
+    flags: &[bool; NODE_POSITIONS],
+    arm: usize,
+    other: usize,
 ) -> [bool; STATES]
     requires { ⌜ StepsFit (now steps) (now firsts) ⌝ }
-    requires { ⌜ states ≤ mostStates ⌝ }
-    ensures { λ r. ⌜ Flags states (λ s. atOnce node (flagAt (now (arm .entry))) (flagAt (now (other .entry))) s (stepsIn (now (steps .entry)) (now (firsts .entry)) s)) r ⌝ }
+    requires { ⌜ (states ≤ mostStates) × RowIn arm × RowIn other ⌝ }
+    ensures { λ r. ⌜ Flags states (λ s. atOnce node (rowAt (now (flags .entry)) arm) (rowAt (now (flags .entry)) other) s (stepsIn (now (steps .entry)) (now (firsts .entry)) s)) r ⌝ }
 {
-    let mut flags = [false; STATES];
+    let mut found = [false; STATES];
     let mut s = 0;
     while s < states {
-        flags[s] = at_once(steps, firsts, node, arm, other, s);
+        found[s] = at_once(steps, firsts, node, flags, arm, other, s);
         s += 1;
     }
-    flags
+    found
 }

@@ -1,6 +1,7 @@
 // One formula, many starts: the verdict at each state of a list, from one labelling of the table.
 use crate::list::wrong_start;
 use actl::sizes::FORMULA_LENGTH;
+use actl::sizes::NODE_POSITIONS;
 use formula_check::inputs::Inputs;
 use formula_check::inputs::Unprepared;
 use formula_check::inputs::check_inputs;
@@ -59,7 +60,8 @@ fn answer_each(table: &[u8], formula: &[u8], starts: &[u8], answers: &mut [u8]) 
     let all = steps_of(table);
     let shape = shape_of(formula);
     let ends = shape.ends;
-    let flags = label_nodes(table, &all.steps, &all.firsts, formula, &ends);
+    let mut flags = [false; NODE_POSITIONS];
+    label_nodes(table, &all.steps, &all.firsts, formula, &ends, &mut flags);
     let mut joint = true;
     let mut i: usize = 0;
     while i < starts.len() {

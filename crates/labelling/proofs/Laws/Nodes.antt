@@ -23,7 +23,8 @@ use Rattle.actl.proofs.Laws.Prepared.{prepared-few, prepared-count}
 use Rattle.actl.proofs.Subformulas.{node-at, at-node, at-lt}
 use Rattle.satisfaction.specs.inner.Holds.{within, enters, holds}
 use Rattle.until_search.specs.inner.Flags.{flagAt, nodeHolds, Flags}
-use Rattle.labelling.specs.inner.Nodes.{RowRead, RowPut, LabelledFrom, RowsFrom, NodeRow}
+use Rattle.labelling.specs.inner.Nodes.{RowPut, LabelledFrom, RowsFrom, NodeRow}
+use Rattle.labelling.specs.inner.Rows.{rowAt, RowOf}
 use Rattle.until_search.proofs.Laws.Flags.{flags-same}
 use Rattle.until_search.proofs.Laws.Agree.{Agree, some-agree, every-agree, within-agree}
 
@@ -60,24 +61,24 @@ module _ (t : Table) (r : InRange t) (F : Formula) (few : size F ≤ mostNodes) 
   abbrev here : Formula
   here = getD (nodes F) k tru
 
-  -- A row read at an arm's number says where the arm holds.
-  row-of : (j : ℕ) (g : Formula) (row : List Bool) → k < j → At F j g → RowRead j flags row → Agree t (flagAt row) (holds t g)
-  row-of j g row b a d s h =
-      d .flag s (omega (arith, at-lt a)) (omega (arith, r .few-states)) ∙ (l .flag j s (omega arith) (at-lt a) h ∙ ap (λ (f : Formula). holds t f s) (node-at a))
+  -- The row at an arm's number says where the arm holds.
+  row-of : (j : ℕ) (g : Formula) (at : ℕ) → k < j → At F j g → RowOf j at → Agree t (rowAt flags at) (holds t g)
+  row-of j g at b a d s h =
+      ap (λ i. rowAt flags i s) (d .stands (omega (arith, at-lt a))) ∙ (l .flag j s (omega arith) (at-lt a) h ∙ ap (λ (f : Formula). holds t f s) (node-at a))
 
-  module _ (arm other : List Bool) (d : RowRead (k + 1) flags arm) (right : ℕ)
-      (stands : k + 1 < size F → right ≡ k + 1 + size (getD (nodes F) (k + 1) tru)) (w : RowRead right flags other) where
-    next : (g : Formula) → At F (suc k) g → Agree t (flagAt arm) (holds t g)
+  module _ (arm other : ℕ) (d : RowOf (k + 1) arm) (right : ℕ)
+      (stands : k + 1 < size F → right ≡ k + 1 + size (getD (nodes F) (k + 1) tru)) (w : RowOf right other) where
+    next : (g : Formula) → At F (suc k) g → Agree t (rowAt flags arm) (holds t g)
     next g a = row-of (k + 1) g arm (omega arith) (subst (λ (j : ℕ). At F j g) (omega arith) a) d
 
-    behind : (g h : Formula) → At F (suc k) g → At F (suc (k + size g)) h → Agree t (flagAt other) (holds t h)
+    behind : (g h : Formula) → At F (suc k) g → At F (suc (k + size g)) h → Agree t (rowAt flags other) (holds t h)
     behind g h a b =
         let same : k + 1 ≡ suc k = omega arith in
         let first : getD (nodes F) (k + 1) tru ≡ g = ap (λ j. getD (nodes F) j tru) same ∙ node-at a in
         let at-right : right ≡ suc (k + size g) = omega (arith, stands (omega (arith, at-lt a)), ap size first) in
         row-of right h other (omega arith) (subst (λ (j : ℕ). At F j h) (sym at-right) b) w
 
-    arms : (f : Formula) → At F k f → ArmsAgree t f (flagAt arm) (flagAt other)
+    arms : (f : Formula) → At F k f → ArmsAgree t f (rowAt flags arm) (rowAt flags other)
     arms tru a = tt
     arms (not f) a = next f (in-not a)
     arms (or f g) a = (next f (in-left a), behind f g (in-left a) (in-right a))
@@ -87,8 +88,8 @@ module _ (t : Table) (r : InRange t) (F : Formula) (few : size F ≤ mostNodes) 
     arms (euThen m b f) a = next f (in-euThen a)
 
     pub node-row : (n : Node) → slotOfNode n ≡ slotOf here → (row : List Bool)
-        → Flags (t .states) (nodeHolds t n (flagAt arm) (flagAt other)) row → Flags (t .states) (holds t here) row
-    node-row n e row f = flags-same (node-holds t r (flagAt arm) (flagAt other) n here e (arms here (at-node F k below))) f
+        → Flags (t .states) (nodeHolds t n (rowAt flags arm) (rowAt flags other)) row → Flags (t .states) (holds t here) row
+    node-row n e row f = flags-same (node-holds t r (rowAt flags arm) (rowAt flags other) n here e (arms here (at-node F k below))) f
 
   pub labelled-on : (row flags′ : List Bool) → Flags (t .states) (holds t here) row → RowPut k row flags flags′ → LabelledFrom t F k flags′
   labelled-on row flags′ f z = record { flag = λ j s b m h. go j s b m h (ℕ-discrete j k) }

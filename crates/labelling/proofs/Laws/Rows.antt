@@ -1,4 +1,4 @@
--- Rows of flags in one list: reading a row and putting one in, a state at a time.
+-- Rows of flags in one list: putting one in, a state at a time.
 use mathlib.Core.Path.{_≡_, refl, sym, ap, _∙_}
 use mathlib.Core.Logic.{_⊎_, inl, inr}
 use mathlib.Core.Bool.{Bool, false}
@@ -6,20 +6,13 @@ use mathlib.Core.List.{List}
 use Prim.Native.Nat.{ℕ, _+_, _*_, _≤_, _<_}
 use native.Mathlib.Decide.{ℕ-discrete}
 use native.Mathlib.Omega.{arith}
-use lib.ListN.{length, getD, set, replicate, length-set, length-replicate}
+use lib.ListN.{length, getD, set, length-set}
 use lib.Seq.{getD-set-same, getD-set-other}
 use Rattle.actl.specs.Sizes.{mostNodes}
 use Rattle.actl.specs.inner.Sizes.{nodePositions}
 use Rattle.lts.specs.Sizes.{mostStates}
-use Rattle.until_search.specs.inner.Flags.{flagAt, Flags}
-use Rattle.labelling.specs.inner.Nodes.{RowRead, RowPut}
-
--- A row that is not there is empty.
-pub row-none : (k : ℕ) (flags : List Bool) → 40 ≤ k → RowRead k flags (replicate mostStates false)
-row-none k flags h = record { places = length-replicate mostStates false; flag = λ s l m. absurd (omega arith) }
-
-pub row-all : (k s : ℕ) {flags row : List Bool} → mostStates ≤ s → Flags s (λ x. flagAt flags (k * mostStates + x)) row → RowRead k flags row
-row-all k s h d = record { places = d .places; flag = λ x l m. d .flag x (omega arith) }
+use Rattle.until_search.specs.inner.Flags.{flagAt}
+use Rattle.labelling.specs.inner.Nodes.{RowPut}
 
 -- The first `end` flags of a row are put in.
 pub record RowPutBelow (k end : ℕ) (row flags flags′ : List Bool) : Type 0 where

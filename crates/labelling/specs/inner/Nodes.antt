@@ -6,7 +6,6 @@ use mathlib.Core.List.{List}
 use mathlib.Core.Option.{some}
 use Prim.Native.Nat.{ℕ, _+_, _*_, _≤_, _<_}
 use lib.ListN.{length, getD}
-use Rattle.actl.specs.Sizes.{mostNodes}
 use Rattle.actl.specs.inner.Sizes.{nodePositions}
 use Rattle.lts.specs.Sizes.{mostStates}
 use Rattle.lts.specs.Steps.{Table, labels}
@@ -19,11 +18,6 @@ use Rattle.tables.specs.inner.StepArray.{StepsOf}
 use Rattle.actl.specs.inner.HoldsFormula.{HoldsFormula, ArmsEnd}
 use Rattle.until_search.specs.inner.Flags.{flagAt, Flags, NodeFlags}
 use Rattle.until_search.specs.inner.Links.{Linked}
-
--- The row of node k, where there is a place for it.
-pub record RowRead (k : ℕ) (flags row : List Bool) : Type 0 where
-  pub places : length row ≡ mostStates
-  pub flag : (s : ℕ) → k < mostNodes → s < mostStates → flagAt row s ≡ flagAt flags (k * mostStates + s)
 
 -- Flags with the row of node k put in.
 pub record RowPut (k : ℕ) (row flags flags′ : List Bool) : Type 0 where

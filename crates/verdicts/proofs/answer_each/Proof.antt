@@ -1,10 +1,12 @@
 -- `answer_each` meets its contract: the answers below i are written, each from the flags of one labelling.
 use borrow.Author.Needs.{needs}
 use mathlib.Core.Path.{_≡_, ap, _∙_}
-use mathlib.Core.Bool.{cond}
+use mathlib.Core.Bool.{Bool, false, cond}
+use mathlib.Core.List.{List}
 use Prim.Native.Nat.{_≤_, _<_, _-_}
 use native.Mathlib.Omega.{arith}
-use lib.ListN.{length}
+use lib.ListN.{length, length-replicate}
+use Rattle.actl.specs.inner.Sizes.{nodePositions}
 use Rattle.lts.specs.Reply.{overwritten}
 use Rattle.lts.specs.Sizes.{mostStates}
 use Rattle.actl.proofs.Laws.Held.{formula-long}
@@ -25,17 +27,29 @@ shape-of-requires c κs = formula-long _ _ (c .before .before .before .before .b
 
 label-nodes-requires : tie.Need-label-nodes-requires Inv-loop μ-loop
 label-nodes-requires c κs =
-    let shaped = c .before .before .before .before .before in
+    let shaped = c .before .before .before .before .before .before in
     let start = shaped .before .before .before .before .before .before in
-    (start .pre .0, (shaped .before .steps-of .ensures, (start .pre .1 .0, record { arms-end = λ F e k h. shaped .shape-of .ensures _ F e .ends k h })))
+    (
+      start .pre .0,
+      (
+        shaped .before .steps-of .ensures,
+        (start .pre .1 .0, (record { arms-end = λ F e k h. shaped .shape-of .ensures _ F e .ends k h }, length-replicate nodePositions false)),
+      ),
+    )
 
 loop-holds : tie.Need-loop-holds Inv-loop μ-loop
 loop-holds c = (omega arith, answered-none _ _ _)
 
 -- Behind the labelling.
 module _ (c : tie.After-label-nodes Inv-loop μ-loop) where
+  abbrev shaped : tie.After-shape-of Inv-loop μ-loop
+  shaped = c .before .before .before .before .before .before .before
+
   abbrev start : tie.Start Inv-loop μ-loop
-  start = c .before .before .before .before .before .before .before .before .before .before .before .before
+  start = shaped .before .before .before .before .before .before
+
+  abbrev flags-of : List Bool
+  flags-of = c .label-nodes .last .1 .1 .1 .1 .1 .0
 
   few : length (start .args .starts .now) ≤ mostStates
   few = right-few _ _ (start .pre .0 .in-range .few-states) (start .pre .1 .1 .0)
@@ -79,7 +93,7 @@ loop-again c =
     let loop = turn here .loop in
     (
       omega (arith, here .loop-test .taken),
-      answered-on (labelled here .label-nodes .result) (a .starts .now) (a .answers .now) (room (labelled here)) (loop .i) (asked .byte .result)
+      answered-on (flags-of (labelled here)) (a .starts .now) (a .answers .now) (room (labelled here)) (loop .i) (asked .byte .result)
           (c .before .bit .result) (here .loop-test .taken) (asked .byte .ensures .count) (c .before .bit .ensures) (c .both .ensures) (loop .inv .1),
     )
 

@@ -9,7 +9,8 @@ use Rattle.lts.specs.inner.Steps.{stepsFrom}
 use Rattle.tables.specs.inner.StepArray.{stepsIn}
 use Rattle.lts.specs.inner.Prepared.{tableIn}
 use Rattle.formulas.specs.declared.node.Node.{Node}
-use Rattle.until_search.specs.inner.Flags.{flagAt, atOnce, nodeHolds, Flags}
+use Rattle.until_search.specs.inner.Flags.{atOnce, nodeHolds, Flags}
+use Rattle.labelling.specs.inner.Rows.{rowAt}
 use Rattle.until_search.proofs.Laws.Flags.{flags-same}
 use Rattle.labelling.proofs.Laws.Nodes.{until-flags}
 use Rattle.labelling.proofs.nodes.label_node.Statement.{statement}
@@ -18,12 +19,12 @@ use Rattle.labelling.proofs.nodes.label_node.Tie as tie
 abbrev AtOnce : tie.Start → List Bool → Node → Type 0
 AtOnce c flags n =
     let t = tableIn (c .args .table .now) in
-    Flags (t .states) (λ s. atOnce n (flagAt (c .args .arm .now)) (flagAt (c .args .other .now)) s (stepsFrom t s)) flags
+    Flags (t .states) (λ s. atOnce n (rowAt (c .args .flags .now) (c .args .arm)) (rowAt (c .args .flags .now) (c .args .other)) s (stepsFrom t s)) flags
 
 abbrev Wanted : tie.Start → List Bool → Node → Type 0
 Wanted c flags n =
     let t = tableIn (c .args .table .now) in
-    Flags (t .states) (nodeHolds t n (flagAt (c .args .arm .now)) (flagAt (c .args .other .now))) flags
+    Flags (t .states) (nodeHolds t n (rowAt (c .args .flags .now) (c .args .arm)) (rowAt (c .args .flags .now) (c .args .other))) flags
 
 -- The steps in the arrays are the table's.
 at-once : (c : tie.After-label-at-once) → AtOnce (c .before .before .before) (c .label-at-once .result) (c .before .before .before .args .node)
@@ -31,11 +32,11 @@ at-once c =
     let start = c .before .before .before in
     let a = start .args in
     let t = tableIn (a .table .now) in
-    let once : ℕ → Bool = λ s. atOnce (a .node) (flagAt (a .arm .now)) (flagAt (a .other .now)) s (stepsIn (a .steps .now) (a .firsts .now) s) in
+    let once : ℕ → Bool = λ s. atOnce (a .node) (rowAt (a .flags .now) (a .arm)) (rowAt (a .flags .now) (a .other)) s (stepsIn (a .steps .now) (a .firsts .now) s) in
     let found = subst (λ n. Flags n once (c .label-at-once .result)) (c .before .state-count .ensures .count) (c .label-at-once .ensures) in
     let few = start .pre .0 .in-range .few-states in
     flags-same
-    (λ s h. ap (atOnce (a .node) (flagAt (a .arm .now)) (flagAt (a .other .now)) s) (start .pre .1 .0 .leaving s (omega (arith, few))))
+    (λ s h. ap (atOnce (a .node) (rowAt (a .flags .now) (a .arm)) (rowAt (a .flags .now) (a .other)) s) (start .pre .1 .0 .leaving s (omega (arith, few))))
     found
 
 state-count-requires : tie.Need-state-count-requires
@@ -44,7 +45,8 @@ state-count-requires c κs = c .before .pre .0 .long
 label-at-once-requires : tie.Need-label-at-once-requires
 label-at-once-requires c κs =
     let start = c .before .before in
-    (start .pre .1 .0 .fit, omega (arith, c .state-count .ensures .count, start .pre .0 .in-range .few-states))
+    let rows = start .pre .1 .1 in
+    (start .pre .1 .0 .fit, (omega (arith, c .state-count .ensures .count, start .pre .0 .in-range .few-states), rows .1, rows .2))
 
 -- A node that is known: what holds at once makes what is wanted.
 settled : (c : tie.After-label-at-once) (flags : List Bool) {n : Node} → c .before .before .before .args .node ≡ n

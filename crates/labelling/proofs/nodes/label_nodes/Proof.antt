@@ -1,10 +1,8 @@
 -- `label_nodes` meets its contract: the rows of the nodes from k on are labelled.
 use mathlib.Core.Path.{_≡_, sym, subst}
-use mathlib.Core.Bool.{false}
 use Prim.Native.Nat.{_≤_, _<_, _+_, _-_}
 use native.Mathlib.Omega.{arith}
-use lib.ListN.{getD, replicate, length-replicate}
-use Rattle.actl.specs.inner.Sizes.{nodePositions}
+use lib.ListN.{getD}
 use Rattle.labelling.specs.inner.Nodes.{RowsFrom}
 use Rattle.actl.proofs.Laws.Held.{formula-long, formula-few}
 use Rattle.labelling.proofs.Laws.Prepared.{rows-none, rows-all}
@@ -13,10 +11,10 @@ use Rattle.labelling.proofs.nodes.label_nodes.Statement.{statement}
 use Rattle.labelling.proofs.nodes.label_nodes.Tie as tie
 
 abbrev Inv-loop : tie.InvT-loop
-Inv-loop table steps firsts formula ends links flags₀ k₀ flags k = (k ≤ getD formula 0 0) × RowsFrom table formula k flags
+Inv-loop table steps firsts formula ends flags₀ links k₀ flags k = (k ≤ getD formula 0 0) × RowsFrom table formula k flags
 
 abbrev μ-loop : tie.MeasureT-loop
-μ-loop table steps firsts formula ends links flags₀ k₀ flags k = k
+μ-loop table steps firsts formula ends flags₀ links k₀ flags k = k
 
 -- A turn of the loop: the rows behind node k - 1 are there.
 module _ (c : tie.In-loop Inv-loop μ-loop) where
@@ -39,10 +37,11 @@ node-count-requires c κs = formula-long _ _ (c .before .before .before .pre .1 
 
 loop-holds : tie.Need-loop-holds Inv-loop μ-loop
 loop-holds c =
-    let a = c .before .before .before .before .args in
+    let start = c .before .before .before .before in
+    let a = start .args in
     let counted = c .node-count .ensures in
-    let none = rows-none (a .table .now) (a .formula .now) _ (length-replicate nodePositions false) in
-    (omega (arith, counted), subst (λ k. RowsFrom (a .table .now) (a .formula .now) k (replicate nodePositions false)) (sym counted) none)
+    let none = rows-none (a .table .now) (a .formula .now) (a .flags .now) (start .pre .1 .1 .1 .1) in
+    (omega (arith, counted), subst (λ k. RowsFrom (a .table .now) (a .formula .now) k (a .flags .now)) (sym counted) none)
 
 sub-k : tie.Need-sub-k Inv-loop μ-loop
 sub-k c = omega (arith, c .loop-test .taken)
@@ -56,7 +55,7 @@ row-from-arms-requires c κs =
       steps-of = start .pre .1 .0;
       linked = c .before .before .before .before .before .entering .ensures;
       formula-held = start .pre .1 .1 .0;
-      arms-end = start .pre .1 .1 .1;
+      arms-end = start .pre .1 .1 .1 .0;
       inside = inside turn;
       rows-behind = behind turn;
     }

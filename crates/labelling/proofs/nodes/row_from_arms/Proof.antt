@@ -23,20 +23,21 @@ node-at-requires c κs =
     let held = start .pre .formula-held in
     (formula-long _ _ held, (few start, formula-shaped _ _ held (start .args .k) (start .pre .inside)))
 
-add-row : tie.Need-add-row
-add-row c = omega (arith, few (c .before .before .before))
+add-row-of : tie.Need-add-row-of
+add-row-of c = omega (arith, few (c .before .before .before))
 
 right-arm-requires : tie.Need-right-arm-requires
 right-arm-requires c κs = few (c .before .before .before .before)
 
 label-node-requires : tie.Need-label-node-requires
 label-node-requires c κs =
-    let ready = c .before .before .before .before .before .before .before .before .pre in
-    (ready .table-held, (ready .steps-of, ready .linked))
+    let right = c .before in
+    let ready = right .before .before .before .before .before .pre in
+    (ready .table-held, (ready .steps-of, (ready .linked, right .before .row-of .ensures .within, c .row-of2 .ensures .within)))
 
 returns : tie.Need-returns
 returns c =
-    let right = c .before .before .before .before in
+    let right = c .before .before in
     let arm = right .before in
     let read = arm .before in
     let start = read .before .before .before in
@@ -50,11 +51,11 @@ returns c =
           let behind-left : k + 1 < size F → right .right-arm .result ≡ k + 1 + size (getD (nodes F) (k + 1) tru) =
           λ l. right .right-arm .ensures (omega (arith, prepared-few n b e)) ∙ ready .arms-end .arms-end F e (k + 1) l in
           node-row (tableIn (start .args .table .now)) (ready .table-held .in-range) F (prepared-few n b e) k here _ (ready .rows-behind .rows F e)
-          _ _ (arm .row .ensures) _ behind-left (c .before .before .before .row2 .ensures)
+          _ _ (arm .row-of .ensures) _ behind-left (c .before .row-of2 .ensures)
           (read .node-at .result) (read .node-at .ensures ∙ prepared-slot n b e k here) _ (c .label-node .ensures);
     }
 
 pub row-from-arms-spec : {M : Type 1} → statement M
 row-from-arms-spec =
     tie.close
-    (tie.spec node-at-requires add-row (λ c κs. search needs) right-arm-requires (λ c κs. search needs) label-node-requires returns)
+    (tie.spec node-at-requires add-row-of (λ c κs. search needs) right-arm-requires (λ c κs. search needs) label-node-requires returns)

@@ -1,6 +1,6 @@
 -- `some_step` meets its contract: the steps from k on are searched, and none before k comes out as wanted.
 use mathlib.Core.Path.{_≡_, sym, ap, _∙_, subst}
-use mathlib.Core.Bool.{Bool}
+use mathlib.Core.Bool.{Bool, _&&_}
 use Prim.Native.Nat.{_≤_, _<_, _-_}
 use native.Mathlib.Omega.{arith}
 use Rattle.lts.specs.inner.Sizes.{mostSteps}
@@ -9,29 +9,31 @@ use Rattle.lts.specs.Steps.{Step}
 use Rattle.lts.specs.inner.Steps.{Carried}
 use Rattle.tables.specs.inner.StepArray.{stepAt, stepsBetween, stepsIn, spanOf}
 use Rattle.tables.specs.declared.steps.Span.{Span}
+use Rattle.actl.specs.Actions.{meets}
 use Rattle.formulas.specs.inner.Access.{condIn}
-use Rattle.until_search.specs.inner.Flags.{flagAt, leadsAsWanted, someStep}
+use Rattle.until_search.specs.inner.Flags.{asWanted, leadsAsWanted, someStep}
+use Rattle.labelling.specs.inner.Rows.{rowAt}
 use Rattle.until_search.proofs.Laws.Flags.{some-found, some-later, some-none}
 use Rattle.labelling.proofs.steps.some_step.Statement.{statement}
 use Rattle.labelling.proofs.steps.some_step.Tie as tie
 
 abbrev Inv-loop : tie.InvT-loop
-Inv-loop steps firsts wanted condition arm s end k₀ k = (spanOf firsts s .from ≤ k) × (end ≡ spanOf firsts s .to)
-    × (someStep wanted (condIn condition) (flagAt arm) (stepsIn steps firsts s)
-    ≡ anyOf (leadsAsWanted wanted (condIn condition) (flagAt arm)) (stepsBetween steps s k end))
+Inv-loop steps firsts wanted condition flags arm s end k₀ k = (spanOf firsts s .from ≤ k) × (end ≡ spanOf firsts s .to)
+    × (someStep wanted (condIn condition) (rowAt flags arm) (stepsIn steps firsts s)
+    ≡ anyOf (leadsAsWanted wanted (condIn condition) (rowAt flags arm)) (stepsBetween steps s k end))
 
 abbrev μ-loop : tie.MeasureT-loop
-μ-loop steps firsts wanted condition arm s end k₀ k = end - k
+μ-loop steps firsts wanted condition flags arm s end k₀ k = end - k
 
 -- What is asked of each step.
 abbrev wanted : tie.Start Inv-loop μ-loop → Step → Bool
-wanted c = leadsAsWanted (c .args .wanted) (condIn (c .args .condition)) (flagAt (c .args .arm .now))
+wanted c = leadsAsWanted (c .args .wanted) (condIn (c .args .condition)) (rowAt (c .args .flags .now) (c .args .arm))
 
 -- The step at k has its place.
 placed : (c : tie.In-loop Inv-loop μ-loop) → c .before .loop .k < mostSteps
 placed c =
     let start = c .before .before .before in
-    omega (arith, c .loop-test .taken, c .before .loop .inv .1, start .pre .0 .few (start .args .s) (start .pre .1))
+    omega (arith, c .loop-test .taken, c .before .loop .inv .1, start .pre .0 .few (start .args .s) (start .pre .1 .0))
 
 -- The step at k, as the search has it.
 abbrev searched : tie.At-loop Inv-loop μ-loop → Step
@@ -42,12 +44,15 @@ outcome : (c : tie.After-leads Inv-loop μ-loop)
     → wanted (c .before .before .before .before .before .before .before .before) (searched (c .before .before .before .before .before .before)) ≡ c .leads .result
 outcome c =
     let start = c .before .before .before .before .before .before .before .before in
-    let label = c .before .before .label-of .ensures in
+    let a = start .args in
+    let label = c .before .label-of .ensures in
     let to = c .before .before .before .state-of .ensures .0 in
-    sym (λ i. wanted start (record { from = start .args .s; label = label i; to = to i })) ∙ sym (c .leads .ensures)
+    sym (λ i. wanted start (record { from = a .s; label = label i; to = to i }))
+    ∙ sym (ap (λ b. asWanted (a .wanted) (meets (condIn (a .condition)) (c .before .label-of .result) && b)) (c .before .before .flag .ensures))
+    ∙ sym (c .leads .ensures)
 
 leaving-requires : tie.Need-leaving-requires Inv-loop μ-loop
-leaving-requires c κs = c .pre .1
+leaving-requires c κs = c .pre .1 .0
 
 loop-holds : tie.Need-loop-holds Inv-loop μ-loop
 loop-holds c =
@@ -67,11 +72,11 @@ element-copy-out-step c = omega (arith, placed c)
 state-of-requires : tie.Need-state-of-requires Inv-loop μ-loop
 state-of-requires c κs = tt
 
+flag-requires : tie.Need-flag-requires Inv-loop μ-loop
+flag-requires c κs = (c .before .before .before .before .before .pre .1 .1, c .state-of .ensures .1)
+
 label-of-requires : tie.Need-label-of-requires Inv-loop μ-loop
 label-of-requires c κs = tt
-
-element-copy-out-leads : tie.Need-element-copy-out-leads Inv-loop μ-loop
-element-copy-out-leads c = c .before .state-of .ensures .1
 
 leads-requires : tie.Need-leads-requires Inv-loop μ-loop
 leads-requires c κs =
@@ -79,8 +84,8 @@ leads-requires c κs =
     let start = loop .before .before in
     let below = c .before .before .before .before .loop-test .taken in
     let inv = loop .loop .inv in
-    let carried = start .pre .0 .labelled (start .args .s) (loop .loop .k) (start .pre .1) (inv .0) (omega (arith, below, inv .1)) in
-    subst Carried (sym (c .before .label-of .ensures)) carried
+    let carried = start .pre .0 .labelled (start .args .s) (loop .loop .k) (start .pre .1 .0) (inv .0) (omega (arith, below, inv .1)) in
+    subst Carried (sym (c .label-of .ensures)) carried
 
 returns : tie.Need-returns Inv-loop μ-loop
 returns c =
@@ -112,5 +117,5 @@ returns-2 c =
 pub some-step-spec : {M : Type 1} → statement M
 some-step-spec =
     tie.close
-    (tie.spec Inv-loop μ-loop leaving-requires loop-holds mul-step element-copy-out-step state-of-requires label-of-requires
-    element-copy-out-leads leads-requires returns add-k loop-less loop-again returns-2)
+    (tie.spec Inv-loop μ-loop leaving-requires loop-holds mul-step element-copy-out-step state-of-requires flag-requires
+    label-of-requires leads-requires returns add-k loop-less loop-again returns-2)
