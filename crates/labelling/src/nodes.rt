@@ -111,7 +111,8 @@ pub fn label_nodes<'a>(
     requires { ⌜ length (now flags) ≡ nodePositions ⌝ }
     ensures { λ _. ⌜ NodesLabelled (now (table .entry)) (now (formula .entry)) (now (flags .exit)) ⌝ }
 {
-    let links = entering(table);
+    let mut links = [0u16; STEPS];
+    entering(table, &mut links);
     let mut k = node_count(formula);
     while 0 < k {
         k -= 1;

@@ -114,8 +114,8 @@ rows-on table formula held k {row} {flags} {flags′} below behind found put =
 
 -- The search of an until from the flags of its goal.
 pub until-flags : (t : Table) → InRange t → (m : Mask) (g : ℕ → Bool) (goal flags : List Bool) → Flags (t .states) g goal
-    → Flags mostStates (within t m (flagAt goal) (length (t .transitions))) flags → Flags (t .states) (within t m g (length (t .transitions))) flags
+    → Flags (t .states) (within t m (flagAt goal) (length (t .transitions))) flags → Flags (t .states) (within t m g (length (t .transitions))) flags
 until-flags t r m g goal flags d w = record {
   places = w .places;
-  flag = λ s h. w .flag s (omega (arith, r .few-states)) ∙ within-agree t r (flagAt goal) g (d .flag) m (length (t .transitions)) s h;
+  flag = λ s h. w .flag s h ∙ within-agree t r (flagAt goal) g (d .flag) m (length (t .transitions)) s h;
 }

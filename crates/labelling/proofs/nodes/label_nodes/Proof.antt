@@ -1,5 +1,5 @@
 -- `label_nodes` meets its contract: the rows of the nodes from k on are labelled.
-use mathlib.Core.Path.{_≡_, sym, subst}
+use mathlib.Core.Path.{_≡_, refl, sym, subst}
 use Prim.Native.Nat.{_≤_, _<_, _+_, _-_}
 use native.Mathlib.Omega.{arith}
 use lib.ListN.{getD}
@@ -19,7 +19,7 @@ abbrev μ-loop : tie.MeasureT-loop
 -- A turn of the loop: the rows behind node k - 1 are there.
 module _ (c : tie.In-loop Inv-loop μ-loop) where
   abbrev entry : tie.Start Inv-loop μ-loop
-  entry = c .before .before .before .before .before .before
+  entry = c .before .before .before .before .before .before .before
 
   inside : c .before .loop .k - 1 < getD (entry .args .formula .now) 0 0
   inside = omega (arith, c .loop-test .taken, c .before .loop .inv .0)
@@ -30,14 +30,14 @@ module _ (c : tie.In-loop Inv-loop μ-loop) where
       subst (λ k. RowsFrom (entry .args .table .now) (entry .args .formula .now) k (c .before .loop .flags)) same (c .before .loop .inv .1)
 
 entering-requires : tie.Need-entering-requires Inv-loop μ-loop
-entering-requires c κs = c .before .before .pre .0
+entering-requires c κs = (c .before .before .before .pre .0, refl)
 
 node-count-requires : tie.Need-node-count-requires Inv-loop μ-loop
-node-count-requires c κs = formula-long _ _ (c .before .before .before .pre .1 .1 .0)
+node-count-requires c κs = formula-long _ _ (c .before .before .before .before .pre .1 .1 .0)
 
 loop-holds : tie.Need-loop-holds Inv-loop μ-loop
 loop-holds c =
-    let start = c .before .before .before .before in
+    let start = c .before .before .before .before .before in
     let a = start .args in
     let counted = c .node-count .ensures in
     let none = rows-none (a .table .now) (a .formula .now) (a .flags .now) (start .pre .1 .1 .1 .1) in
