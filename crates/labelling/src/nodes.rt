@@ -17,6 +17,7 @@ ghost use Prim.Native.Nat.{_+_, _<_};
 ghost use lib.ListN.{length, getD};
 ghost use Rattle.actl.specs.Sizes.{mostNodes};
 ghost use Rattle.actl.specs.inner.Sizes.{nodePositions};
+ghost use Rattle.lts.specs.Sizes.{mostStates};
 ghost use Rattle.lts.specs.Steps.{labels};
 ghost use Rattle.lts.specs.inner.Prepared.{tableIn};
 ghost use Rattle.lts.specs.inner.HoldsTable.{HoldsTable};
@@ -37,22 +38,32 @@ fn label_node(
     flags: &[bool; NODE_POSITIONS],
     arm: usize,
     other: usize,
-) -> [bool; STATES]
+    found: &mut [bool; STATES],
+)
     requires { ⌜ HoldsTable (now table) ⌝ }
     requires { ⌜ StepsOf (tableIn (now table)) (now steps) (now firsts) ⌝ }
-    requires { ⌜ Linked (tableIn (now table)) (now links) × RowIn arm × RowIn other ⌝ }
-    ensures { λ r. ⌜ Flags (tableIn (now (table .entry)) .states)
-        (nodeHolds (tableIn (now (table .entry))) node (rowAt (now (flags .entry)) arm) (rowAt (now (flags .entry)) other)) r ⌝ }
+    requires { ⌜ Linked (tableIn (now table)) (now links) × RowIn arm × RowIn other × (length (now found) ≡ mostStates) ⌝ }
+    ensures { λ _. ⌜ Flags (tableIn (now (table .entry)) .states)
+        (nodeHolds (tableIn (now (table .entry))) node (rowAt (now (flags .entry)) arm) (rowAt (now (flags .entry)) other)) (now (found .exit)) ⌝ }
 {
-    let found = label_at_once(steps, firsts, state_count(table), node, flags, arm, other);
+    label_at_once(
+        steps,
+        firsts,
+        state_count(table),
+        node,
+        flags,
+        arm,
+        other,
+        found,
+    );
     match node {
-        Node::True => found,
-        Node::Not => found,
-        Node::Or => found,
-        Node::Ex(_) => found,
-        Node::Ax(_) => found,
-        Node::Until(set) => until(table, links, set, &found),
-        Node::UntilThen(set, _) => until(table, links, set, &found),
+        Node::True => {}
+        Node::Not => {}
+        Node::Or => {}
+        Node::Ex(_) => {}
+        Node::Ax(_) => {}
+        Node::Until(set) => until(table, links, set, found),
+        Node::UntilThen(set, _) => until(table, links, set, found),
     }
 }
 
@@ -85,14 +96,16 @@ fn row_from_arms(
     ends: &[u8; NODES],
     flags: &[bool; NODE_POSITIONS],
     k: usize,
-) -> [bool; STATES]
+    found: &mut [bool; STATES],
+)
     requires { ⌜ ArmsLabelled (now table) (now steps) (now firsts) (now links) (now formula) (now ends) (now flags) k ⌝ }
-    ensures { λ r. ⌜ NodeRow (now (table .entry)) (now (formula .entry)) k r ⌝ }
+    requires { ⌜ length (now found) ≡ mostStates ⌝ }
+    ensures { λ _. ⌜ NodeRow (now (table .entry)) (now (formula .entry)) k (now (found .exit)) ⌝ }
 {
     let node = node_at(formula, k);
     let arm = row_of(k + 1);
     let other = row_of(right_arm(ends, k));
-    label_node(table, steps, firsts, links, node, flags, arm, other)
+    label_node(table, steps, firsts, links, node, flags, arm, other, found);
 }
 
 // Node k and state s at k * 256 + s, whatever stood there. The two arrays of steps may be fields of one value.
@@ -113,10 +126,21 @@ pub fn label_nodes<'a>(
 {
     let mut links = [0u16; STEPS];
     entering(table, &mut links);
+    let mut found = [false; STATES];
     let mut k = node_count(formula);
     while 0 < k {
         k -= 1;
-        let found = row_from_arms(table, steps, firsts, &links, formula, ends, flags, k);
+        row_from_arms(
+            table,
+            steps,
+            firsts,
+            &links,
+            formula,
+            ends,
+            flags,
+            k,
+            &mut found,
+        );
         put_row(flags, k, &found);
     }
 }

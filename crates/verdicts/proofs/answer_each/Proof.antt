@@ -28,8 +28,7 @@ shape-of-requires c κs = formula-long _ _ (c .before .before .before .before .b
 label-nodes-requires : tie.Need-label-nodes-requires Inv-loop μ-loop
 label-nodes-requires c κs =
     let shaped = c .before .before .before .before .before .before in
-    let start = shaped .before .before .before .before .before .before in
-    (
+    let start = shaped .before .before .before .before .before .before in (
       start .pre .0,
       (
         shaped .before .steps-of .ensures,
@@ -90,8 +89,7 @@ loop-again c =
     let asked = c .before .before in
     let here = asked .before in
     let a = start (labelled here) .args in
-    let loop = turn here .loop in
-    (
+    let loop = turn here .loop in (
       omega (arith, here .loop-test .taken),
       answered-on (flags-of (labelled here)) (a .starts .now) (a .answers .now) (room (labelled here)) (loop .i) (asked .byte .result)
           (c .before .bit .result) (here .loop-test .taken) (asked .byte .ensures .count) (c .before .bit .ensures) (c .both .ensures) (loop .inv .1),

@@ -26,14 +26,22 @@ Wanted c flags n =
     let t = tableIn (c .args .table .now) in
     Flags (t .states) (nodeHolds t n (rowAt (c .args .flags .now) (c .args .arm)) (rowAt (c .args .flags .now) (c .args .other))) flags
 
+-- What was found at once.
+module _ (c : tie.After-label-at-once) where
+  abbrev begun : tie.Start
+  begun = c .before .before .before .before
+
+  abbrev row : List Bool
+  row = c .label-at-once .last .1 .1 .1 .1 .1 .1 .1 .0
+
 -- The steps in the arrays are the table's.
-at-once : (c : tie.After-label-at-once) → AtOnce (c .before .before .before) (c .label-at-once .result) (c .before .before .before .args .node)
+at-once : (c : tie.After-label-at-once) → AtOnce (begun c) (row c) (begun c .args .node)
 at-once c =
-    let start = c .before .before .before in
+    let start = begun c in
     let a = start .args in
     let t = tableIn (a .table .now) in
     let once : ℕ → Bool = λ s. atOnce (a .node) (rowAt (a .flags .now) (a .arm)) (rowAt (a .flags .now) (a .other)) s (stepsIn (a .steps .now) (a .firsts .now) s) in
-    let found = subst (λ n. Flags n once (c .label-at-once .result)) (c .before .state-count .ensures .count) (c .label-at-once .ensures) in
+    let found = subst (λ n. Flags n once (row c)) (c .before .before .state-count .ensures .count) (c .label-at-once .ensures) in
     let few = start .pre .0 .in-range .few-states in
     flags-same
     (λ s h. ap (atOnce (a .node) (rowAt (a .flags .now) (a .arm)) (rowAt (a .flags .now) (a .other)) s) (start .pre .1 .0 .leaving s (omega (arith, few))))
@@ -44,17 +52,16 @@ state-count-requires c κs = c .before .pre .0 .long
 
 label-at-once-requires : tie.Need-label-at-once-requires
 label-at-once-requires c κs =
-    let start = c .before .before in
+    let counted = c .before in
+    let start = counted .before .before in
     let rows = start .pre .1 .1 in
-    (start .pre .1 .0 .fit, (omega (arith, c .state-count .ensures .count, start .pre .0 .in-range .few-states), rows .1, rows .2))
+    (start .pre .1 .0 .fit, (omega (arith, counted .state-count .ensures .count, start .pre .0 .in-range .few-states), rows .1, rows .2, rows .3))
 
 -- A node that is known: what holds at once makes what is wanted.
-settled : (c : tie.After-label-at-once) (flags : List Bool) {n : Node} → c .before .before .before .args .node ≡ n
-    → (AtOnce (c .before .before .before) (c .label-at-once .result) n → Wanted (c .before .before .before) flags n)
-    → Wanted (c .before .before .before) flags (c .before .before .before .args .node)
+settled : (c : tie.After-label-at-once) (flags : List Bool) {n : Node} → begun c .args .node ≡ n
+    → (AtOnce (begun c) (row c) n → Wanted (begun c) flags n) → Wanted (begun c) flags (begun c .args .node)
 settled c flags e wanted =
-    let start = c .before .before .before in
-    subst (Wanted start flags) (sym e) (wanted (subst (AtOnce start (c .label-at-once .result)) e (at-once c)))
+    subst (Wanted (begun c) flags) (sym e) (wanted (subst (AtOnce (begun c) (row c)) e (at-once c)))
 
 returns : tie.Need-returns
 returns c = settled (c .before .before) _ (c .enum-told .given .1) (λ once. once)
@@ -74,13 +81,13 @@ returns-5 c = settled (c .before .before) _ (c .enum-told5 .given .1) (λ once. 
 returns-6 : tie.Need-returns-6
 returns-6 c =
     let known = c .before .before .before .before .before in
-    let in-range = known .before .before .before .pre .0 .in-range in
+    let in-range = begun known .pre .0 .in-range in
     settled known _ (c .before .before .before .node .given .1) (λ once. until-flags _ in-range _ _ _ _ once (c .until .ensures))
 
 returns-7 : tie.Need-returns-7
 returns-7 c =
     let known = c .before .before .before .before .before in
-    let in-range = known .before .before .before .pre .0 .in-range in
+    let in-range = begun known .pre .0 .in-range in
     settled known _ (c .before .before .before .node2 .given .1) (λ once. until-flags _ in-range _ _ _ _ once (c .until2 .ensures))
 
 pub label-node-spec : {M : Type 1} → statement M

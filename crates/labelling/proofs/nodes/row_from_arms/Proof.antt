@@ -15,13 +15,13 @@ use Rattle.labelling.proofs.nodes.row_from_arms.Statement.{statement}
 use Rattle.labelling.proofs.nodes.row_from_arms.Tie as tie
 
 few : (c : tie.Start) → c .args .k < mostNodes
-few c = omega (arith, c .pre .inside, formula-few _ _ (c .pre .formula-held))
+few c = omega (arith, c .pre .0 .inside, formula-few _ _ (c .pre .0 .formula-held))
 
 node-at-requires : tie.Need-node-at-requires
 node-at-requires c κs =
     let start = c .before .before in
-    let held = start .pre .formula-held in
-    (formula-long _ _ held, (few start, formula-shaped _ _ held (start .args .k) (start .pre .inside)))
+    let held = start .pre .0 .formula-held in
+    (formula-long _ _ held, (few start, formula-shaped _ _ held (start .args .k) (start .pre .0 .inside)))
 
 add-row-of : tie.Need-add-row-of
 add-row-of c = omega (arith, few (c .before .before .before))
@@ -31,17 +31,18 @@ right-arm-requires c κs = few (c .before .before .before .before)
 
 label-node-requires : tie.Need-label-node-requires
 label-node-requires c κs =
-    let right = c .before in
-    let ready = right .before .before .before .before .before .pre in
-    (ready .table-held, (ready .steps-of, (ready .linked, right .before .row-of .ensures .within, c .row-of2 .ensures .within)))
+    let arm = c .before .before .before in
+    let start = arm .before .before .before .before in
+    let ready = start .pre .0 in
+    (ready .table-held, (ready .steps-of, (ready .linked, arm .row-of .ensures .within, c .before .row-of2 .ensures .within, start .pre .1)))
 
 returns : tie.Need-returns
 returns c =
-    let right = c .before .before in
+    let right = c .before .before .before in
     let arm = right .before in
     let read = arm .before in
     let start = read .before .before .before in
-    let ready = start .pre in
+    let ready = start .pre .0 in
     let n = labels (tableIn (start .args .table .now)) in
     let b = start .args .formula .now in
     let k = start .args .k in
@@ -51,7 +52,7 @@ returns c =
           let behind-left : k + 1 < size F → right .right-arm .result ≡ k + 1 + size (getD (nodes F) (k + 1) tru) =
           λ l. right .right-arm .ensures (omega (arith, prepared-few n b e)) ∙ ready .arms-end .arms-end F e (k + 1) l in
           node-row (tableIn (start .args .table .now)) (ready .table-held .in-range) F (prepared-few n b e) k here _ (ready .rows-behind .rows F e)
-          _ _ (arm .row-of .ensures) _ behind-left (c .before .row-of2 .ensures)
+          _ _ (arm .row-of .ensures) _ behind-left (c .before .before .row-of2 .ensures)
           (read .node-at .result) (read .node-at .ensures ∙ prepared-slot n b e k here) _ (c .label-node .ensures);
     }
 
