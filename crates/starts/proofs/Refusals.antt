@@ -16,9 +16,8 @@ use Rattle.actl.specs.Sizes.{formulaLength}
 use Rattle.actl.specs.Formulas.{Formula}
 use Rattle.actl.specs.Reading.{unlessFound}
 use Rattle.actl.specs.Foreign.{RefusesForeign}
-use Rattle.actl.specs.FormulaReading.{withTable, withFormula}
 use Rattle.actl.specs.inner.Prepared.{preparedFormula}
-use Rattle.actl.proofs.Laws.Foreign.{NotTen, refuses-foreign, answers-refuse-foreign}
+use Rattle.actl.proofs.Laws.Foreign.{NotTen, with-formula-numbers, with-table-numbers, refuses-foreign, answers-refuse-foreign}
 use Rattle.actl.proofs.Laws.Replies.{on-prepared-goes}
 use Rattle.starts.specs.Starts.{FirstWrong, wrongStart}
 use Rattle.starts.specs.VerdictsAsked.{verdictsAt, joint, verdictsAsked, verdictsReplied}
@@ -32,16 +31,6 @@ found-numbers : (P : ℕ → Type 0) (o : Option ℕ) (r : Reply (List ℕ)) →
 found-numbers P none r h o = o
 found-numbers P (some i) r h o = h
 
-with-formula-numbers : (o : Option Formula) (next : Formula → Reply (List ℕ)) → ((F : Formula) → Numbered StartsNumber (next F))
-    → Numbered StartsNumber (withFormula o next)
-with-formula-numbers none next h = inl refl
-with-formula-numbers (some F) next h = h F
-
-with-table-numbers : (o : Option Table) (next : Table → Reply (List ℕ)) → ((t : Table) → Numbered StartsNumber (next t))
-    → Numbered StartsNumber (withTable o next)
-with-table-numbers none next h = inl refl
-with-table-numbers (some t) next h = h t
-
 module _ (table formula starts buffer : List ℕ) where
   pub refusals : Numbered StartsNumber (verdictsReplied table formula starts buffer)
   unfolding verdictsAsked
@@ -51,7 +40,7 @@ module _ (table formula starts buffer : List ℕ) where
       (numbered-unless StartsNumber (leb tableLength (length table)) 14 _ _ fourteen
       (numbered-unless StartsNumber (leb formulaLength (length formula)) 14 _ _ fourteen
       (numbered-unless StartsNumber (leb mostStates (length buffer)) 14 _ _ fourteen
-      (with-table-numbers (preparedTable table) _ (λ t. with-formula-numbers (preparedFormula (labels t) formula) _ (λ F.
+      (with-table-numbers StartsNumber (inl refl) (preparedTable table) _ (λ t. with-formula-numbers StartsNumber (inl refl) (preparedFormula (labels t) formula) _ (λ F.
       found-numbers StartsNumber (wrongStart (t .states) starts) (accepted (verdictsAt t F starts)) (inr (inr refl)) tt))))))
 
   module _ (room : mostStates ≤ length buffer) where

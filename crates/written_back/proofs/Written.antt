@@ -19,7 +19,7 @@ use Rattle.actl.specs.Formulas.{Formula}
 use Rattle.actl.specs.Foreign.{RefusesForeign}
 use Rattle.actl.specs.FormulaReading.{withTable, withFormula, longEnough, onPrepared}
 use Rattle.actl.specs.inner.Prepared.{preparedFormula}
-use Rattle.actl.proofs.Laws.Foreign.{NotTen, refuses-foreign, answers-refuse-foreign}
+use Rattle.actl.proofs.Laws.Foreign.{NotTen, with-formula-numbers, with-table-numbers, refuses-foreign, answers-refuse-foreign}
 use Rattle.actl.proofs.Laws.Replies.{unless-accepted, long-enough-accepted, on-prepared-accepted, accepted-answer}
 use Rattle.written_back.specs.FormulaText.{formulaText}
 use Rattle.written_back.specs.FormulaWriting.{unlessLong, formulaWriting, formulaWritten, textLeft}
@@ -42,16 +42,6 @@ WritingNumber n = (n ≡ 10) ⊎ ((n ≡ 14) ⊎ (n ≡ 15))
 
 fourteen : WritingNumber 14
 fourteen = inr (inl refl)
-
-with-formula-numbers : (o : Option Formula) (next : Formula → Reply (List ℕ)) → ((F : Formula) → Numbered WritingNumber (next F))
-    → Numbered WritingNumber (withFormula o next)
-with-formula-numbers none next h = inl refl
-with-formula-numbers (some F) next h = h F
-
-with-table-numbers : (o : Option Table) (next : Table → Reply (List ℕ)) → ((t : Table) → Numbered WritingNumber (next t))
-    → Numbered WritingNumber (withTable o next)
-with-table-numbers none next h = inl refl
-with-table-numbers (some t) next h = h t
 
 module _ (table formula text : List ℕ) where
   -- With room for the text: what the prepared bytes say.
@@ -105,7 +95,7 @@ module _ (table formula text : List ℕ) where
       (numbered-unless WritingNumber (leb tableLength (length table)) 14 _ _ fourteen
       (numbered-unless WritingNumber (leb formulaLength (length formula)) 14 _ _ fourteen
       (numbered-unless WritingNumber (leb longestText (length text)) 14 _ _ fourteen
-      (with-table-numbers (preparedTable table) _ (λ t. with-formula-numbers (preparedFormula (labels t) formula) _ (λ F.
+      (with-table-numbers WritingNumber (inl refl) (preparedTable table) _ (λ t. with-formula-numbers WritingNumber (inl refl) (preparedFormula (labels t) formula) _ (λ F.
       let written = formulaText (t .names) F in
       numbered-unless WritingNumber (leb (length written) longestText) 15 (length written) (accepted written) (inr (inr refl)) tt))))))
 

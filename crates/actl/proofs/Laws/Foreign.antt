@@ -27,6 +27,16 @@ use Rattle.actl.proofs.Laws.Prepared.{prepared-form}
 use Rattle.actl.proofs.Laws.Refusals.{reading-numbers}
 use Rattle.actl.proofs.Laws.Replies.{same-some}
 
+-- The numbers that an entry over prepared bytes may be refused with: 10, and those of what comes behind.
+module _ {A : Type 0} (P : ℕ → Type 0) (ten : P 10) where
+  pub with-formula-numbers : (o : Option Formula) (next : Formula → Reply A) → ((F : Formula) → Numbered P (next F)) → Numbered P (withFormula o next)
+  with-formula-numbers none next h = ten
+  with-formula-numbers (some F) next h = h F
+
+  pub with-table-numbers : (o : Option Table) (next : Table → Reply A) → ((t : Table) → Numbered P (next t)) → Numbered P (withTable o next)
+  with-table-numbers none next h = ten
+  with-table-numbers (some t) next h = h t
+
 abbrev pub NotTen : ℕ → Type 0
 NotTen n = n ≡ 10 → ⊥
 
