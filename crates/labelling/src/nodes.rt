@@ -17,7 +17,6 @@ ghost use Prim.Native.Nat.{_+_, _<_};
 ghost use lib.ListN.{length, getD};
 ghost use Rattle.actl.specs.Sizes.{mostNodes};
 ghost use Rattle.actl.specs.inner.Sizes.{nodePositions};
-ghost use Rattle.lts.specs.Sizes.{mostStates};
 ghost use Rattle.lts.specs.Steps.{labels};
 ghost use Rattle.lts.specs.inner.Prepared.{tableIn};
 ghost use Rattle.lts.specs.inner.HoldsTable.{HoldsTable};
@@ -42,28 +41,19 @@ fn label_node(
 )
     requires { ⌜ HoldsTable (now table) ⌝ }
     requires { ⌜ StepsOf (tableIn (now table)) (now steps) (now firsts) ⌝ }
-    requires { ⌜ Linked (tableIn (now table)) (now links) × RowIn arm × RowIn other × (length (now found) ≡ mostStates) ⌝ }
+    requires { ⌜ Linked (tableIn (now table)) (now links) × RowIn arm × RowIn other ⌝ }
     ensures { λ _. ⌜ Flags (tableIn (now (table .entry)) .states)
         (nodeHolds (tableIn (now (table .entry))) node (rowAt (now (flags .entry)) arm) (rowAt (now (flags .entry)) other)) (now (found .exit)) ⌝ }
 {
-    label_at_once(
-        steps,
-        firsts,
-        state_count(table),
-        node,
-        flags,
-        arm,
-        other,
-        found,
-    );
+    *found = label_at_once(steps, firsts, state_count(table), node, flags, arm, other);
     match node {
         Node::True => {}
         Node::Not => {}
         Node::Or => {}
         Node::Ex(_) => {}
         Node::Ax(_) => {}
-        Node::Until(set) => until(table, links, set, found),
-        Node::UntilThen(set, _) => until(table, links, set, found),
+        Node::Until(set) => *found = until(table, links, set, found),
+        Node::UntilThen(set, _) => *found = until(table, links, set, found),
     }
 }
 
@@ -99,7 +89,6 @@ fn row_from_arms(
     found: &mut [bool; STATES],
 )
     requires { ⌜ ArmsLabelled (now table) (now steps) (now firsts) (now links) (now formula) (now ends) (now flags) k ⌝ }
-    requires { ⌜ length (now found) ≡ mostStates ⌝ }
     ensures { λ _. ⌜ NodeRow (now (table .entry)) (now (formula .entry)) k (now (found .exit)) ⌝ }
 {
     let node = node_at(formula, k);

@@ -11,7 +11,6 @@ use tables::steps::state_of;
 ghost use mathlib.Core.Path.{_≡_};
 ghost use mathlib.Core.Bool.{_&&_};
 ghost use Prim.Native.Nat.{_<_, _≤_};
-ghost use lib.ListN.{length};
 ghost use Rattle.lts.specs.Sizes.{mostStates};
 ghost use Rattle.lts.specs.inner.Steps.{Carried};
 ghost use Rattle.tables.specs.inner.StepArray.{stepsIn, StepsFit};
@@ -104,15 +103,16 @@ pub fn label_at_once(
     flags: &[bool; NODE_POSITIONS],
     arm: usize,
     other: usize,
-    found: &mut [bool; STATES],
-)
+) -> [bool; STATES]
     requires { ⌜ StepsFit (now steps) (now firsts) ⌝ }
-    requires { ⌜ (states ≤ mostStates) × RowIn arm × RowIn other × (length (now found) ≡ mostStates) ⌝ }
-    ensures { λ _. ⌜ Flags states (λ s. atOnce node (rowAt (now (flags .entry)) arm) (rowAt (now (flags .entry)) other) s (stepsIn (now (steps .entry)) (now (firsts .entry)) s)) (now (found .exit)) ⌝ }
+    requires { ⌜ (states ≤ mostStates) × RowIn arm × RowIn other ⌝ }
+    ensures { λ r. ⌜ Flags states (λ s. atOnce node (rowAt (now (flags .entry)) arm) (rowAt (now (flags .entry)) other) s (stepsIn (now (steps .entry)) (now (firsts .entry)) s)) r ⌝ }
 {
+    let mut found = [false; STATES];
     let mut s = 0;
     while s < states {
         found[s] = at_once(steps, firsts, node, flags, arm, other, s);
         s += 1;
     }
+    found
 }

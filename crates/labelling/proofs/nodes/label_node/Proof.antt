@@ -29,10 +29,10 @@ Wanted c flags n =
 -- What was found at once.
 module _ (c : tie.After-label-at-once) where
   abbrev begun : tie.Start
-  begun = c .before .before .before .before
+  begun = c .before .before .before
 
   abbrev row : List Bool
-  row = c .label-at-once .last .1 .1 .1 .1 .1 .1 .1 .0
+  row = c .label-at-once .result
 
 -- The steps in the arrays are the table's.
 at-once : (c : tie.After-label-at-once) → AtOnce (begun c) (row c) (begun c .args .node)
@@ -41,7 +41,7 @@ at-once c =
     let a = start .args in
     let t = tableIn (a .table .now) in
     let once : ℕ → Bool = λ s. atOnce (a .node) (rowAt (a .flags .now) (a .arm)) (rowAt (a .flags .now) (a .other)) s (stepsIn (a .steps .now) (a .firsts .now) s) in
-    let found = subst (λ n. Flags n once (row c)) (c .before .before .state-count .ensures .count) (c .label-at-once .ensures) in
+    let found = subst (λ n. Flags n once (row c)) (c .before .state-count .ensures .count) (c .label-at-once .ensures) in
     let few = start .pre .0 .in-range .few-states in
     flags-same
     (λ s h. ap (atOnce (a .node) (rowAt (a .flags .now) (a .arm)) (rowAt (a .flags .now) (a .other)) s) (start .pre .1 .0 .leaving s (omega (arith, few))))
@@ -52,10 +52,9 @@ state-count-requires c κs = c .before .pre .0 .long
 
 label-at-once-requires : tie.Need-label-at-once-requires
 label-at-once-requires c κs =
-    let counted = c .before in
-    let start = counted .before .before in
+    let start = c .before .before in
     let rows = start .pre .1 .1 in
-    (start .pre .1 .0 .fit, (omega (arith, counted .state-count .ensures .count, start .pre .0 .in-range .few-states), rows .1, rows .2, rows .3))
+    (start .pre .1 .0 .fit, (omega (arith, c .state-count .ensures .count, start .pre .0 .in-range .few-states), rows .1, rows .2))
 
 -- A node that is known: what holds at once makes what is wanted.
 settled : (c : tie.After-label-at-once) (flags : List Bool) {n : Node} → begun c .args .node ≡ n

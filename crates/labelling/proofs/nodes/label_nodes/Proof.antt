@@ -1,10 +1,8 @@
 -- `label_nodes` meets its contract: the rows of the nodes from k on are labelled.
 use mathlib.Core.Path.{_≡_, refl, sym, subst}
-use mathlib.Core.Bool.{false}
 use Prim.Native.Nat.{_≤_, _<_, _+_, _-_}
 use native.Mathlib.Omega.{arith}
-use lib.ListN.{length, getD, length-replicate}
-use Rattle.lts.specs.Sizes.{mostStates}
+use lib.ListN.{getD}
 use Rattle.labelling.specs.inner.Nodes.{RowsFrom}
 use Rattle.actl.proofs.Laws.Held.{formula-long, formula-few}
 use Rattle.labelling.proofs.Laws.Prepared.{rows-none, rows-all}
@@ -14,7 +12,7 @@ use Rattle.labelling.proofs.nodes.label_nodes.Tie as tie
 
 abbrev Inv-loop : tie.InvT-loop
 Inv-loop table steps firsts formula ends flags₀ links found₀ k₀ flags found k =
-    (k ≤ getD formula 0 0) × RowsFrom table formula k flags × (length found ≡ mostStates)
+    (k ≤ getD formula 0 0) × RowsFrom table formula k flags
 
 abbrev μ-loop : tie.MeasureT-loop
 μ-loop table steps firsts formula ends flags₀ links found₀ k₀ flags found k = k
@@ -44,7 +42,7 @@ loop-holds c =
     let a = start .args in
     let counted = c .node-count .ensures in
     let none = rows-none (a .table .now) (a .formula .now) (a .flags .now) (start .pre .1 .1 .1 .1) in
-    (omega (arith, counted), subst (λ k. RowsFrom (a .table .now) (a .formula .now) k (a .flags .now)) (sym counted) none, length-replicate mostStates false)
+    (omega (arith, counted), subst (λ k. RowsFrom (a .table .now) (a .formula .now) k (a .flags .now)) (sym counted) none)
 
 sub-k : tie.Need-sub-k Inv-loop μ-loop
 sub-k c = omega (arith, c .loop-test .taken)
@@ -52,18 +50,16 @@ sub-k c = omega (arith, c .loop-test .taken)
 row-from-arms-requires : tie.Need-row-from-arms-requires Inv-loop μ-loop
 row-from-arms-requires c κs =
     let turn = c .before .before .before in
-    let start = entry turn in (
-      record {
-        table-held = start .pre .0;
-        steps-of = start .pre .1 .0;
-        linked = turn .before .before .before .entering .ensures;
-        formula-held = start .pre .1 .1 .0;
-        arms-end = start .pre .1 .1 .1 .0;
-        inside = inside turn;
-        rows-behind = behind turn;
-      },
-      turn .before .loop .inv .2,
-    )
+    let start = entry turn in
+    record {
+      table-held = start .pre .0;
+      steps-of = start .pre .1 .0;
+      linked = turn .before .before .before .entering .ensures;
+      formula-held = start .pre .1 .1 .0;
+      arms-end = start .pre .1 .1 .1 .0;
+      inside = inside turn;
+      rows-behind = behind turn;
+    }
 
 put-row-requires : tie.Need-put-row-requires Inv-loop μ-loop
 put-row-requires c κs =
@@ -77,11 +73,7 @@ loop-again : tie.Need-loop-again Inv-loop μ-loop
 loop-again c =
     let turn = c .before .before .before .before .before .before .before in
     let row = c .before .before .before .row-from-arms .ensures in
-    let held = entry turn .pre .1 .1 .0 in (
-      omega (arith, inside turn),
-      rows-on _ _ (entry turn .pre .0) _ (inside turn) (behind turn) row (c .put-row .ensures),
-      row .found (held .formula) (held .prepared) .places,
-    )
+    (omega (arith, inside turn), rows-on _ _ (entry turn .pre .0) _ (inside turn) (behind turn) row (c .put-row .ensures))
 
 returns : tie.Need-returns Inv-loop μ-loop
 returns c = rows-all _ _ (c .before .loop .k) (c .loop-test .left) (c .before .loop .inv .1)

@@ -15,13 +15,13 @@ use Rattle.labelling.proofs.nodes.row_from_arms.Statement.{statement}
 use Rattle.labelling.proofs.nodes.row_from_arms.Tie as tie
 
 few : (c : tie.Start) → c .args .k < mostNodes
-few c = omega (arith, c .pre .0 .inside, formula-few _ _ (c .pre .0 .formula-held))
+few c = omega (arith, c .pre .inside, formula-few _ _ (c .pre .formula-held))
 
 node-at-requires : tie.Need-node-at-requires
 node-at-requires c κs =
     let start = c .before .before in
-    let held = start .pre .0 .formula-held in
-    (formula-long _ _ held, (few start, formula-shaped _ _ held (start .args .k) (start .pre .0 .inside)))
+    let held = start .pre .formula-held in
+    (formula-long _ _ held, (few start, formula-shaped _ _ held (start .args .k) (start .pre .inside)))
 
 add-row-of : tie.Need-add-row-of
 add-row-of c = omega (arith, few (c .before .before .before))
@@ -33,8 +33,8 @@ label-node-requires : tie.Need-label-node-requires
 label-node-requires c κs =
     let arm = c .before .before .before in
     let start = arm .before .before .before .before in
-    let ready = start .pre .0 in
-    (ready .table-held, (ready .steps-of, (ready .linked, arm .row-of .ensures .within, c .before .row-of2 .ensures .within, start .pre .1)))
+    let ready = start .pre in
+    (ready .table-held, (ready .steps-of, (ready .linked, arm .row-of .ensures .within, c .before .row-of2 .ensures .within)))
 
 returns : tie.Need-returns
 returns c =
@@ -42,7 +42,7 @@ returns c =
     let arm = right .before in
     let read = arm .before in
     let start = read .before .before .before in
-    let ready = start .pre .0 in
+    let ready = start .pre in
     let n = labels (tableIn (start .args .table .now)) in
     let b = start .args .formula .now in
     let k = start .args .k in

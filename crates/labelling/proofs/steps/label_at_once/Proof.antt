@@ -5,7 +5,7 @@ use Rattle.lts.specs.Sizes.{mostStates}
 use Rattle.tables.specs.inner.StepArray.{stepsIn}
 use Rattle.until_search.specs.inner.Flags.{atOnce, Flags}
 use Rattle.labelling.specs.inner.Rows.{rowAt}
-use Rattle.until_search.proofs.Laws.Flags.{flags-on, flags-all}
+use Rattle.until_search.proofs.Laws.Flags.{flags-none, flags-on, flags-all}
 use Rattle.labelling.proofs.steps.label_at_once.Statement.{statement}
 use Rattle.labelling.proofs.steps.label_at_once.Tie as tie
 
@@ -21,13 +21,13 @@ state : (c : tie.In-loop Inv-loop μ-loop) → c .before .loop .s < mostStates
 state c = omega (arith, c .loop-test .taken, c .before .before .pre .1 .0)
 
 loop-holds : tie.Need-loop-holds Inv-loop μ-loop
-loop-holds c = (omega arith, record { places = c .pre .1 .3; flag = λ s h. absurd (omega arith) })
+loop-holds c = (omega arith, flags-none _)
 
 at-once-requires : tie.Need-at-once-requires Inv-loop μ-loop
 at-once-requires c κs = let held = c .before .before .pre in (held .0, (state c, held .1 .1, held .1 .2))
 
-element-write-found : tie.Need-element-write-found Inv-loop μ-loop
-element-write-found c = omega (arith, state (c .before))
+array-write-found : tie.Need-array-write-found Inv-loop μ-loop
+array-write-found c = omega (arith, state (c .before))
 
 add-s : tie.Need-add-s Inv-loop μ-loop
 add-s c = omega (arith, state (c .before))
@@ -47,4 +47,4 @@ returns c = flags-all _ _ (c .before .loop .s) (c .loop-test .left) (c .before .
 pub label-at-once-spec : {M : Type 1} → statement M
 label-at-once-spec =
     tie.close
-    (tie.spec Inv-loop μ-loop loop-holds at-once-requires element-write-found add-s loop-less loop-again returns)
+    (tie.spec Inv-loop μ-loop loop-holds at-once-requires array-write-found add-s loop-less loop-again returns)
