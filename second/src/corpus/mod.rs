@@ -153,6 +153,13 @@ fn asked(
     })
 }
 
+/// Those of them whose prepared bytes are damaged, short or longer, in the counts of words.
+fn refused(entry: &'static str, input: fn(&Rng, Question) -> Input) -> impl Iterator<Item = Kind> {
+    const BEGINNINGS: [&str; 3] = ["table-", "formula-", "both-"];
+    asked(entry, 2, input)
+        .filter(|kind| BEGINNINGS.iter().any(|begins| kind.name.starts_with(begins)))
+}
+
 pub fn kinds() -> impl Iterator<Item = Kind> {
     read_table::KINDS
         .into_iter()

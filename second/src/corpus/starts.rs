@@ -4,11 +4,11 @@
 
 use super::damage;
 use super::formulas::Formula;
-use super::questions::{ASKED, Question, damaged_table, either, of_class, small};
+use super::questions::{Question, damaged_table, either, of_class, small};
 use super::rng::Rng;
 use super::tables::Exits::{All, Any, Lacking};
 use super::tables::Table;
-use super::{Input, Kind, Lent, Make, kind};
+use super::{Input, Kind, Lent, kind, refused};
 
 /// So many bytes are lent for answers.
 const ANSWERS: usize = 256;
@@ -142,22 +142,8 @@ pub const KINDS: [Kind; 45] = [
     }),
 ];
 
-/// The questions of the corpus `base` whose prepared bytes are damaged, short or longer, at any states.
-fn refused() -> impl Iterator<Item = Kind> {
-    const BEGINNINGS: [&str; 3] = ["table-", "formula-", "both-"];
-    let asked = ASKED.into_iter();
-    let asked =
-        asked.filter(|asked| BEGINNINGS.iter().any(|begins| asked.name.starts_with(begins)));
-    asked.map(|asked| Kind {
-        entry: "verdicts",
-        name: asked.name,
-        count: asked.counts[2],
-        make: Make::Asked(asked.make, |rng, question| ask(rng, question, rising)),
-    })
-}
-
 pub fn kinds() -> impl Iterator<Item = Kind> {
-    KINDS.into_iter().chain(refused())
+    KINDS.into_iter().chain(refused("verdicts", |rng, question| ask(rng, question, rising)))
 }
 
 /// A list over so many states.

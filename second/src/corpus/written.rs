@@ -7,11 +7,11 @@ use super::damage::{self, damaged};
 use super::formulas::{
     ALL, Formula, MAX_BYTES, NEXT, NEXT_SILENT, NOT, OR, TRUE, UNTIL, UNTIL_THEN,
 };
-use super::questions::{ASKED, Question, either, of_class};
+use super::questions::{Question, either, of_class};
 use super::rng::Rng;
 use super::tables::Exits::{All, Any};
 use super::tables::Table;
-use super::{Input, Kind, Lent, Make, kind, marks, short};
+use super::{Input, Kind, Lent, kind, marks, refused, short};
 
 type Node = (u8, u64, u64);
 
@@ -96,22 +96,8 @@ pub const KINDS: [Kind; 28] = [
     }),
 ];
 
-/// The questions of the corpus `base` whose prepared bytes are damaged, short or longer.
-fn refused() -> impl Iterator<Item = Kind> {
-    const BEGINNINGS: [&str; 3] = ["table-", "formula-", "both-"];
-    let asked = ASKED.into_iter();
-    let asked =
-        asked.filter(|asked| BEGINNINGS.iter().any(|begins| asked.name.starts_with(begins)));
-    asked.map(|asked| Kind {
-        entry: "write_formula",
-        name: asked.name,
-        count: asked.counts[2],
-        make: Make::Asked(asked.make, write),
-    })
-}
-
 pub fn kinds() -> impl Iterator<Item = Kind> {
-    KINDS.into_iter().chain(refused())
+    KINDS.into_iter().chain(refused("write_formula", write))
 }
 
 fn write_into(rng: &Rng, question: Question, length: usize) -> Input {
