@@ -8,6 +8,7 @@ use Rattle.actl.specs.Sizes.{formulaLength}
 use Rattle.lts.specs.Sizes.{tableLength}
 use Rattle.lts.specs.Reply.{Reply, refusal, unless, leftIn, answers}
 use Rattle.lts.specs.Steps.{Table, labels}
+use Rattle.lts.specs.Prepared.{withTable}
 use Rattle.lts.specs.inner.Prepared.{preparedTable}
 use Rattle.actl.specs.Formulas.{Formula}
 use Rattle.actl.specs.inner.Reading.{readFormula}
@@ -15,10 +16,6 @@ use Rattle.actl.specs.Prepared.{formulaBytes}
 use Rattle.actl.specs.inner.Prepared.{preparedFormula}
 
 -- 01: "Order: 14 first, then 10 (table before formula)." Prepared bytes are lent in docs/FORMATS.md's order.
-abbrev pub withTable : {A : Type 0} → Option Table → (Table → Reply A) → Reply A
-withTable none next = refusal 10 0
-withTable (some t) next = next t
-
 abbrev pub withFormula : {A : Type 0} → Option Formula → (Formula → Reply A) → Reply A
 withFormula none next = refusal 10 1
 withFormula (some F) next = next F

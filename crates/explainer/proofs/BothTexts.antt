@@ -24,7 +24,8 @@ use Rattle.actl.specs.Formulas.{Formula, size}
 use Rattle.actl.specs.inner.Reading.{readFormula}
 use Rattle.actl.specs.Prepared.{formulaBytes}
 use Rattle.formula_text.specs.Replies as actl
-use Rattle.actl.specs.FormulaReading.{withTable, formulaReading, formulaReplied, formulaLeft}
+use Rattle.actl.specs.FormulaReading.{formulaReading, formulaReplied, formulaLeft}
+use Rattle.lts.specs.Prepared.{withTable}
 use Rattle.formula_text.specs.declared.FormulaReply.{FormulaReply}
 use Rattle.formula_text.specs.declared.FormulaReply.the-variants as formulas
 use Rattle.actl.proofs.Laws.Forms.{length-form}

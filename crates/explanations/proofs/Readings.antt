@@ -23,7 +23,8 @@ use Rattle.actl.specs.Formulas.{Formula}
 use Rattle.actl.specs.inner.Reading.{readFormula}
 use Rattle.actl.specs.Prepared.{formulaBytes, IsForm}
 use Rattle.actl.specs.inner.Prepared.{preparedFormula}
-use Rattle.actl.specs.FormulaReading.{withTable, formulaReading, formulaReplied, formulaLeft}
+use Rattle.actl.specs.FormulaReading.{formulaReading, formulaReplied, formulaLeft}
+use Rattle.lts.specs.Prepared.{withTable}
 use Rattle.actl.proofs.Laws.Accepted.{reading-leaves-form}
 use Rattle.actl.proofs.Laws.Forms.{length-form}
 use Rattle.actl.proofs.Laws.Prepared as prepared-formula

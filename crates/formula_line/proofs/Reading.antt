@@ -13,7 +13,8 @@ use Rattle.lts.proofs.Laws.Reading.{unless-to, unless-of}
 use Rattle.lts.proofs.Laws.Refusals.{Numbered, Between, numbered-unless}
 use Rattle.actl.specs.Sizes.{formulaLength, longestText}
 use Rattle.actl.specs.inner.Prepared.{preparedFormula}
-use Rattle.actl.specs.FormulaReading.{withTable, withFormula}
+use Rattle.actl.specs.FormulaReading.{withFormula}
+use Rattle.lts.specs.Prepared.{withTable}
 use Rattle.actl.proofs.Laws.Replies.{refusal-is-not-accepted}
 use Rattle.explanations.specs.Explanation.{andThen}
 use Rattle.explanations.specs.inner.BothTexts.{Read, readings}

@@ -22,7 +22,8 @@ use Rattle.actl.specs.inner.Mentions.{firstUnknown}
 use Rattle.actl.specs.inner.Reading.{onResult, readFormula}
 use Rattle.actl.specs.Prepared.{formulaBytes}
 use Rattle.formula_text.specs.Replies.{formulaReply}
-use Rattle.actl.specs.FormulaReading.{formulaReading, withTable}
+use Rattle.actl.specs.FormulaReading.{formulaReading}
+use Rattle.lts.specs.Prepared.{withTable}
 use Rattle.actl.specs.inner.Readers.{namesIn, WholeRead, RefusedAt}
 use Rattle.actl.specs.inner.Meaning.{formulaF}
 use Rattle.formula_text.specs.inner.FormulaAnswers.{FormulaAnswered, FormulaAnsweredWith}

@@ -10,4 +10,3 @@ pub mod Reading
 pub mod Sizes
 pub mod Slots
 pub mod Steps
-pub mod Text

@@ -19,7 +19,8 @@ use Rattle.lts.proofs.Laws.Prepared.{prepared-left}
 use Rattle.actl.specs.Sizes.{formulaLength}
 use Rattle.actl.specs.Formulas.{Formula}
 use Rattle.actl.specs.Reading.{unlessFound}
-use Rattle.actl.specs.FormulaReading.{withTable, withFormula, longEnough, onPrepared}
+use Rattle.actl.specs.FormulaReading.{withFormula, longEnough, onPrepared}
+use Rattle.lts.specs.Prepared.{withTable}
 use Rattle.actl.specs.inner.Prepared.{preparedFormula}
 use Rattle.actl.proofs.Laws.Replies.{refusal-is-not-accepted, unless-accepted, accepted-lengths}
 use Rattle.actl.proofs.Laws.Replies.{long-enough-accepted, on-prepared-accepted, on-prepared-goes}

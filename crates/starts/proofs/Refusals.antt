@@ -17,7 +17,8 @@ use Rattle.actl.specs.Formulas.{Formula}
 use Rattle.actl.specs.Reading.{unlessFound}
 use Rattle.actl.specs.Foreign.{RefusesForeign}
 use Rattle.actl.specs.inner.Prepared.{preparedFormula}
-use Rattle.actl.proofs.Laws.Foreign.{NotTen, with-formula-numbers, with-table-numbers, refuses-foreign, answers-refuse-foreign}
+use Rattle.actl.proofs.Laws.Foreign.{NotTen, with-formula-numbers, refuses-foreign, answers-refuse-foreign}
+use Rattle.lts.proofs.Laws.Refusals.{with-table-numbers}
 use Rattle.actl.proofs.Laws.Replies.{on-prepared-goes}
 use Rattle.starts.specs.Starts.{FirstWrong, wrongStart}
 use Rattle.starts.specs.VerdictsAsked.{verdictsAt, joint, verdictsAsked, verdictsReplied}

@@ -13,7 +13,8 @@ use Rattle.lts.specs.Prepared.{LeftByReading}
 use Rattle.lts.specs.inner.Prepared.{preparedTable}
 use Rattle.actl.specs.Formulas.{Formula}
 use Rattle.actl.specs.Reading.{unlessFound}
-use Rattle.actl.specs.FormulaReading.{withTable, withFormula, longEnough}
+use Rattle.actl.specs.FormulaReading.{withFormula, longEnough}
+use Rattle.lts.specs.Prepared.{withTable}
 use Rattle.actl.specs.InPrepared.{InPrepared}
 use Rattle.actl.specs.inner.Prepared.{preparedFormula}
 use Rattle.satisfaction.specs.VerdictAsked.{TellsWhether, VerdictIs, verdictReplied}

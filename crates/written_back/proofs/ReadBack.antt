@@ -23,7 +23,8 @@ use Rattle.actl.specs.Meaning.{formulaOf}
 use Rattle.actl.specs.WrittenOut.{writtenOut}
 use Rattle.actl.specs.Reading.{unlessFound, withClasses}
 use Rattle.actl.specs.Prepared.{formulaBytes, IsForm}
-use Rattle.actl.specs.FormulaReading.{withTable, formulaReading}
+use Rattle.actl.specs.FormulaReading.{formulaReading}
+use Rattle.lts.specs.Prepared.{withTable}
 use Rattle.actl.specs.inner.Prepared.{preparedFormula}
 use Rattle.actl.specs.inner.Reading.{onResult, readUnlimited, readFormula}
 use Rattle.actl.proofs.Expansion.{typed-written}

@@ -17,9 +17,11 @@ use Rattle.lts.proofs.Laws.Refusals.{Numbered, numbered-unless, numbered-answer
 use Rattle.actl.specs.Sizes.{longestText, formulaLength}
 use Rattle.actl.specs.Formulas.{Formula}
 use Rattle.actl.specs.Foreign.{RefusesForeign}
-use Rattle.actl.specs.FormulaReading.{withTable, withFormula, longEnough, onPrepared}
+use Rattle.actl.specs.FormulaReading.{withFormula, longEnough, onPrepared}
+use Rattle.lts.specs.Prepared.{withTable}
 use Rattle.actl.specs.inner.Prepared.{preparedFormula}
-use Rattle.actl.proofs.Laws.Foreign.{NotTen, with-formula-numbers, with-table-numbers, refuses-foreign, answers-refuse-foreign}
+use Rattle.actl.proofs.Laws.Foreign.{NotTen, with-formula-numbers, refuses-foreign, answers-refuse-foreign}
+use Rattle.lts.proofs.Laws.Refusals.{with-table-numbers}
 use Rattle.actl.proofs.Laws.Replies.{unless-accepted, long-enough-accepted, on-prepared-accepted, accepted-answer}
 use Rattle.written_back.specs.FormulaText.{formulaText}
 use Rattle.written_back.specs.FormulaWriting.{unlessLong, formulaWriting, formulaWritten, textLeft}

@@ -8,7 +8,8 @@ use Rattle.lts.specs.Steps.{labels}
 use Rattle.lts.specs.inner.Prepared.{preparedTable}
 use Rattle.actl.specs.Sizes.{longestText}
 use Rattle.actl.specs.inner.Prepared.{preparedFormula}
-use Rattle.actl.specs.FormulaReading.{withTable, withFormula, longEnough}
+use Rattle.actl.specs.FormulaReading.{withFormula, longEnough}
+use Rattle.lts.specs.Prepared.{withTable}
 use Rattle.written_back.specs.FormulaText.{formulaText}
 
 -- 02: "A text over 512 bytes is not written. Errors: 15 for that text, the needed length returned"

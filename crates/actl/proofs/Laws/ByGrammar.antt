@@ -21,7 +21,8 @@ use Rattle.actl.specs.Grammatical.{Grammatical, Longest}
 use Rattle.actl.specs.inner.Reader.{Result, whole, refused, read}
 use Rattle.actl.specs.Reading.{onTree}
 use Rattle.actl.specs.inner.Reading.{onResult, readFormula}
-use Rattle.actl.specs.FormulaReading.{withTable, onTable, formulaReading, formulaReplied, formulaLeft}
+use Rattle.actl.specs.FormulaReading.{onTable, formulaReading, formulaReplied, formulaLeft}
+use Rattle.lts.specs.Prepared.{withTable}
 use Rattle.actl.specs.ByGrammar.{ReadBy, long, ungrammatical, grammatical, FormulaByGrammar}
 use Rattle.actl.proofs.Grammar.{read-text, read-refused, refused-text}
 use Rattle.actl.proofs.Pieces.{text-shown, on-mentions}

@@ -21,7 +21,8 @@ use Rattle.actl.specs.Formulas.{Formula}
 use Rattle.actl.specs.Prepared.{FormOfSome}
 use Rattle.actl.specs.inner.Prepared.{preparedFormula}
 use Rattle.actl.specs.inner.Reading.{readFormula}
-use Rattle.actl.specs.FormulaReading.{withTable, withFormula, longEnough, onPrepared, onTable, formulaReading, formulaReplied}
+use Rattle.actl.specs.FormulaReading.{withFormula, longEnough, onPrepared, onTable, formulaReading, formulaReplied}
+use Rattle.lts.specs.Prepared.{withTable}
 use Rattle.actl.specs.Foreign.{LongEnough, TableForeign, FormulaForeign, RefusesForeign}
 use Rattle.actl.proofs.Laws.Prepared.{prepared-form}
 use Rattle.actl.proofs.Laws.Refusals.{reading-numbers}
@@ -32,10 +33,6 @@ module _ {A : Type 0} (P : ℕ → Type 0) (ten : P 10) where
   pub with-formula-numbers : (o : Option Formula) (next : Formula → Reply A) → ((F : Formula) → Numbered P (next F)) → Numbered P (withFormula o next)
   with-formula-numbers none next h = ten
   with-formula-numbers (some F) next h = h F
-
-  pub with-table-numbers : (o : Option Table) (next : Table → Reply A) → ((t : Table) → Numbered P (next t)) → Numbered P (withTable o next)
-  with-table-numbers none next h = ten
-  with-table-numbers (some t) next h = h t
 
 abbrev pub NotTen : ℕ → Type 0
 NotTen n = n ≡ 10 → ⊥

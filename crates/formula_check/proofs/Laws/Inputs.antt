@@ -19,7 +19,8 @@ use Rattle.lts.proofs.Laws.Prepared.{is-some-of, prepared-in, prepared-of, prep
 use Rattle.actl.specs.Formulas.{Formula}
 use Rattle.actl.specs.inner.Prepared.{preparedFormula}
 use Rattle.actl.specs.inner.HoldsFormula.{HoldsFormula}
-use Rattle.actl.specs.FormulaReading.{withTable, withFormula, longEnough, onPrepared}
+use Rattle.actl.specs.FormulaReading.{withFormula, longEnough, onPrepared}
+use Rattle.lts.specs.Prepared.{withTable}
 use Rattle.formula_check.specs.Inputs.{unprepared, inputsReply}
 use Rattle.formula_check.specs.declared.inputs.Unprepared.{Unprepared}
 use Rattle.formula_check.specs.declared.inputs.Inputs.{Inputs}

@@ -3,6 +3,7 @@ use mathlib.Core.Path.{_≡_, refl, sym, subst}
 use mathlib.Core.Logic.{_↔_}
 use mathlib.Core.Bool.{Bool, true, false, not, true≢false}
 use mathlib.Core.List.{List, [], _∷_, _++_}
+use mathlib.Core.Option.{Option, none, some}
 use Prim.Native.Nat.{ℕ, zero, suc, _≤_}
 use native.Mathlib.Omega.{arith}
 use lib.Dec.{eqb}
@@ -10,6 +11,7 @@ use lib.ListN.{length, drop}
 use Rattle.columns.specs.Columns.{valueAt}
 use Rattle.lts.specs.Reply.{Reply, accepted, refusal, unless, answers}
 use Rattle.lts.specs.Steps.{Step, Table}
+use Rattle.lts.specs.Prepared.{withTable}
 use Rattle.lts.specs.Reading.{Line, missing, line, firstLine, onLine, Header, headerOf, headerLaidOut, headerInRange, used, stepOf, stepLaidOut, stepInRange, above}
 use Rattle.lts.specs.Reading.{readTransitions, readLabelsWith, readTable, readTableWith}
 use Rattle.lts.specs.inner.Reading.{labelLaidOut, readLabels}
@@ -24,6 +26,10 @@ Between least most number = (least ≤ number) × (number ≤ most)
 module _ {A : Type 0} (P : ℕ → Type 0) where
   pub numbered-of : (r : Reply A) (n g : ℕ) → Numbered P r → r ≡ refusal n g → P n
   numbered-of r n g h e = subst (Numbered P) e h
+
+  pub with-table-numbers : P 10 → (o : Option Table) (next : Table → Reply A) → ((t : Table) → Numbered P (next t)) → Numbered P (withTable o next)
+  with-table-numbers ten none next h = ten
+  with-table-numbers ten (some t) next h = h t
 
   pub numbered-unless : (b : Bool) (n f : ℕ) (r : Reply A) → P n → Numbered P r → Numbered P (unless b n f r)
   numbered-unless true n f r h o = o

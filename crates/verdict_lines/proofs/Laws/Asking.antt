@@ -11,7 +11,8 @@ use Rattle.lts.specs.Steps.{labels}
 use Rattle.lts.proofs.Laws.Reading.{unless-to}
 use Rattle.actl.specs.Sizes.{formulaLength}
 use Rattle.actl.specs.inner.Prepared.{preparedFormula}
-use Rattle.actl.specs.FormulaReading.{withTable, withFormula}
+use Rattle.actl.specs.FormulaReading.{withFormula}
+use Rattle.lts.specs.Prepared.{withTable}
 use Rattle.explanations.specs.Explanation.{andThen}
 use Rattle.explanations.specs.inner.BothTexts.{Read, readings}
 use Rattle.explanations.proofs.Beginnings.{of-readings}
