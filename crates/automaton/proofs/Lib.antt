@@ -12,7 +12,6 @@ pub mod Finishing
 pub mod Frames
 pub mod Inside
 pub mod Kept
-pub mod Laws
 pub mod Listed
 pub mod Moves
 pub mod Numbers

@@ -14,8 +14,6 @@ use formulas::node::node_at;
 use formulas::node::node_count;
 use lts::sizes::IDLE;
 
-pub mod places;
-
 ghost use mathlib.Core.Path.{_≡_};
 ghost use mathlib.Core.Bool.{cond, not};
 ghost use Prim.Native.Nat.{_+_, _^_, _<_, _≤_};

@@ -10,7 +10,7 @@ ghost use mathlib.Core.Path.{_≡_};
 ghost use mathlib.Core.Bool.{cond};
 ghost use Prim.Native.Nat.{_^_, _<_, _≤_};
 ghost use Rattle.lts.specs.Sizes.{mostStates};
-ghost use Rattle.target_masks.specs.inner.Masks.{bitAt};
+ghost use Rattle.bits.specs.inner.Bits.{bitAt};
 ghost use Rattle.frontier.specs.inner.Frontier.{hasState, emptied, brought, allPlaces, FirstFrom};
 
 pub fn has(mask: u64, k: usize) -> bool

@@ -20,10 +20,11 @@ use Rattle.until_search.specs.inner.Flags.{flagAt}
 use Rattle.automaton.specs.Places.{Final}
 use Rattle.automaton.specs.Positions.{Position, at, rootAt, Joins, Walk, stop, go}
 use Rattle.automaton.specs.inner.Search.{final}
-use Rattle.target_masks.specs.inner.Masks.{bitAt, MasksOf, FinalsOf}
+use Rattle.target_masks.specs.inner.Masks.{MasksOf, FinalsOf}
+use Rattle.bits.specs.inner.Bits.{bitAt}
 use Rattle.automaton.specs.inner.Words.{accepts}
 use Rattle.automaton.proofs.Inside.{Inside, joins-inside}
-use Rattle.target_masks.proofs.Laws.MasksFound.{bit-pow}
+use Rattle.bits.proofs.Laws.Bits.{bit-pow}
 use Rattle.automaton.proofs.Reading.{accepts-is}
 use Rattle.automaton.proofs.Tests.{leads-inside, final-of, final-to}
 use Rattle.frontier.specs.inner.Frontier.{hasState, nowhere, emptied, allPlaces}

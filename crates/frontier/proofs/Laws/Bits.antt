@@ -9,8 +9,8 @@ use lib.Count.{trailingZeros, under}
 use lib.Dec.{eqb}
 use lib.Pow.{shr-shr}
 use borrow.Author.Tests.{eq-eqb, ne-eqb, eqb-true, eqb-false}
-use Rattle.target_masks.specs.inner.Masks.{bitAt}
-use Rattle.target_masks.proofs.Laws.MasksFound.{bit-zero}
+use Rattle.bits.specs.inner.Bits.{bitAt}
+use Rattle.bits.proofs.Laws.Bits.{bit-zero}
 use Rattle.frontier.specs.inner.Frontier.{FirstFrom}
 
 -- Bits of what is left after a shift.

@@ -12,8 +12,8 @@ use lib.Seq.{getD-set-same, getD-set-other}
 use borrow.Author.Tests.{eq-eqb, ne-eqb}
 use Rattle.frontier.specs.inner.Sizes.{frontierLength}
 use Rattle.lts.proofs.Booleans.{or-true-right, or-false}
-use Rattle.target_masks.specs.inner.Masks.{bitAt}
-use Rattle.target_masks.proofs.Laws.MasksFound.{bit-or, bit-zero, bit-pow}
+use Rattle.bits.specs.inner.Bits.{bitAt}
+use Rattle.bits.proofs.Laws.Bits.{bit-or, bit-zero, bit-pow}
 use Rattle.target_masks.proofs.Laws.Places.{zeros-at}
 use Rattle.frontier.specs.inner.Frontier.{marksAt, hasState, placesAt, nowhere, emptied, brought, FirstFrom}
 

@@ -21,9 +21,11 @@ use Rattle.lts.proofs.Booleans.{and-true-of, and-true-to, or-false}
 use Rattle.lts.proofs.StepsFrom.{steps-are}
 use Rattle.actl.specs.Formulas.{Formula, size}
 use Rattle.automaton.specs.inner.Search.{leads, onLabel}
-use Rattle.target_masks.specs.inner.Masks.{bitAt, MasksOf, maskOn}
+use Rattle.target_masks.specs.inner.Masks.{MasksOf, maskOn}
+use Rattle.bits.specs.inner.Bits.{bitAt}
 use Rattle.automaton.specs.Positions.{at, Joins}
-use Rattle.target_masks.proofs.Laws.MasksFound.{bit-or, bit-zero, target-bit}
+use Rattle.target_masks.proofs.Laws.MasksFound.{target-bit}
+use Rattle.bits.proofs.Laws.Bits.{bit-or, bit-zero}
 use Rattle.target_masks.proofs.Laws.Places.{mask-carried}
 use Rattle.automaton.proofs.Moves.{leaving}
 use Rattle.automaton.proofs.Tests.{leads-of, leads-to}

@@ -8,7 +8,7 @@ use lib.Bits.{bitOr}
 use lib.ListN.{getD, set, replicate}
 use Rattle.frontier.specs.inner.Sizes.{frontierLength}
 use Rattle.lts.specs.Sizes.{mostStates}
-use Rattle.target_masks.specs.inner.Masks.{bitAt}
+use Rattle.bits.specs.inner.Bits.{bitAt}
 
 abbrev pub marksAt : List ℕ → ℕ → ℕ
 marksAt frontier s = getD frontier (mostStates + s / 64) 0

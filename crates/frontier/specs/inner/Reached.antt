@@ -18,7 +18,8 @@ use Rattle.actl.specs.Formulas.{Formula}
 use Rattle.actl.specs.inner.Prepared.{preparedFormula}
 use Rattle.until_search.specs.inner.Flags.{flagAt}
 use Rattle.automaton.specs.inner.Search.{onLabel}
-use Rattle.target_masks.specs.inner.Masks.{bitAt, maskOn}
+use Rattle.target_masks.specs.inner.Masks.{maskOn}
+use Rattle.bits.specs.inner.Bits.{bitAt}
 use Rattle.automaton.specs.inner.Words.{accepts}
 use Rattle.frontier.specs.inner.Frontier.{hasState, nowhere, emptied, brought, through}
 

@@ -7,7 +7,8 @@ use native.Mathlib.Omega.{arith}
 use lib.Bits.{bitOr}
 use lib.ListN.{getD}
 use Rattle.automaton.specs.inner.Sizes.{placeCount, columnCount}
-use Rattle.target_masks.specs.inner.Masks.{bitAt, maskOn}
+use Rattle.target_masks.specs.inner.Masks.{maskOn}
+use Rattle.bits.specs.inner.Bits.{bitAt}
 use Rattle.frontier.specs.inner.Reached.{targetsAdded, targetsOf}
 use Rattle.frontier.proofs.Laws.Bits.{BitsFrom, bits-all, bits-some, bits-first, bits-rest}
 use Rattle.frontier.proofs.Laws.Through.{left, left-over, left-skip, left-turn}

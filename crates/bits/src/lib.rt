@@ -1,4 +1,4 @@
-// Going through the places of a mask, from the lowest on.
+// Going through the places of a mask, a number of 64 bits, from the lowest on.
 ghost use mathlib.Core.Path.{_≡_};
 ghost use Prim.Native.Nat.{_-_, _^_};
 ghost use lib.Count.{trailingZeros};

@@ -1,8 +1,8 @@
--- `places::without_lowest` meets its contract: `m & (m - 1)` has every place of m but the lowest.
+-- `without_lowest` meets its contract: `m & (m - 1)` has every place of m but the lowest.
 use borrow.Author.Needs.{needs}
-use Rattle.target_masks.proofs.places.without_lowest.Statement.{statement}
-use Rattle.target_masks.proofs.places.without_lowest.Tie as tie
-use Rattle.automaton.proofs.Laws.Lowest.{cleared}
+use Rattle.bits.proofs.without_lowest.Statement.{statement}
+use Rattle.bits.proofs.without_lowest.Tie as tie
+use Rattle.bits.proofs.Laws.Lowest.{cleared}
 
 returns : tie.Need-returns
 returns c = search needs
