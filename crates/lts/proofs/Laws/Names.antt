@@ -70,7 +70,7 @@ pub used-looked-up : (names : List (List ℕ)) (name : List ℕ) → used names 
 used-looked-up names name = used-found 1 names name
 
 -- A label has one name; so names that differ in the mark alone are different labels.
-found-name : (k : ℕ) (names : List (List ℕ)) (name : List ℕ) (a : ℕ) → findFrom k names name ≡ some a → (k ≤ a) × (getD names (a - k) [] ≡ name)
+pub found-name : (k : ℕ) (names : List (List ℕ)) (name : List ℕ) (a : ℕ) → findFrom k names name ≡ some a → (k ≤ a) × (getD names (a - k) [] ≡ name)
 unfolding findFrom
 found-name k [] name a e = absurd (let z : _≡_ {A = ℕ} 0 1 = cc in omega arith)
 found-name k (x ∷ l) name a e = case (sameBytes x name) refl e (found-name (suc k) l name a)
