@@ -13,7 +13,6 @@ use formulas::node::Node;
 use formulas::node::node_at;
 use formulas::node::node_count;
 use lts::sizes::IDLE;
-
 ghost use mathlib.Core.Path.{_≡_};
 ghost use mathlib.Core.Bool.{cond, not};
 ghost use Prim.Native.Nat.{_+_, _^_, _<_, _≤_};
