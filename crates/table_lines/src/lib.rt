@@ -14,6 +14,7 @@ use tables::names::read_name;
 use tables::prepared::Transition;
 
 pub mod slots;
+pub mod whole;
 
 // Two numbers in a row.
 enum Pair {

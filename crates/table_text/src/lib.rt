@@ -1,22 +1,17 @@
 // Reading a table's text, line by line. Names and transitions are gathered in local bytes, laid out as in the prepared table, so that
 // the lent bytes are written only when the whole text is accepted.
-use lts::sizes::HEAD;
 use lts::sizes::NAMES_LENGTH;
 use lts::sizes::TABLE_LENGTH;
-use lts::sizes::TRANSITIONS_AT;
 use lts::sizes::TRANSITIONS_LENGTH;
 ghost use mathlib.Core.Path.{_≡_};
 ghost use Prim.Native.Nat.{_+_, _<_, _≤_};
 ghost use lib.ListN.{length, replicate};
-ghost use Rattle.lts.specs.Sizes.{mostStates, mostLabels, mostTransitions, tableLength};
+ghost use Rattle.lts.specs.Sizes.{mostStates, mostLabels, mostTransitions};
 ghost use Rattle.lts.specs.inner.Sizes.{namesLength, transitionsLength};
 ghost use Rattle.table_text.specs.Replies.{tableReply};
 ghost use Rattle.lts.specs.TableReading.{tableReplied, tableLeft};
-ghost use Rattle.lts.specs.inner.Slots.{headBytes};
 ghost use Rattle.table_lines.specs.inner.LineReplies.{header};
 ghost use Rattle.table_text.specs.inner.Progress.{LabelProgress, LabelsRead, TransitionProgress, TransitionsRead, LinesRead, isAccepted, numberRefused};
-ghost use Rattle.lts.specs.Reply.{overwritten};
-ghost use mathlib.Core.List.{_++_};
 use table_lines::HeaderFields;
 use table_lines::HeaderLine;
 use table_lines::LabelLine;
@@ -25,12 +20,12 @@ use table_lines::header_in_range;
 use table_lines::header_line;
 use table_lines::label_line;
 use table_lines::slots::rises;
-use table_lines::slots::write_at;
 use table_lines::slots::write_name;
 use table_lines::slots::write_transition;
 use table_lines::stands;
 use table_lines::transition_in_range;
 use table_lines::transition_line;
+use table_lines::whole::write_table;
 use tables::names::Lookup;
 use tables::names::find;
 
@@ -150,32 +145,6 @@ fn read_transitions(text: &[u8], from: usize, counts: HeaderFields, slots: &mut 
         return Progress::Refused(TableReply::NotLaidOut(counts.labels + count + 2));
     }
     Progress::Next(at)
-}
-
-// The first bytes of a prepared table: the counts, and the start.
-fn head_bytes(counts: HeaderFields) -> [u8; HEAD]
-    requires { ⌜ (counts .labels ≤ mostLabels) × (counts .start < 256) ⌝ }
-    ensures { λ r. ⌜ r ≡ headBytes (header counts) ⌝ }
-{
-    [
-        (counts.states % 256) as u8,
-        (counts.states / 256 % 256) as u8,
-        counts.labels as u8,
-        (counts.transitions % 256) as u8,
-        (counts.transitions / 256 % 256) as u8,
-        counts.start as u8,
-    ]
-}
-
-fn write_table(table: &mut [u8], counts: HeaderFields, names: &[u8], slots: &[u8])
-    requires { ⌜ (tableLength ≤ length (now table)) × ((length (now names) ≡ namesLength) × (length (now slots) ≡ transitionsLength)) ⌝ }
-    requires { ⌜ (counts .states ≤ mostStates) × ((counts .labels ≤ mostLabels) × ((counts .transitions ≤ mostTransitions) × (counts .start < 256))) ⌝ }
-    ensures { λ _. ⌜ now (table .exit) ≡ overwritten (headBytes (header counts) ++ (now (names .entry) ++ now (slots .entry))) (now (table .entry)) ⌝ }
-{
-    let head = head_bytes(counts);
-    write_at(table, 0, &head);
-    write_at(table, HEAD, names);
-    write_at(table, TRANSITIONS_AT, slots);
 }
 
 // The lines behind the first, into slots that are all zero.

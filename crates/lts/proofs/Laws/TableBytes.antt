@@ -16,6 +16,8 @@ use Rattle.lts.specs.Lists.{bind}
 use Rattle.lts.specs.Steps.{Step, Table, labels}
 use Rattle.lts.specs.inner.Steps.{idleAt}
 use Rattle.lts.specs.inner.Range.{InRange}
+use Rattle.lts.specs.inner.Slots.{nameBytes, stepBytes, headBytes}
+use Rattle.lts.specs.Reading.{Header}
 use Rattle.lts.specs.Prepared.{nameSlot, transitionSlot, nameSlots, transitionSlots, tableBytes}
 use Rattle.lts.specs.inner.Prepared.{byteAt, nameAt, transitionAt, tableIn}
 use Rattle.lts.proofs.Lists.{bind-of}
@@ -135,3 +137,9 @@ module _ (t : Table) (r : InRange t) where
         map-upFrom-at (transitionAt whole) (length (t .transitions)) i (idleAt 0) few ∙ transition-there i few) in
         let transitions-are = ap (λ (n : ℕ). map (transitionAt whole) (upFrom 0 n)) counted ∙ steps-are in
         λ i. record { states = states-are i; names = names-are i; transitions = transitions-are i; start = t .start }
+
+-- The parts of the prepared bytes.
+pub table-bytes : (h : Header) (names : List (List ℕ)) (steps : List Step) → length names ≡ h .labels → length steps ≡ h .transitions
+    → headBytes h ++ (nameBytes names ++ stepBytes steps) ≡ tableBytes (record { states = h .states; names = names; transitions = steps; start = h .start })
+unfolding tableBytes
+table-bytes h names steps e f = rw (e, f)

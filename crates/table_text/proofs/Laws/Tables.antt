@@ -73,12 +73,6 @@ header-bounds h e =
       start = omega (arith, ltb-true (h .start) (h .states) (a .1));
     }
 
--- The parts of the prepared bytes.
-pub table-bytes : (h : Header) (names : List (List ℕ)) (steps : List Step) → length names ≡ h .labels → length steps ≡ h .transitions
-    → headBytes h ++ (nameBytes names ++ stepBytes steps) ≡ tableBytes (record { states = h .states; names = names; transitions = steps; start = h .start })
-unfolding tableBytes
-table-bytes h names steps e f = rw (e, f)
-
 -- The lines behind the first.
 abbrev acceptedOr : Table → Reply Table → Table
 acceptedOr d (accepted t) = t

@@ -3,7 +3,8 @@ use borrow.Author.Needs.{needs}
 use Prim.Native.Nat.{ℕ}
 use mathlib.Core.Path.{refl, ap₂, _∙_, subst}
 use mathlib.Core.List.{List, _++_}
-use Rattle.table_text.proofs.Laws.Tables.{lines-refused, lines-accepted, table-bytes}
+use Rattle.table_text.proofs.Laws.Tables.{lines-refused, lines-accepted}
+use Rattle.lts.proofs.Laws.TableBytes.{table-bytes}
 use Rattle.table_text.proofs.Laws.Readings.{refuses-whole}
 use Rattle.lts.specs.inner.Slots.{headBytes}
 use Rattle.lts.specs.Reading.{Header}

@@ -1,13 +1,13 @@
--- `write_table` leaves the head, the names and the transitions, one behind the other.
+-- `whole::write_table` leaves the head, the names and the transitions, one behind the other.
 use borrow.Author.Needs.{needs}
 use mathlib.Core.Path.{refl, ap, _∙_}
 use Rattle.lts.specs.inner.Sizes.{transitionsAt}
 use Rattle.lts.proofs.Laws.Pasted.{table-pasted}
 use Rattle.columns.specs.inner.Write.{pasted}
 use Rattle.lts.specs.inner.Slots.{headBytes}
 use Rattle.table_lines.specs.inner.LineReplies.{header}
-use Rattle.table_text.proofs.write_table.Statement.{statement}
-use Rattle.table_text.proofs.write_table.Tie as tie
+use Rattle.table_lines.proofs.whole.write_table.Statement.{statement}
+use Rattle.table_lines.proofs.whole.write_table.Tie as tie
 
 returns : tie.Need-returns
 returns c =
