@@ -13,7 +13,7 @@ use Rattle.lts.specs.Names.{findFrom, lookup}
 use Rattle.lts.specs.Directions.{neither, received, sent, labelDirection}
 use Rattle.lts.specs.Steps.{Step, Table}
 use Rattle.lts.specs.inner.Steps.{stepsFrom, alphabet}
-use Rattle.lts.specs.Text.{tableText}
+use Rattle.lts.specs.TableText.{tableText}
 use Rattle.lts.specs.Text.{ended}
 use Rattle.lts.specs.Reading.{readTable, readTableWith, readLabelsWith, readTransitions}
 use Rattle.lts.specs.inner.Reading.{readLabels}

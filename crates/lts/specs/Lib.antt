@@ -9,5 +9,6 @@ pub mod Reply
 pub mod Sizes
 pub mod Steps
 pub mod TableReading
+pub mod TableText
 pub mod Text
 pub mod inner

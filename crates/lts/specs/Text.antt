@@ -1,10 +1,8 @@
--- The lines of a table's text, and the text: a table in range has exactly this one (proofs/Laws/Texts.antt: `read-of-text`, `text-of-read`).
+-- The lines of a table's text.
 use mathlib.Core.List.{List, [], _∷_, _++_}
-use Prim.Native.Nat.{ℕ, suc}
-use lib.ListN.{length}
+use Prim.Native.Nat.{ℕ}
 use Rattle.columns.specs.Columns.{column}
-use Rattle.lts.specs.Lists.{bind}
-use Rattle.lts.specs.Steps.{Step, Table, labels}
+use Rattle.lts.specs.Steps.{Step, labels}
 
 -- 01: "ASCII lines, each ended by LF (byte 10)."
 abbrev pub ended : List ℕ → List ℕ
@@ -21,15 +19,3 @@ labelLine number name = column number ++ (32 ∷ name)
 -- 01: "One line per transition: from, label, to."
 abbrev pub transitionLine : Step → List ℕ
 transitionLine st = column (st .from) ++ (column (st .label) ++ column (st .to))
-
-abbrev pub labelLines : ℕ → List (List ℕ) → List ℕ
-labelLines k [] = []
-labelLines k (n ∷ names) = ended (labelLine k n) ++ labelLines (suc k) names
-
-abbrev pub transitionLines : List Step → List ℕ
-transitionLines l = bind (λ st. ended (transitionLine st)) l
-
-unfoldable pub tableText : Table → List ℕ
-tableText t =
-    ended (headerLine (t .states) (labels t) (length (t .transitions)) (t .start))
-    ++ (labelLines 1 (t .names) ++ transitionLines (t .transitions))

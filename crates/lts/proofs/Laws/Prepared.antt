@@ -13,7 +13,7 @@ use Rattle.columns.proofs.Laws.Bytes.{same-of, same-to}
 use Rattle.lts.specs.Reply.{Reply, accepted, refusal}
 use Rattle.lts.specs.Steps.{Table}
 use Rattle.lts.specs.inner.Range.{InRange}
-use Rattle.lts.specs.Text.{tableText}
+use Rattle.lts.specs.TableText.{tableText}
 use Rattle.lts.specs.Reading.{readTable}
 use Rattle.lts.specs.Prepared.{tableBytes, LeftByReading}
 use Rattle.lts.specs.inner.Prepared.{tableIn, leftBy, preparedTable}

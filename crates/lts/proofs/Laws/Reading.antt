@@ -10,7 +10,7 @@ use Rattle.lts.specs.Reply.{Reply, accepted, unless}
 use Rattle.lts.specs.Steps.{Step, Table}
 use Rattle.lts.specs.Names.{isName}
 use Rattle.lts.specs.Text.{ended, transitionLine}
-use Rattle.lts.specs.Text.{transitionLines}
+use Rattle.lts.specs.TableText.{transitionLines}
 use Rattle.lts.specs.Reading.{Line, missing, line, firstLine, onLine, Header, used, stepOf, stepLaidOut, stepInRange, above, readTransitions}
 use Rattle.lts.proofs.Laws.Tests.{CountsInRange, step-range-of}
 use Rattle.lts.proofs.Laws.Grown.{Grown}

@@ -14,7 +14,7 @@ use Rattle.lts.specs.Reply.{accepted, unless}
 use Rattle.lts.specs.Steps.{Table}
 use Rattle.lts.specs.Names.{isName}
 use Rattle.lts.specs.Text.{ended, labelLine}
-use Rattle.lts.specs.Text.{labelLines}
+use Rattle.lts.specs.TableText.{labelLines}
 use Rattle.lts.specs.Reading.{Line, line, firstLine, onLine, Header, used, readTransitions, readLabelsWith}
 use Rattle.lts.specs.inner.Reading.{labelLaidOut, readLabels}
 use Rattle.lts.proofs.Booleans.{and-true-of}

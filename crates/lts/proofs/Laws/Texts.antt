@@ -10,7 +10,7 @@ use Rattle.lts.specs.Reply.{accepted, unless}
 use Rattle.lts.specs.Steps.{Step, Table, labels}
 use Rattle.lts.specs.inner.Range.{Below, Differ, InRange}
 use Rattle.lts.specs.Text.{ended, headerLine}
-use Rattle.lts.specs.Text.{labelLines, transitionLines, tableText}
+use Rattle.lts.specs.TableText.{labelLines, transitionLines, tableText}
 use Rattle.lts.specs.Reading.{Line, line, firstLine, onLine, Header, headerOf, headerLaidOut, headerInRange, readTable, readTableWith, stepInRange}
 use Rattle.lts.specs.inner.Reading.{readLabels}
 use Rattle.lts.proofs.Laws.Tests.{CountsInRange, counts-of, counts-to, step-range-of, step-range-to, above-of, above-to, used-of, used-to}

@@ -9,7 +9,7 @@ use Rattle.lts.specs.Sizes.{nameSlotLength, transitionLength, tableLengt
 use Rattle.columns.specs.Bytes.{sameBytes}
 use Rattle.lts.specs.inner.Lists.{upFrom}
 use Rattle.lts.specs.Steps.{Step, Table}
-use Rattle.lts.specs.Text.{tableText}
+use Rattle.lts.specs.TableText.{tableText}
 use Rattle.lts.specs.Reply.{Reply, accepted, refusal}
 use Rattle.lts.specs.Reading.{readTable}
 use Rattle.lts.specs.Prepared.{tableBytes}
