@@ -19,3 +19,4 @@ pub mod edits;
 pub mod folders;
 pub mod lists;
 pub mod views;
+pub mod side_by_side;
