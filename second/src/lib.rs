@@ -12,6 +12,7 @@ pub mod grammar;
 pub mod expansion;
 pub mod formula;
 pub mod writing;
+pub mod combining;
 pub mod prepared;
 
 pub mod verdict;
