@@ -14,6 +14,7 @@ pub mod questions;
 pub mod written;
 pub mod lending;
 pub mod starts;
+pub mod pairs;
 pub mod words;
 pub mod edits;
 pub mod folders;
