@@ -8,10 +8,11 @@ use std::process::{Command, Output, Stdio};
 use crate::columns;
 use crate::combining;
 use crate::inputs::kinds::{expected, must};
-use crate::inputs::side_by_side::{FILES, FILES_OF, TABLES, TABLES_OF, pair};
+use crate::inputs::pairs;
+use crate::inputs::side_by_side::{FILES, FILES_OF, pair};
 use crate::reply::{Refusal, Reply};
 use crate::table::Table;
-use crate::tally::{Outcome, Tally};
+use crate::tally::{Expected, Outcome, Tally};
 use crate::trials::{self, Trials, shown};
 
 const NAMES: [&str; 2] = ["first.txt", "second.txt"];
@@ -62,8 +63,10 @@ pub fn missing(tally: &Tally) -> Vec<String> {
     let refused = [(ABOUT[1], 1..=4), (ABOUT[2], 1..=4), (ABOUT[0], 17..=19)];
     let refused =
         refused.map(|(name, numbers)| must(REFUSED, name, &numbers.collect::<Vec<u32>>()));
-    let ways = expected(TABLES, &TABLES_OF).into_iter().chain(expected(FILES, &FILES_OF));
-    let expected: Vec<_> = ways.chain(refused).collect();
+    // What the tables are answered is expected of more of them, in `fuzz`.
+    let tables = pairs::expected().into_iter();
+    let tables = tables.map(|expected| Expected { outcomes: Vec::new(), ..expected });
+    let expected: Vec<_> = tables.chain(expected(FILES, &FILES_OF)).chain(refused).collect();
     tally.missing(&NUMBERS, ONCE_IN, &expected)
 }
 

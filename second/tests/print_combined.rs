@@ -70,7 +70,7 @@ fn a_right_script_is_not_blamed() {
     assert_eq!(tally.expect("no difference").inputs, COUNT);
 }
 
-/// What is told of a wrong program or script is told; the folder is kept, and removed here.
+/// A wrong program or script is told; the folder is kept, and removed here.
 fn is_found(asked: Asked, test: &str, wrong: impl Fn(&Files) -> Output) {
     let place = place(test);
     let output = |folder: &Path| Ok(wrong(&files_in(folder)));
@@ -266,7 +266,7 @@ fn other_tables_are_found() {
         table.transitions.truncate(1_023);
         table
     });
-    combines("the last of two transitions stands twice", |_, _, mut table| {
+    combines("the last transition stands twice", |_, _, mut table| {
         if let [.., last] = table.transitions[..] {
             table.transitions.push(last);
         }
