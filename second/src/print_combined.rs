@@ -9,10 +9,10 @@ use crate::columns;
 use crate::combining;
 use crate::inputs::kinds::{expected, must};
 use crate::inputs::pairs;
-use crate::inputs::side_by_side::{FILES, FILES_OF, pair};
+use crate::inputs::side_by_side::{FILES, FILES_OF, Input, input};
 use crate::reply::{Refusal, Reply};
 use crate::table::Table;
-use crate::tally::{Expected, Outcome, Tally};
+use crate::tally::{Expected, Kind, Outcome, Tally};
 use crate::trials::{self, Trials, shown};
 
 const NAMES: [&str; 2] = ["first.txt", "second.txt"];
@@ -128,23 +128,23 @@ pub fn run(
     count: u64,
 ) -> Result<Tally, String> {
     let mut tally = Tally::new("pairs");
-    let files = |index| {
-        let (kinds, files) = pair(seed, index);
-        (kinds.0.last().map_or("", |kind| kind.name), files)
+    let named = |index| {
+        let input = input(seed, index);
+        (input.kinds.0.last().map_or("", |kind| kind.name), input)
     };
-    Trials { place, seed, count }.each(files, |index, _, files| {
-        let expected = combined(files.first.contents(), files.second.contents());
+    Trials { place, seed, count }.each(named, |_, _, Input { kinds, pair }| {
+        let expected = combined(pair.first.contents(), pair.second.contents());
         let output = output(place).map_err(|error| error.to_string())?;
         asked.is_right(&expected, &output)?;
-        let (mut kinds, _) = pair(seed, index);
+        let mut kinds = kinds.0.clone();
         let number = match expected {
             Ok(_) => 0,
             Err(Refused { refusal, file }) => {
-                kinds.note(REFUSED, ABOUT[file]);
+                kinds.push(Kind { part: REFUSED, name: ABOUT[file] });
                 Reply::from(refusal).number
             }
         };
-        tally.count(&kinds.0, Outcome::of(number));
+        tally.count(&kinds, Outcome::of(number));
         Ok(())
     })?;
     Ok(tally)

@@ -15,9 +15,15 @@ pub struct Pair {
     pub second: File,
 }
 
-impl Folder for Pair {
+/// With the kinds of the tables and of the files.
+pub struct Input {
+    pub kinds: Kinds,
+    pub pair: Pair,
+}
+
+impl Folder for Input {
     fn files(&self) -> [(&'static str, &File); 2] {
-        [("first.txt", &self.first), ("second.txt", &self.second)]
+        [("first.txt", &self.pair.first), ("second.txt", &self.pair.second)]
     }
 }
 
@@ -78,13 +84,13 @@ pub const FILES_OF: [Way<pairs::Pair, Pair>; 15] = [
     }),
 ];
 
-/// The same files for the same seed and index, with their kinds.
-pub fn pair(seed: u64, index: u64) -> (Kinds, Pair) {
+/// The same for the same seed and index.
+pub fn input(seed: u64, index: u64) -> Input {
     let rng = &mut Rng::of_input(seed, "side by side", index);
     let mut kinds = Kinds::default();
     let tables = pairs::pair(rng, &mut kinds);
-    let files = kinds.make(rng, FILES, &FILES_OF, &tables);
-    (kinds, files)
+    let pair = kinds.make(rng, FILES, &FILES_OF, &tables);
+    Input { kinds, pair }
 }
 
 fn one_state() -> Table {
