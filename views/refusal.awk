@@ -1,7 +1,8 @@
-# A refusal in words, from its number and figure, and from the listed states in columns (for 16). Input: the bytes of table.txt (for 1 to 4, and 16) or of formula.txt (6, 7), as
-# od -An -v -tu1 prints them.
+# A refusal in words, from its number and figure, from the table's name in the environment (for 1 to 4), and from the listed states in columns (16). Input: the bytes of the table (for 1 to
+# 4, and 16) or of formula.txt (6, 7), as od -An -v -tu1 prints them.
 
 BEGIN {
+  table = ENVIRON["table"]
   bytes = 0
   for (code = 32; code < 127; code++)
     shown[code] = sprintf("%c", code)
@@ -68,19 +69,19 @@ function table_refused(k,    part, earlier) {
   cut_lines()
   part = part_of(k)
   if (number == 1 && part == "nothing")
-    say("table.txt has bytes after its last line, from line " k " on", line(k))
+    say(table " has bytes after its last line, from line " k " on", line(k))
   else if (number == 1 && begin[k] == bytes)
-    say("table.txt ends before line " k, "expected: " layout(part))
+    say(table " ends before line " k, "expected: " layout(part))
   else if (number == 1)
-    say("table.txt, line " k " is not as laid out" (k == lines ? ", or no LF ends it" : ""), line(k), "expected: " layout(part))
+    say(table ", line " k " is not as laid out" (k == lines ? ", or no LF ends it" : ""), line(k), "expected: " layout(part))
   else if (number == 2)
-    say("table.txt, line " k ": a number is outside its range or turn", line(k), "expected: " ranges(part, k))
+    say(table ", line " k ": a number is outside its range or turn", line(k), "expected: " ranges(part, k))
   else if (number == 3) {
     for (earlier = 2; earlier < k && text(begin[earlier] + 7, end[earlier]) != text(begin[k] + 7, end[k]); )
       earlier++
-    say("table.txt, line " k ": the name is used already, on line " earlier, line(k))
+    say(table ", line " k ": the name is used already, on line " earlier, line(k))
   } else
-    say("table.txt, line " k ": the transition is not above the one before", line(k - 1), line(k))
+    say(table ", line " k ": the transition is not above the one before", line(k - 1), line(k))
 }
 
 function formula_refused(offset,    ends, blanks) {
@@ -135,6 +136,12 @@ END {
     say("the text written back has " figure " bytes, more than 512")
   else if (number == 16)
     start_refused(figure + 0)
+  else if (number == 17)
+    say("the combined table has " figure " states, one for each pair; at most 256 are taken")
+  else if (number == 18)
+    say("the combined table has " figure " labels; at most 40 are taken")
+  else if (number == 19)
+    say("the combined table has " figure " transitions; at most 1024 are taken")
   else
     say("figure " figure)
 }

@@ -5,8 +5,8 @@ use crate::interface::{interface, slice};
 use crate::listing::Listing;
 use crate::prepared::{self, FORMULA_LENGTH, TABLE_LENGTH};
 use crate::reply::{Refusal, Reply};
-use crate::table::{MAX_STATES, Table};
-use crate::{verdict, word, writing};
+use crate::table::{MAX_STATES, MAX_TEXT, Table};
+use crate::{combining, verdict, word, writing};
 
 pub const ROW_PLACE: usize = 3;
 pub const EDGE_PLACE: usize = 5;
@@ -33,16 +33,32 @@ macro_rules! entries {
 interface!(entries);
 
 pub fn read_table(text: &[u8], table: &mut [u8]) -> Reply {
-    let outcome = long_enough(table, TABLE_LENGTH).and_then(|()| Table::read(text)).map(|read| {
-        table[..TABLE_LENGTH].copy_from_slice(&prepared::table_bytes(&read));
-        0
-    });
+    let outcome = long_enough(table, TABLE_LENGTH)
+        .and_then(|()| Table::read(text))
+        .map(|read| prepare(&read, table));
+    outcome.into()
+}
+
+pub fn table_text(table: &[u8], text: &mut [u8]) -> Reply {
+    let outcome = long_enough(table, TABLE_LENGTH)
+        .and_then(|()| long_enough(text, MAX_TEXT))
+        .and_then(|()| prepared_table(table))
+        .map(|table| write_text(&table.text(), text));
+    outcome.into()
+}
+
+pub fn combine(first: &[u8], second: &[u8], combined: &mut [u8]) -> Reply {
+    let outcome = [first, second, combined]
+        .iter()
+        .try_for_each(|table| long_enough(table, TABLE_LENGTH))
+        .and_then(|()| combining::combined(&prepared_table(first)?, &prepared_table(second)?))
+        .map(|table| prepare(&table, combined));
     outcome.into()
 }
 
 pub fn read_formula(table: &[u8], text: &[u8], formula: &mut [u8]) -> Reply {
     let outcome = both_long_enough(table, formula)
-        .and_then(|()| prepared::table_of(table).ok_or(Refusal::PreparedTable))
+        .and_then(|()| prepared_table(table))
         .and_then(|table| Formula::read(&table, text))
         .map(|read| {
             formula[..FORMULA_LENGTH].copy_from_slice(&prepared::formula_bytes(&read));
@@ -56,10 +72,7 @@ pub fn write_formula(table: &[u8], formula: &[u8], text: &mut [u8]) -> Reply {
         .and_then(|()| long_enough(text, MAX_BYTES))
         .and_then(|()| question(table, formula))
         .and_then(|(table, formula)| short_enough(writing::text(&table, &formula)))
-        .map(|written| {
-            text[..written.len()].copy_from_slice(&written);
-            written.len() as u64
-        });
+        .map(|written| write_text(&written, text));
     outcome.into()
 }
 
@@ -137,7 +150,7 @@ pub fn explain(
         Ok(explained) => explained,
         Err(refusal) => return Refusal::into(refusal),
     };
-    table[..TABLE_LENGTH].copy_from_slice(&prepared::table_bytes(&table_read));
+    prepare(&table_read, table);
     formula[..FORMULA_LENGTH].copy_from_slice(&prepared::formula_bytes(&formula_read));
     *verdict = verdict::holds(&table_read, &formula_read).into();
     *formula_class = formula_read.root_class().number();
@@ -177,10 +190,27 @@ pub fn short_enough(text: Vec<u8>) -> Result<Vec<u8>, Refusal> {
     }
 }
 
+/// The figure of an accepted call that prepares a table.
+fn prepare(table: &Table, lent: &mut [u8]) -> u64 {
+    lent[..TABLE_LENGTH].copy_from_slice(&prepared::table_bytes(table));
+    0
+}
+
+/// The figure of an accepted call that writes a text.
+fn write_text(written: &[u8], text: &mut [u8]) -> u64 {
+    text[..written.len()].copy_from_slice(written);
+    written.len() as u64
+}
+
+/// Refusal 10.
+fn prepared_table(bytes: &[u8]) -> Result<Table, Refusal> {
+    prepared::table_of(bytes).ok_or(Refusal::PreparedTable)
+}
+
 /// Refusals 14 and 10.
 fn question(table: &[u8], formula: &[u8]) -> Result<(Table, Formula), Refusal> {
     both_long_enough(table, formula)?;
-    let table = prepared::table_of(table).ok_or(Refusal::PreparedTable)?;
+    let table = prepared_table(table)?;
     let formula = prepared::formula_of(formula, table.labels());
     Ok((table, formula.ok_or(Refusal::PreparedFormula)?))
 }

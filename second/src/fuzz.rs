@@ -10,12 +10,12 @@ use crate::inputs::lending::{self, LENGTHS, lend};
 use crate::inputs::rng::Rng;
 use crate::inputs::tables::{expected_names, with_any_names};
 use crate::inputs::{
-    formula_texts, formulas, questions, starts, table_texts, tables, words, written,
+    formula_texts, formulas, pairs, questions, starts, table_texts, tables, words, written,
 };
 use crate::interface::interface;
 use crate::listing::Listing;
 use crate::prepared::{FORMULA_LENGTH, TABLE_LENGTH};
-use crate::table::MAX_STATES;
+use crate::table::{MAX_STATES, MAX_TEXT};
 use crate::tally::{Expected, Kind, Tally};
 
 /// The first input to which the answers differ, and how.
@@ -103,6 +103,20 @@ fn expected(entry: &str) -> (&'static [u32], Vec<Expected>) {
             let all = texts.into_iter().chain(lengths).chain(expected_names()).collect();
             (&[0, 1, 2, 3, 4, 14], all)
         }
+        "table_text" => {
+            let sizes = tables::expected_sizes();
+            let lengths = kinds::expected(WRITTEN, &LENGTHS);
+            let lent = lending::expected(&lending::TABLE);
+            let all = sizes.into_iter().chain(lengths).chain(lent).chain(expected_names());
+            (&[0, 10, 14], all.collect())
+        }
+        "combine" => {
+            let lengths = kinds::expected(WRITTEN, &LENGTHS);
+            let [first, second] =
+                [lending::expected(&lending::FIRST), lending::expected(&lending::SECOND)];
+            let all = pairs::expected().into_iter().chain(lengths).chain(first).chain(second);
+            (&[0, 10, 14, 17, 18, 19], all.collect())
+        }
         "read_formula" => {
             let texts = kinds::expected(TEXT, &formula_texts::TEXTS);
             let lookups = kinds::expected(TEXT, &formula_texts::LOOKUPS);
@@ -177,6 +191,23 @@ pub fn read_table(rng: &mut Rng) -> Input<compare::ReadTable> {
     let table = with_any_names(rng, &mut kinds, table);
     let text = kinds.make(rng, TEXT, &table_texts::TEXTS, &table);
     Input { case: compare::ReadTable { text, table: lent(rng, length) }, kinds: kinds.0 }
+}
+
+pub fn table_text(rng: &mut Rng) -> Input<compare::TableText> {
+    let mut kinds = Kinds::default();
+    let table = tables::of_any_size(rng, &mut kinds);
+    let table = lend(rng, &mut kinds, &lending::TABLE, &table);
+    let length = kinds.make(rng, WRITTEN, &LENGTHS, &MAX_TEXT);
+    Input { case: compare::TableText { table, text: lent(rng, length) }, kinds: kinds.0 }
+}
+
+pub fn combine(rng: &mut Rng) -> Input<compare::Combine> {
+    let mut kinds = Kinds::default();
+    let [first, second] = pairs::pair(rng, &mut kinds);
+    let first = lend(rng, &mut kinds, &lending::FIRST, &first);
+    let second = lend(rng, &mut kinds, &lending::SECOND, &second);
+    let length = kinds.make(rng, WRITTEN, &LENGTHS, &TABLE_LENGTH);
+    Input { case: compare::Combine { first, second, combined: lent(rng, length) }, kinds: kinds.0 }
 }
 
 pub fn read_formula(rng: &mut Rng) -> Input<compare::ReadFormula> {

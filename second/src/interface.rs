@@ -10,6 +10,9 @@ macro_rules! interface {
     ($rows:ident) => {
         $rows! {
             ReadTable read_table explainer_read_table(text: read, table: written) [];
+            TableText table_text explainer_table_text(table: read, text: written) [];
+            Combine combine explainer_combine(
+                first: read, second: read, combined: written) [];
             ReadFormula read_formula explainer_read_formula(
                 table: read, text: read, formula: written) [];
             WriteFormula write_formula explainer_write_formula(

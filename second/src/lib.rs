@@ -12,6 +12,7 @@ pub mod grammar;
 pub mod expansion;
 pub mod formula;
 pub mod writing;
+pub mod combining;
 pub mod prepared;
 
 pub mod verdict;
@@ -40,6 +41,7 @@ pub mod read_back;
 pub mod trials;
 pub mod program;
 pub mod print_verdicts;
+pub mod print_combined;
 pub mod script;
 pub mod digests;
 pub mod bench;

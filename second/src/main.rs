@@ -9,6 +9,7 @@ use std::time::Instant;
 use second::digests::answers::Explainer;
 use second::digests::{BASE, CORPORA, Corpus};
 use second::entries::SECOND;
+use second::print_combined::{self, Asked};
 use second::reply::Reply;
 use second::tally::{self, Tally};
 use second::views::View;
@@ -22,9 +23,12 @@ second aut FOLDER
 second words NUMBER FOLDER
 second formula FOLDER
 second starts LIST FOLDER
+second combine FIRST SECOND
 second program FILE --seed NUMBER --count NUMBER
 second print_verdicts FILE --seed NUMBER --count NUMBER
+second print_combined FILE --seed NUMBER --count NUMBER
 second views SCRIPT --seed NUMBER --count NUMBER
+second combined SCRIPT --seed NUMBER --count NUMBER
 second fuzz --seed NUMBER --count NUMBER
 second digests FILE [--corpus NAME] [--compare STORED | --each ENTRY KIND]
 second bench [--before BUILD] [--library BUILD] [ENTRY]";
@@ -49,11 +53,21 @@ fn main() -> ExitCode {
         ["starts", list, folder] if starts::in_columns(list).is_some() => {
             view(View::Starts(list), folder)
         }
+        ["combine", first, second] => {
+            let [first, second] = [first, second].map(|file| fs::read(file).unwrap_or_default());
+            wrote(io::stdout().write_all(&print_combined::printed(&first, &second)))
+        }
         ["program", file, ref inputs @ ..] => {
             seeded(inputs, |seed, count| in_folders(&PROGRAM, file, seed, count))
         }
         ["print_verdicts", file, ref inputs @ ..] => {
             seeded(inputs, |seed, count| in_folders(&PRINT_VERDICTS, file, seed, count))
+        }
+        ["print_combined", file, ref inputs @ ..] => {
+            seeded(inputs, |seed, count| in_folders(&PRINT_COMBINED, file, seed, count))
+        }
+        ["combined", file, ref inputs @ ..] => {
+            seeded(inputs, |seed, count| in_folders(&COMBINED, file, seed, count))
         }
         ["views", file, ref inputs @ ..] => {
             seeded(inputs, |seed, count| in_folders(&VIEWS, file, seed, count))
@@ -173,6 +187,30 @@ const PRINT_VERDICTS: Comparison = Comparison {
     enough: print_verdicts::ENOUGH,
     missing: print_verdicts::missing,
 };
+
+const PRINT_COMBINED: Comparison = Comparison {
+    name: "print_combined",
+    run: |file, place, seed, count| of_pairs(Asked::Program, file, place, seed, count),
+    enough: print_combined::ENOUGH,
+    missing: print_combined::missing,
+};
+
+const COMBINED: Comparison = Comparison {
+    name: "combined",
+    run: |file, place, seed, count| of_pairs(Asked::Script, file, place, seed, count),
+    enough: print_combined::ENOUGH,
+    missing: print_combined::missing,
+};
+
+fn of_pairs(
+    asked: Asked,
+    file: &Path,
+    place: &Path,
+    seed: u64,
+    count: u64,
+) -> Result<Tally, String> {
+    print_combined::run(asked, |folder| asked.output_in(file, folder), place, seed, count)
+}
 
 const VIEWS: Comparison = Comparison {
     name: "views",

@@ -36,6 +36,10 @@ pub enum Refusal {
     TextLength(usize),
     /// A listed state, by its index, that is not above the one before it or that the table lacks.
     Start(usize),
+    /// Of two tables side by side: pairs of states, labels, transitions, each by their count.
+    PairCount(usize),
+    LabelCount(usize),
+    TransitionCount(usize),
 }
 
 impl From<Refusal> for Reply {
@@ -58,6 +62,9 @@ impl From<Refusal> for Reply {
             Refusal::ShortBuffer(needed) => (14, needed),
             Refusal::TextLength(length) => (15, length),
             Refusal::Start(index) => (16, index),
+            Refusal::PairCount(count) => (17, count),
+            Refusal::LabelCount(count) => (18, count),
+            Refusal::TransitionCount(count) => (19, count),
         };
         Reply { number, figure: figure as u64 }
     }

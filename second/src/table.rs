@@ -1,6 +1,6 @@
 //! State tables (Definition 1) and their text, line by line.
 
-use crate::columns;
+use crate::columns::{self, COLUMNS};
 use crate::reply::Refusal;
 
 pub const MAX_STATES: usize = 256;
@@ -9,6 +9,10 @@ pub const MAX_TRANSITIONS: usize = 1_024;
 /// Of the letters, digits and underscores of a name, without its mark.
 pub const MAX_STEM: usize = 12;
 pub const MAX_NAME: usize = MAX_STEM + 1;
+/// Of a table's text: its lines, each with its end.
+pub const MAX_TEXT: usize = (4 * COLUMNS + 1)
+    + MAX_LABELS * (COLUMNS + 1 + MAX_NAME + 1)
+    + MAX_TRANSITIONS * (3 * COLUMNS + 1);
 
 pub const SILENT: u8 = 0;
 /// 02: "The idle step now prints as label 99." No text of a table has it.
@@ -195,7 +199,7 @@ pub fn is_name_byte(byte: u8) -> bool {
 }
 
 fn name_line(line: &[u8]) -> Option<(u32, Vec<u8>)> {
-    let (number, name) = line.split_at_checked(columns::COLUMNS)?;
+    let (number, name) = line.split_at_checked(COLUMNS)?;
     let name = name.strip_prefix(b" ").filter(|name| is_name(name))?;
     Some((columns::read(number)?, name.to_vec()))
 }

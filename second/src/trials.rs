@@ -5,7 +5,7 @@ use std::io;
 use std::path::Path;
 use std::process::Output;
 
-use crate::inputs::folders::{File, Files};
+use crate::inputs::folders::{File, Folder};
 
 /// As many bytes of a file or an output are shown.
 const SHOWN: usize = 2_000;
@@ -20,33 +20,31 @@ pub struct Trials<'a> {
 impl Trials<'_> {
     /// Makes each folder, by its number, and checks what is done with it, given its kind. The first
     /// in which something is wrong is told and kept.
-    pub fn each(
+    pub fn each<Made: Folder>(
         &self,
-        folder: impl Fn(u64) -> (&'static str, Files),
-        mut check: impl FnMut(u64, &'static str, &Files) -> Result<(), String>,
+        folder: impl Fn(u64) -> (&'static str, Made),
+        mut check: impl FnMut(u64, &'static str, &Made) -> Result<(), String>,
     ) -> Result<(), String> {
         for index in 0..self.count {
-            let (kind, files) = folder(index);
-            let made = make(self.place, &files).map_err(|error| error.to_string());
-            let right = made
-                .and_then(|()| check(index, kind, &files))
+            let (kind, made) = folder(index);
+            let right = make(self.place, made.files()).map_err(|error| error.to_string());
+            let right = right
+                .and_then(|()| check(index, kind, &made))
                 .and_then(|()| fs::remove_dir_all(self.place).map_err(|error| error.to_string()));
             right.map_err(|told| {
-                let [table, formula] = [shown_file(&files.table), shown_file(&files.formula)];
-                let (seed, folder) = (self.seed, self.place.display());
-                format!(
-                    "folder {index} of seed {seed} ({kind}), kept as {folder}\n\
-                    table.txt: {table}\nformula.txt: {formula}\n{told}"
-                )
+                let files =
+                    made.files().map(|(name, file)| format!("{name}: {}\n", shown_file(file)));
+                let (seed, folder, files) = (self.seed, self.place.display(), files.concat());
+                format!("folder {index} of seed {seed} ({kind}), kept as {folder}\n{files}{told}")
             })?;
         }
         Ok(())
     }
 }
 
-fn make(place: &Path, files: &Files) -> io::Result<()> {
+fn make(place: &Path, files: [(&str, &File); 2]) -> io::Result<()> {
     fs::create_dir(place)?;
-    for (name, file) in [("table.txt", &files.table), ("formula.txt", &files.formula)] {
+    for (name, file) in files {
         match file {
             File::Holds(bytes) => fs::write(place.join(name), bytes)?,
             File::Folder => fs::create_dir(place.join(name))?,

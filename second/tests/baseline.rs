@@ -20,6 +20,8 @@ fn random_calls_agree_and_reach_every_refusal() {
     assert_eq!(outcome, Ok(()));
     let expected: BTreeMap<&str, BTreeSet<u32>> = BTreeMap::from([
         ("read_table", [0, 1, 2, 3, 4, 14].into()),
+        ("table_text", [0, 10, 14].into()),
+        ("combine", [0, 10, 14, 17, 18, 19].into()),
         ("read_formula", [0, 5, 6, 7, 8, 9, 10, 14].into()),
         ("write_formula", [0, 10, 14, 15].into()),
         ("verdict", [0, 10, 14].into()),

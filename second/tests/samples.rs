@@ -2,11 +2,13 @@
 
 mod common;
 
+use std::collections::BTreeSet;
 use std::fs;
 use std::path::{Path, PathBuf};
 
 use common::{M, question};
 use second::print::explain_folder;
+use second::print_combined::printed;
 use second::table::IDLE;
 use second::views::{self, View};
 
@@ -53,7 +55,64 @@ fn the_example_shows_the_changer_with_its_listing_and_words_byte_for_byte() {
     let written = ["short_forms", "directions"]
         .map(|sample| read(&format!("samples/{sample}/written_back.txt")));
     let [first, second] = written;
-    assert_eq!(shown, [table, formula, listing, words, directions, short_forms, first, second]);
+    let (command, [changer, channel, _]) = (combine_command("\n"), side_by_side());
+    let ways = words_of_both(5);
+    let texts = [table, formula, listing, words, directions, short_forms, first, second];
+    let texts = texts.into_iter().chain([changer, channel, command, ways]);
+    assert_eq!(shown, Vec::from_iter(texts));
+}
+
+/// The two tables and that of both.
+fn side_by_side() -> [String; 3] {
+    ["changer", "channel", "table"].map(|name| read(&format!("samples/side_by_side/{name}.txt")))
+}
+
+fn words_of_both(count: usize) -> String {
+    let [_, _, table] = side_by_side();
+    let formula = read("samples/side_by_side/formula.txt");
+    views::text(View::Words(count), table.as_bytes(), formula.as_bytes()).expect("words")
+}
+
+fn combine_command(end: &str) -> String {
+    let [changer, channel] =
+        ["changer", "channel"].map(|name| format!("samples/side_by_side/{name}.txt"));
+    format!("bin/explain --combine {changer} {channel}{end}")
+}
+
+#[test]
+fn the_readme_shows_how_two_tables_are_combined_and_the_words_of_both() {
+    let shown = shown(&read("README.md"));
+    let combined = combine_command(" >samples/side_by_side/table.txt\n");
+    let asked = "bin/explain --words 3 samples/side_by_side\n";
+    assert!(shown.contains(&[&combined, asked, &words_of_both(3)].concat()));
+}
+
+/// As many pairs can be reached as the changer has states, and their automaton is its own, but for marks.
+#[test]
+fn the_changer_and_the_channel_are_the_changer_that_waits() {
+    let [changer, channel, table] = side_by_side();
+    assert_eq!(printed(changer.as_bytes(), channel.as_bytes()), table.as_bytes());
+    assert_eq!(read("samples/side_by_side/formula.txt"), read("samples/changer/formula.txt"));
+    let [both, alone] = ["side_by_side", "changer"].map(|sample| {
+        let edges = read(&format!("samples/{sample}/automaton.aut")).replace(['?', '!'], "");
+        edges.lines().map(String::from).collect::<BTreeSet<String>>()
+    });
+    assert_eq!(both, alone);
+    let reached = question(&table, "EU[*] T").listing().rows;
+    let reached: BTreeSet<u8> = reached.iter().map(|row| row.state).collect();
+    assert_eq!(reached, BTreeSet::from([0, 4, 8, 9, 10, 11, 12]));
+    assert!(table.starts_with("    16     7    27     0\n"));
+}
+
+#[test]
+fn the_listing_of_both_is_as_the_example_tells() {
+    let (example, listing) = (read("docs/EXAMPLE.md"), listing("samples/side_by_side"));
+    assert!(listing.starts_with("     1     1     8    10\n"));
+    assert!(example.contains("has 8 rows and 10 edges"));
+    for edge in ["2 4 5", "3 4 5", "2 4 4", "4 6 2", "5 99 7"] {
+        assert!(example.contains(&format!("`{edge}`")), "{edge}");
+        assert!(has_line(&listing, edge), "{edge}");
+    }
 }
 
 #[test]

@@ -7,21 +7,27 @@ mod graph;
 mod labelling;
 mod automaton;
 mod read_table;
+mod table_text;
+mod combine;
 mod read_formula;
 mod write_formula;
 mod explain;
 
 pub use automaton::{accepts, build};
+pub use combine::combine;
 pub use explain::explain;
 pub use labelling::{verdict, verdicts};
 pub use read_formula::read_formula;
 pub use read_table::read_table;
+pub use table_text::table_text;
 pub use write_formula::write_formula;
 
 use crate::entries::Entries;
 
 pub const BASELINE: Entries = Entries {
     read_table: Some(read_table),
+    table_text: Some(table_text),
+    combine: Some(combine),
     read_formula: Some(read_formula),
     write_formula: Some(write_formula),
     verdict: Some(verdict),

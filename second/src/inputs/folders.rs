@@ -26,9 +26,20 @@ impl File {
     }
 }
 
+/// What a folder has, each file with its name.
+pub trait Folder {
+    fn files(&self) -> [(&'static str, &File); 2];
+}
+
 pub struct Files {
     pub table: File,
     pub formula: File,
+}
+
+impl Folder for Files {
+    fn files(&self) -> [(&'static str, &File); 2] {
+        [("table.txt", &self.table), ("formula.txt", &self.formula)]
+    }
 }
 
 /// The numbers that a folder can be answered by, 0 for a listing.

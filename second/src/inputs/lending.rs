@@ -53,6 +53,21 @@ pub const TABLE: Layout<Table> = Layout {
     damage: tables::damage_prepared,
 };
 
+/// The tables that are combined.
+pub const FIRST: Layout<Table> = Layout {
+    part: "first table",
+    damaged: "first table damaged",
+    length: "first table's length",
+    ..TABLE
+};
+
+pub const SECOND: Layout<Table> = Layout {
+    part: "second table",
+    damaged: "second table damaged",
+    length: "second table's length",
+    ..TABLE
+};
+
 pub const FORMULA: Layout<Question> = Layout {
     part: "formula",
     damaged: "formula damaged",

@@ -58,6 +58,26 @@ pub fn table(rng: &mut Rng, kinds: &mut Kinds, size: Size) -> Table {
     }
 }
 
+const TABLE: &str = "table of a size";
+const LONGEST: &str = "of the longest text";
+
+/// One in 40 has the longest text, one in 40 is at other limits.
+pub fn of_any_size(rng: &mut Rng, kinds: &mut Kinds) -> Table {
+    if rng.one_in(40) {
+        kinds.note(TABLE, LONGEST);
+        return longest_table(rng);
+    }
+    let size = size(rng, 40);
+    kinds.note(TABLE, size.name());
+    let table = table(rng, kinds, size);
+    with_any_names(rng, kinds, table)
+}
+
+/// All that `of_any_size` must have made.
+pub fn expected_sizes() -> Vec<Expected> {
+    Size::NAMES.into_iter().chain([LONGEST]).map(|name| must(TABLE, name, &[0])).collect()
+}
+
 /// Transitions among the lowest and highest states, by the lowest and highest labels only.
 fn cornered(rng: &mut Rng, kinds: &mut Kinds) -> Table {
     const STATES: [u8; 4] = [0, 1, 254, 255];
@@ -169,7 +189,7 @@ fn without_exits(table: &Table) -> impl Iterator<Item = u8> {
 }
 
 /// With these in place of all that leave some states.
-fn with_steps(table: &Table, leaving: &[u8], more: Vec<Step>) -> Table {
+pub fn with_steps(table: &Table, leaving: &[u8], more: Vec<Step>) -> Table {
     let kept = table.transitions.iter().filter(|step| !leaving.contains(&step.from));
     let steps: BTreeSet<Step> = kept.copied().chain(more).collect();
     Table { transitions: steps.into_iter().collect(), ..table.clone() }
@@ -179,7 +199,7 @@ fn a_step(rng: &mut Rng, table: &Table, from: u8, to: u8) -> Step {
     Step { from, label: rng.below(table.labels() + 1) as u8, to }
 }
 
-fn silent_loop(state: u8) -> Step {
+pub fn silent_loop(state: u8) -> Step {
     Step { from: state, label: SILENT, to: state }
 }
 
@@ -273,7 +293,7 @@ fn names(rng: &mut Rng, kinds: &mut Kinds, labels: usize) -> Vec<Vec<u8>> {
 }
 
 /// Two bytes are too few for 40 names of these letters.
-fn longest(rng: &mut Rng) -> usize {
+pub fn longest(rng: &mut Rng) -> usize {
     rng.pick(&[3, 4, MAX_STEM, MAX_STEM])
 }
 
@@ -282,7 +302,7 @@ pub fn marked(mut stem: Vec<u8>, mark: u8) -> Vec<u8> {
     stem
 }
 
-fn different(rng: &mut Rng, count: usize, name: impl Fn(&mut Rng) -> Vec<u8>) -> Vec<Vec<u8>> {
+pub fn different(rng: &mut Rng, count: usize, name: impl Fn(&mut Rng) -> Vec<u8>) -> Vec<Vec<u8>> {
     let mut names: Vec<Vec<u8>> = Vec::with_capacity(count);
     while names.len() < count {
         let name = name(rng);
