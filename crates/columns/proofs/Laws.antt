@@ -10,4 +10,5 @@ pub mod Figures
 pub mod Pasted
 pub mod Pasting
 pub mod Scan
+pub mod Small
 pub mod Words

@@ -1,9 +1,10 @@
 // Writing numbers in six columns.
 ghost use mathlib.Core.Path.{_≡_};
-ghost use Prim.Native.Nat.{_+_, _≤_};
+ghost use Prim.Native.Nat.{_+_, _≤_, _<_};
 ghost use lib.ListN.{length, take};
 ghost use Rattle.columns.specs.Columns.{column};
 ghost use Rattle.columns.specs.Lines.{numbersLine};
+ghost use Rattle.columns.specs.inner.Read.{lead};
 ghost use Rattle.columns.specs.inner.Write.{Spread, pasted};
 
 // A number's column: the bytes from `from` on.
@@ -66,4 +67,27 @@ pub fn write_numbers(values: [u64; 4], count: usize, out: &mut [u8], at: usize) 
     }
     out[end] = 10;
     end + 1
+}
+
+// A figure before the last one, if n is what the digits behind it leave: a blank, if that is nothing.
+fn lead_byte(n: usize) -> u8
+    ensures { λ r. ⌜ r ≡ lead n ⌝ }
+{
+    if n == 0 { 32 } else { (48 + n % 10) as u8 }
+}
+
+// Writes n, which is below 10,000, in six columns at `at`.
+pub fn write_small(n: usize, out: &mut [u8], at: usize)
+    requires { ⌜ (n < 10000) × (at + 6 ≤ length (now out)) ⌝ }
+    ensures { λ _. ⌜ now (out .exit) ≡ pasted (now (out .entry)) at (column n) ⌝ }
+{
+    let thousands = lead_byte(n / 1000);
+    let hundreds = lead_byte(n / 100);
+    let tens = lead_byte(n / 10);
+    out[at] = 32;
+    out[at + 1] = 32;
+    out[at + 2] = thousands;
+    out[at + 3] = hundreds;
+    out[at + 4] = tens;
+    out[at + 5] = (48 + n % 10) as u8;
 }

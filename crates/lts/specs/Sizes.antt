@@ -19,3 +19,7 @@ transitionLength = 3
 
 abbrev pub tableLength : ℕ
 tableLength = 6 + mostLabels * nameSlotLength + mostTransitions * transitionLength
+
+-- The longest text of a table: its lines with their LFs.
+abbrev pub longestTableText : ℕ
+longestTableText = 25 + (mostLabels * 21 + mostTransitions * 19)

@@ -39,5 +39,7 @@ pub const STEPS: usize = TRANSITIONS + STATES;
 
 pub const FIRSTS: usize = STATES + 1;
 
-// The longest text of a table, its lines with their LFs, and one byte more.
-pub const ENOUGH_TABLE_TEXT: usize = 25 + LABELS * 21 + TRANSITIONS * 19 + 1;
+// The longest text of a table, its lines with their LFs; and one byte more.
+pub const LONGEST_TABLE_TEXT: usize = 25 + LABELS * 21 + TRANSITIONS * 19;
+
+pub const ENOUGH_TABLE_TEXT: usize = LONGEST_TABLE_TEXT + 1;

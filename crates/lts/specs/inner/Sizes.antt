@@ -1,6 +1,6 @@
 -- Lengths and offsets within a prepared table, and sizes that code needs beside those of ../Sizes.antt. src/sizes.rt has the same numbers for code.
 use Prim.Native.Nat.{ℕ, suc, _+_, _*_}
-use Rattle.lts.specs.Sizes.{mostLabels, mostStates, mostTransitions, nameSlotLength, transitionLength}
+use Rattle.lts.specs.Sizes.{mostLabels, mostStates, mostTransitions, nameSlotLength, transitionLength, longestTableText}
 
 -- A prepared table: counts and start, name slots, transition slots.
 abbrev pub headLength : ℕ
@@ -22,10 +22,7 @@ mostSteps = mostTransitions + mostStates
 abbrev pub firstsLength : ℕ
 firstsLength = suc mostStates
 
--- The longest text of a table: its lines with their LFs. One byte more gets the same answer as any longer text.
-abbrev pub longestTableText : ℕ
-longestTableText = 25 + (mostLabels * 21 + mostTransitions * 19)
-
+-- One byte more than the longest text of a table gets the same answer as any longer text.
 abbrev pub enoughTableText : ℕ
 enoughTableText = suc longestTableText
 

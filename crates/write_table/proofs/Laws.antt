@@ -1,0 +1,5 @@
+pub mod Entry
+pub mod Growing
+pub mod Lengths
+pub mod Lines
+pub mod Names
