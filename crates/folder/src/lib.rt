@@ -1,4 +1,4 @@
-// What the programs read: table.txt and formula.txt in the folder that they run in.
+// What the programs read: table.txt and formula.txt in the folder that they run in, or two tables, first.txt and second.txt.
 use explanations::sizes::KEPT;
 ghost use Rattle.io.specs.Counts.{Counts};
 ghost use Rattle.files.specs.inner.Scan.{scanStart};
@@ -54,15 +54,33 @@ pub fn scan_formula(head: &mut [u8; KEPT]) -> Scanned
     scanned
 }
 
-// As many bytes of the table as there is room for, and how many they are.
-pub fn read_table(table: &mut [u8]) -> usize
+// As many bytes of an open file as there is room for, and how many they are: none, if it could not be opened.
+fn read_opened(fd: i32, table: &mut [u8]) -> usize
     ensures { λ r. ⌜ Counts r (now (table .exit)) ⌝ }
 {
-    let fd = os::open_read(b"table.txt");
     if fd < 0 {
         return 0;
     }
     let count = io::read_full(fd, table);
     libc::close(fd);
     count
+}
+
+pub fn read_table(table: &mut [u8]) -> usize
+    ensures { λ r. ⌜ Counts r (now (table .exit)) ⌝ }
+{
+    read_opened(os::open_read(b"table.txt"), table)
+}
+
+// The tables that are combined.
+pub fn read_first(table: &mut [u8]) -> usize
+    ensures { λ r. ⌜ Counts r (now (table .exit)) ⌝ }
+{
+    read_opened(os::open_read(b"first.txt"), table)
+}
+
+pub fn read_second(table: &mut [u8]) -> usize
+    ensures { λ r. ⌜ Counts r (now (table .exit)) ⌝ }
+{
+    read_opened(os::open_read(b"second.txt"), table)
 }

@@ -1,0 +1,2 @@
+pub mod CombinedText
+pub mod inner
