@@ -31,7 +31,7 @@ module _ (c : tie.After-write-name) where
   number = c .before .before .before .before
 
   name-length : length (c .write-name .last .1 .1 .0) ≡ length (start number .args .text .now)
-  name-length = c .write-name .kept .1 .1 .0 ∙ length-set (number .write-small .last .1 .0) (start number .args .at + 6) 32 ∙ blank-length number
+  name-length = c .write-name .kept .1 .1 .0 ∙ length-set (number .write-small .last .1 .0) (start number .args .at + 6) _ ∙ blank-length number
 
 slice-write-text-2 : tie.Need-slice-write-text-2
 slice-write-text-2 c =
@@ -41,7 +41,7 @@ slice-write-text-2 c =
 same-length : tie.Need-same-length
 same-length c =
     let named = c .before .before in
-    length-set (named .write-name .last .1 .1 .0) (named .write-name .result) 10 ∙ name-length named
+    length-set (named .write-name .last .1 .1 .0) (named .write-name .result) _ ∙ name-length named
 
 returns : tie.Need-returns
 returns c =

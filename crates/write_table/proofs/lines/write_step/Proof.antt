@@ -78,7 +78,7 @@ slice-write-text c = let third = c .before .before in omega (arith, third-kept t
 same-length : tie.Need-same-length
 same-length c =
     let third = c .before .before in
-    length-set (third .copy-column3 .last .1 .1 .0) (begun (first (second third)) .args .at + 18) 10 ∙ third-kept third
+    length-set (third .copy-column3 .last .1 .1 .0) (begun (first (second third)) .args .at + 18) _ ∙ third-kept third
 
 returns : tie.Need-returns
 returns c =
