@@ -5,12 +5,10 @@ use mathlib.Core.List.{List}
 use mathlib.Core.Option.{Option, none, some}
 use Prim.Native.Nat.{ℕ, _≤_, _<_}
 use native.Mathlib.Nat.{zero-add}
-use native.Mathlib.Omega.{arith}
 use lib.ListN.{length}
 use borrow.Author.Tests.{le-leb, lt-leb}
 use Rattle.lts.specs.Sizes.{tableLength, longestTableText}
 use Rattle.lts.specs.Reply.{accepted, refusal, leftIn, answers}
-use Rattle.lts.specs.Steps.{Table}
 use Rattle.lts.specs.Text.{tableText}
 use Rattle.lts.specs.Prepared.{withTable}
 use Rattle.lts.specs.inner.Answers.{isSome}

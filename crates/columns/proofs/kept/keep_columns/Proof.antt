@@ -1,5 +1,4 @@
 -- `keep_columns` meets its contract: one column more is kept each turn.
-use mathlib.Core.Path.{_≡_}
 use Prim.Native.Nat.{_*_, _+_, _-_, _≤_}
 use native.Mathlib.Omega.{arith}
 use lib.ListN.{length}

@@ -1,6 +1,6 @@
 -- `write_header` leaves line 1 `pasted`: four columns and the LF.
 use borrow.Author.Needs.{needs}
-use mathlib.Core.Path.{_≡_, _∙_}
+use mathlib.Core.Path.{_∙_}
 use native.Mathlib.Omega.{arith}
 use lib.ListN.{length-set}
 use Rattle.columns.specs.inner.Write.{pasted}

@@ -1,10 +1,9 @@
 -- `write_label` leaves a label's line `pasted`: its number, a blank, its name, the LF.
 use borrow.Author.Needs.{needs}
 use mathlib.Core.Path.{_≡_, _∙_}
-use Prim.Native.Nat.{_+_, _≤_}
+use Prim.Native.Nat.{_+_}
 use native.Mathlib.Omega.{arith}
 use lib.ListN.{length, length-set}
-use Rattle.lts.specs.inner.Sizes.{longestName}
 use Rattle.lts.specs.inner.Prepared.{nameAt}
 use Rattle.write_table.proofs.Laws.Lines.{label-stands}
 use Rattle.write_table.proofs.Laws.Names.{slot-short}

@@ -1,5 +1,4 @@
 -- `write_lines` leaves the text at the start of the buffer: line 1, the labels' lines, the transitions'.
-use borrow.Author.Needs.{needs}
 use mathlib.Core.Path.{_≡_, _∙_}
 use native.Mathlib.Omega.{arith}
 use lib.ListN.{length}

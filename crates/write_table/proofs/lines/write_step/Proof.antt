@@ -4,7 +4,6 @@ use mathlib.Core.Path.{_≡_, ap, _∙_}
 use Prim.Native.Nat.{_+_}
 use native.Mathlib.Omega.{arith}
 use lib.ListN.{length, length-set}
-use Rattle.columns.specs.inner.Kept.{ColumnKept}
 use Rattle.columns.specs.inner.Write.{pasted}
 use Rattle.lts.specs.Text.{ended, transitionLine}
 use Rattle.tables.specs.inner.Access.{stepIn}
