@@ -7,6 +7,7 @@ pub mod Copying
 pub mod Decimal
 pub mod Ends
 pub mod Figures
+pub mod Kept
 pub mod Pasted
 pub mod Pasting
 pub mod Scan

@@ -1,3 +1,4 @@
+pub mod Kept
 pub mod Read
 pub mod Words
 pub mod Write

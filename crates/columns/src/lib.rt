@@ -1,4 +1,5 @@
 // Numbers in six columns, the form of every number in the texts of tables and listings; numbers in eight bytes; bytes compared where they stand.
+pub mod kept;
 pub mod same;
 pub mod words;
 pub mod write;

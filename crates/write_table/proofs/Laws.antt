@@ -1,5 +1,6 @@
 pub mod Entry
 pub mod Growing
+pub mod Kept
 pub mod Lengths
 pub mod Lines
 pub mod Names

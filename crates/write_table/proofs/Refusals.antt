@@ -1,5 +1,5 @@
 -- What `table_text` refuses: with 10 or 14 and no other number; with 10 exactly the bytes that no reading leaves.
-use mathlib.Core.Path.{_≡_, refl, _∙_}
+use mathlib.Core.Path.{_≡_, refl}
 use mathlib.Core.Logic.{_↔_, _⊎_, inl, inr}
 use mathlib.Core.List.{List}
 use mathlib.Core.Option.{Option, none, some}

@@ -1,5 +1,5 @@
 -- How long a table's text is: `text-length` exactly, `text-fits` at most.
-use mathlib.Core.Path.{_≡_, refl, ap, _∙_}
+use mathlib.Core.Path.{_≡_, refl, _∙_}
 use mathlib.Core.Bool.{true}
 use mathlib.Core.List.{List, [], _∷_, _++_, List·Memᴰ, List·Memᴰ·head, List·Memᴰ·tail}
 use Prim.Native.Nat.{ℕ, suc, _+_, _*_, _≤_, _<_}
@@ -10,9 +10,15 @@ use Rattle.columns.proofs.Laws.Columns.{column-length}
 use Rattle.lts.specs.Sizes.{longestTableText}
 use Rattle.lts.specs.Names.{isName}
 use Rattle.lts.specs.Steps.{Step, Table, labels}
+<<<<<<< HEAD
 use Rattle.lts.specs.Text.{ended, headerLine, labelLine, transitionLine}
 use Rattle.lts.specs.TableText.{labelLines, transitionLines, tableText}
 use Rattle.lts.specs.inner.Range.{InRange, StepInRange}
+=======
+use Rattle.lts.specs.Text.{ended, headerLine, labelLine, transitionLine}
+use Rattle.lts.specs.TableText.{labelLines, transitionLines, tableText}
+use Rattle.lts.specs.inner.Range.{InRange}
+>>>>>>> writer
 use Rattle.lts.proofs.Laws.NameRuns.{name-short}
 use Rattle.lts.proofs.Laws.Slots.{slots-length}
 

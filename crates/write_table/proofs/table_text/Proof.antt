@@ -3,6 +3,7 @@ use borrow.Author.Needs.{needs}
 use mathlib.Core.Path.{_≡_, sym, _∙_}
 use mathlib.Core.Bool.{true}
 use borrow.Author.Tests.{not-true, not-false}
+use native.Mathlib.Omega.{arith}
 use Rattle.lts.specs.inner.Answers.{isSome}
 use Rattle.lts.specs.inner.Prepared.{preparedTable}
 use Rattle.lts.proofs.Laws.Prepared.{found-holds}
@@ -11,13 +12,13 @@ use Rattle.write_table.proofs.table_text.Statement.{statement}
 use Rattle.write_table.proofs.table_text.Tie as tie
 
 returns : tie.Need-returns
-returns c = let a = c .before .before .before .args in short-table (a .table .now) (a .text .now) (c .if1 .taken)
+returns c = let a = c .before .before .before .args in short-table (a .table .now) (a .text .now) (omega (arith, c .if1 .taken))
 
 returns-2 : tie.Need-returns-2
 returns-2 c =
     let first = c .before in
     let a = first .before .before .before .args in
-    short-text (a .table .now) (a .text .now) (first .if1 .left) (c .if2 .taken)
+    short-text (a .table .now) (a .text .now) (first .if1 .left) (omega (arith, c .if2 .taken))
 
 -- Behind the lengths.
 module _ (c : tie.After-is-prepared) where

@@ -1,11 +1,10 @@
 -- `write_small` leaves the column of its number `pasted`: two blanks, three figures, the last digit.
 use borrow.Author.Needs.{needs}
-use mathlib.Core.Path.{_≡_, sym, ap, _∙_}
-use mathlib.Core.List.{List, [], _∷_, append-assoc}
-use Prim.Native.Nat.{ℕ, suc, _+_, _/_, _%_}
+use mathlib.Core.Path.{sym, ap, _∙_}
+use mathlib.Core.List.{[], _∷_}
+use Prim.Native.Nat.{_+_, _%_}
 use native.Mathlib.Omega.{arith}
-use lib.ListN.{length, take, drop, length-set}
-use lib.Seq.{sets-eq}
+use lib.ListN.{length-set}
 use Rattle.columns.specs.inner.Write.{pasted}
 use Rattle.columns.proofs.Laws.Small.{small-column, six-set}
 use Rattle.columns.proofs.write.write_small.Statement.{statement}

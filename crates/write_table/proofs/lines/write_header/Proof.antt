@@ -1,6 +1,6 @@
 -- `write_header` leaves line 1 `pasted`: four columns and the LF.
 use borrow.Author.Needs.{needs}
-use mathlib.Core.Path.{_≡_, _∙_}
+use mathlib.Core.Path.{_∙_}
 use native.Mathlib.Omega.{arith}
 use lib.ListN.{length-set}
 use Rattle.columns.specs.inner.Write.{pasted}
@@ -40,7 +40,7 @@ module _ (c : tie.After-slice-known5) where
 
 same-length : tie.Need-same-length
 same-length c =
-    length-set (fourth c .write-small4 .last .1 .0) 24 10
+    length-set (fourth c .write-small4 .last .1 .0) 24 _
     ∙ fourth c .write-small4 .kept .1 .0 ∙ third c .write-small3 .kept .1 .0 ∙ second c .write-small2 .kept .1 .0 ∙ first c .write-small .kept .1 .0
 
 returns : tie.Need-returns

@@ -1,10 +1,9 @@
 -- `write_label` leaves a label's line `pasted`: its number, a blank, its name, the LF.
 use borrow.Author.Needs.{needs}
 use mathlib.Core.Path.{_≡_, _∙_}
-use Prim.Native.Nat.{_+_, _≤_}
+use Prim.Native.Nat.{_+_}
 use native.Mathlib.Omega.{arith}
 use lib.ListN.{length, length-set}
-use Rattle.lts.specs.inner.Sizes.{longestName}
 use Rattle.lts.specs.inner.Prepared.{nameAt}
 use Rattle.write_table.proofs.Laws.Lines.{label-stands}
 use Rattle.write_table.proofs.Laws.Names.{slot-short}
@@ -31,7 +30,7 @@ module _ (c : tie.After-write-name) where
   number = c .before .before .before .before
 
   name-length : length (c .write-name .last .1 .1 .0) ≡ length (start number .args .text .now)
-  name-length = c .write-name .kept .1 .1 .0 ∙ length-set (number .write-small .last .1 .0) (start number .args .at + 6) 32 ∙ blank-length number
+  name-length = c .write-name .kept .1 .1 .0 ∙ length-set (number .write-small .last .1 .0) (start number .args .at + 6) _ ∙ blank-length number
 
 slice-write-text-2 : tie.Need-slice-write-text-2
 slice-write-text-2 c =
@@ -41,7 +40,7 @@ slice-write-text-2 c =
 same-length : tie.Need-same-length
 same-length c =
     let named = c .before .before in
-    length-set (named .write-name .last .1 .1 .0) (named .write-name .result) 10 ∙ name-length named
+    length-set (named .write-name .last .1 .1 .0) (named .write-name .result) _ ∙ name-length named
 
 returns : tie.Need-returns
 returns c =

@@ -1,5 +1,4 @@
 -- `write_lines` leaves the text at the start of the buffer: line 1, the labels' lines, the transitions'.
-use borrow.Author.Needs.{needs}
 use mathlib.Core.Path.{_≡_, _∙_}
 use native.Mathlib.Omega.{arith}
 use lib.ListN.{length}
@@ -32,15 +31,15 @@ module _ (c : tie.After-write-labels) where
   labels-kept : length (c .write-labels .last .1 .0) ≡ length (start first .args .text .now)
   labels-kept = c .write-labels .kept .1 .0 ∙ header-kept first
 
-write-steps-requires : tie.Need-write-steps-requires
-write-steps-requires c κs =
+step-lines-requires : tie.Need-step-lines-requires
+step-lines-requires c κs =
     let second = c .before .before .before in
     let held = start (first second) .pre in
     let r = held .0 .in-range in
     (held .0, omega (arith, labels-kept second, second .write-labels .ensures .1, r .few-labels, r .few-transitions, held .1))
 
 same-length : tie.Need-same-length
-same-length c = let third = c .before .before in third .write-steps .kept .1 .0 ∙ labels-kept (third .before .before .before .before)
+same-length c = let third = c .before .before in third .step-lines .kept .1 .0 ∙ labels-kept (third .before .before .before .before)
 
 returns : tie.Need-returns
 returns c =
@@ -48,10 +47,10 @@ returns c =
     let second = third .before .before .before .before in
     let begun = start (first second) in
     let labelled = second .write-labels in
-    let stepped = third .write-steps in
+    let stepped = third .step-lines in
     text-stands (begun .args .table .now) (begun .args .text .now) (begun .pre .0) (begun .pre .1) (first second .write-header .last .1 .0)
     (labelled .last .1 .0) (stepped .last .1 .0) (labelled .result) (stepped .result) (first second .write-header .ensures) (labelled .ensures .0)
     (labelled .ensures .1) (stepped .ensures)
 
 pub write-lines-spec : {M : Type 1} → statement M
-write-lines-spec = tie.close (tie.spec write-header-requires write-labels-requires write-steps-requires same-length returns)
+write-lines-spec = tie.close (tie.spec write-header-requires write-labels-requires step-lines-requires same-length returns)

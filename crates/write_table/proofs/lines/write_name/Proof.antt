@@ -3,7 +3,7 @@ use borrow.Author.Needs.{needs}
 use mathlib.Core.Path.{_≡_, ap, _∙_}
 use Prim.Native.Nat.{_+_, _-_, _≤_}
 use native.Mathlib.Omega.{arith}
-use lib.ListN.{length, take, drop}
+use lib.ListN.{length}
 use Rattle.columns.specs.inner.Write.{pasted}
 use Rattle.lts.specs.inner.Sizes.{longestName}
 use Rattle.lts.specs.inner.Prepared.{nameAt}

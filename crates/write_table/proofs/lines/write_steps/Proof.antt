@@ -1,6 +1,6 @@
 -- `write_steps` meets its contract: one line more stands there each turn.
 use borrow.Author.Needs.{needs}
-use mathlib.Core.Path.{_≡_, sym}
+use mathlib.Core.Path.{_≡_}
 use Prim.Native.Nat.{_+_, _*_, _-_, _≤_, _<_}
 use native.Mathlib.Omega.{arith}
 use lib.ListN.{length}
@@ -12,13 +12,13 @@ use Rattle.write_table.proofs.lines.write_steps.Statement.{statement}
 use Rattle.write_table.proofs.lines.write_steps.Tie as tie
 
 abbrev Inv-loop : tie.InvT-loop
-Inv-loop table text₀ at count end₀ k₀ text end k = StepsBelow table text₀ at k text end × (k ≤ count) × (end ≡ at + k * stepWidth)
+Inv-loop table kept text₀ at count end₀ k₀ text end k = StepsBelow table text₀ at k text end × (k ≤ count) × (end ≡ at + k * stepWidth)
 
 abbrev μ-loop : tie.MeasureT-loop
-μ-loop table text₀ at count end₀ k₀ text end k = count - k
+μ-loop table kept text₀ at count end₀ k₀ text end k = count - k
 
 loop-holds : tie.Need-loop-holds Inv-loop μ-loop
-loop-holds c = (pasting-none _ _ (omega (arith, c .before .before .before .pre .1)), omega arith, omega arith)
+loop-holds c = (pasting-none _ _ (omega (arith, c .before .before .before .before .pre .1)), omega arith, omega arith)
 
 -- At a transition's turn.
 module _ (c : tie.In-loop Inv-loop μ-loop) where
@@ -26,7 +26,7 @@ module _ (c : tie.In-loop Inv-loop μ-loop) where
   turn = c .before
 
   abbrev start : tie.Start Inv-loop μ-loop
-  start = turn .before .before .before .before
+  start = turn .before .before .before .before .before
 
   few : turn .loop .k < length (tableIn (start .args .table .now) .transitions)
   few = omega (arith, c .loop-test .taken, turn .before .transition-count .ensures .count)
@@ -38,7 +38,7 @@ write-step-requires : tie.Need-write-step-requires Inv-loop μ-loop
 write-step-requires c κs =
     let here = c .before in
     let held = start here .pre .0 in
-    (held .long, (omega (arith, few here, held .in-range .few-transitions), omega (arith, room here, pasting-length (turn here .loop .inv .0))))
+    ((held .0, few here), (held .1, omega (arith, room here, pasting-length (turn here .loop .inv .0))))
 
 add-end : tie.Need-add-end Inv-loop μ-loop
 add-end c = omega (arith, room (c .before .before .before .before))
@@ -50,7 +50,7 @@ loop-again c =
     let a = start here .args in
     let l = turn here .loop in
     let w = line .write-step in (
-      step-on (a .table .now) (a .text .now) (a .at) (l .k) (l .text) (l .end) (start here .pre .0) (l .inv .0) (few here) (w .last .1 .1 .0) (w .ensures) (room here),
+      step-on (a .table .now) (a .text .now) (a .at) (l .k) (l .text) (l .end) (start here .pre .0 .0) (l .inv .0) (few here) (w .last .1 .1 .1 .0) (w .ensures) (room here),
       omega (arith, here .loop-test .taken),
       omega (arith, l .inv .2),
     )
@@ -62,7 +62,7 @@ returns : tie.Need-returns Inv-loop μ-loop
 returns c =
     let turns = c .before in
     let l = turns .loop in
-    let a = turns .before .before .before .before .args in
+    let a = turns .before .before .before .before .before .args in
     steps-all (a .table .now) (a .text .now) (a .at) (l .k) (l .text) (l .end) (l .inv .0)
     (omega (arith, l .inv .1, c .loop-test .left, turns .before .transition-count .ensures .count))
 
