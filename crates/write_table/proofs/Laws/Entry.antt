@@ -9,12 +9,7 @@ use lib.ListN.{length}
 use borrow.Author.Tests.{le-leb, lt-leb}
 use Rattle.lts.specs.Sizes.{tableLength, longestTableText}
 use Rattle.lts.specs.Reply.{accepted, refusal, leftIn, answers}
-<<<<<<< HEAD
-use Rattle.lts.specs.Steps.{Table}
 use Rattle.lts.specs.TableText.{tableText}
-=======
-use Rattle.lts.specs.TableText.{tableText}
->>>>>>> writer
 use Rattle.lts.specs.Prepared.{withTable}
 use Rattle.lts.specs.inner.Answers.{isSome}
 use Rattle.lts.specs.inner.Prepared.{tableIn, preparedTable}

@@ -10,15 +10,9 @@ use Rattle.columns.proofs.Laws.Columns.{column-length}
 use Rattle.lts.specs.Sizes.{longestTableText}
 use Rattle.lts.specs.Names.{isName}
 use Rattle.lts.specs.Steps.{Step, Table, labels}
-<<<<<<< HEAD
-use Rattle.lts.specs.Text.{ended, headerLine, labelLine, transitionLine}
-use Rattle.lts.specs.TableText.{labelLines, transitionLines, tableText}
-use Rattle.lts.specs.inner.Range.{InRange, StepInRange}
-=======
 use Rattle.lts.specs.Text.{ended, headerLine, labelLine, transitionLine}
 use Rattle.lts.specs.TableText.{labelLines, transitionLines, tableText}
 use Rattle.lts.specs.inner.Range.{InRange}
->>>>>>> writer
 use Rattle.lts.proofs.Laws.NameRuns.{name-short}
 use Rattle.lts.proofs.Laws.Slots.{slots-length}
 
