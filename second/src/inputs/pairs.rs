@@ -49,9 +49,7 @@ const PAIRS: [Way<(), Pair>; 31] = [
     way("sent by the first, both marks in the second", 3, &[0], |rng, ()| {
         small(rng, |_| [vec!["!"], vec!["?", "!"]])
     }),
-    way("equal names", 5, &[0], |rng, ()| {
-        small(rng, |rng| twice(rng.pick(&[["", ""], ["!", "!"], ["?", "?"]])).map(Vec::from))
-    }),
+    way("equal names", 5, &[0], |rng, ()| small(rng, |rng| twice(vec![rng.pick(&["", "!", "?"])]))),
     way("equal stems, one of them marked", 3, &[0], |rng, ()| {
         small(rng, |rng| {
             let mark = rng.pick(&["!", "?"]);
