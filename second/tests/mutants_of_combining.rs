@@ -379,8 +379,7 @@ fn faults_in_the_names_of_the_result_are_found() {
             names.dedup();
             names
         } },
-        "n! alone if both marks are in both": { names: |mut names, first, second| {
-            // Right but for a lone n?, whose stem the result has as n! too.
+        "a lone n? beside a joint n! is lost": { names: |mut names, first, second| {
             names.retain(|name| {
                 let sent = [stem(name), b"!"].concat();
                 !(name.ends_with(b"?") && first.names.contains(&sent) && !second.names.contains(&sent))
@@ -451,7 +450,7 @@ fn faults_in_the_list_of_transitions_are_found() {
             }
             steps
         } },
-        "only from the pairs that are reached": { listed: |steps, _| {
+        "only from pairs that the first one with a step leads to": { listed: |steps, _| {
             let mut reached = BTreeSet::from([steps.first().map_or(0, |step| step.from)]);
             while let Some(step) =
                 steps.iter().find(|step| reached.contains(&step.from) && !reached.contains(&step.to))
