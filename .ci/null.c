@@ -31,6 +31,14 @@ int main(void)
     expect("read_table", n, f, EXPLAINER_TABLE_NOT_LAID_OUT, 1);
     n = explainer_read_table(text, strlen(m), table, sizeof table, &f);
     expect("read_table", n, f, EXPLAINER_ACCEPTED, 0);
+    n = explainer_table_text(NULL, 0, NULL, 0, &f);
+    expect("table_text", n, f, EXPLAINER_BUFFER_SHORT, EXPLAINER_TABLE_LENGTH);
+    n = explainer_table_text(table, sizeof table, NULL, 0, &f);
+    expect("table_text", n, f, EXPLAINER_BUFFER_SHORT, EXPLAINER_LONGEST_TABLE_TEXT);
+    n = explainer_combine(NULL, 0, NULL, 0, NULL, 0, &f);
+    expect("combine", n, f, EXPLAINER_BUFFER_SHORT, EXPLAINER_TABLE_LENGTH);
+    n = explainer_combine(table, sizeof table, table, sizeof table, NULL, 0, &f);
+    expect("combine", n, f, EXPLAINER_BUFFER_SHORT, EXPLAINER_TABLE_LENGTH);
     n = explainer_read_formula(NULL, 0, NULL, 0, NULL, 0, &f);
     expect("read_formula", n, f, EXPLAINER_BUFFER_SHORT, EXPLAINER_TABLE_LENGTH);
     n = explainer_read_formula(table, sizeof table, NULL, 0, formula, sizeof formula, &f);
@@ -65,7 +73,7 @@ int main(void)
         printf("a refusal writes a value\n");
         failed = 1;
     }
-    if (explainer_refusal(EXPLAINER_BUFFER_SHORT) == NULL || explainer_refusal(EXPLAINER_STARTS_BAD) == NULL || explainer_refusal(17) != NULL) {
+    if (explainer_refusal(EXPLAINER_BUFFER_SHORT) == NULL || explainer_refusal(EXPLAINER_TOO_MANY_TRANSITIONS) == NULL || explainer_refusal(20) != NULL) {
         printf("explainer_refusal has other words\n");
         failed = 1;
     }

@@ -20,8 +20,8 @@
 
 /* The lengths, in bytes, of a prepared table and a prepared formula, and of a place for a row and for an edge. A prepared buffer under its
    length is refused (14); past its length it is neither read nor written. n bytes lent for rows or edges are n / 3 or n / 5 places. What is
-   lent for the text of a formula has EXPLAINER_LONGEST_FORMULA_TEXT bytes or more, and for the answers at listed states
-   EXPLAINER_MOST_STATES or more; with fewer it is refused (14). */
+   lent for the text of a formula has EXPLAINER_LONGEST_FORMULA_TEXT bytes or more, for the answers at listed states
+   EXPLAINER_MOST_STATES or more, and for the text of a table EXPLAINER_LONGEST_TABLE_TEXT or more; with fewer it is refused (14). */
 #define EXPLAINER_TABLE_LENGTH 3718
 #define EXPLAINER_FORMULA_LENGTH 681
 #define EXPLAINER_ROW_LENGTH 3
@@ -64,9 +64,14 @@
 #define EXPLAINER_BUFFER_SHORT 14           /* the length that is needed */
 #define EXPLAINER_TEXT_TOO_LONG 15          /* the length of the text */
 #define EXPLAINER_STARTS_BAD 16             /* the index of the first such state */
+#define EXPLAINER_TOO_MANY_PAIRS 17         /* the count of pairs of states */
+#define EXPLAINER_TOO_MANY_LABELS 18        /* the count of labels of the combined table */
+#define EXPLAINER_TOO_MANY_TRANSITIONS 19   /* the count of its transitions, each once */
 
 /* The stack that each call takes at most, in bytes: measured on the inputs that take most, rounded up to a multiple of 16,384. */
 #define EXPLAINER_READ_TABLE_STACK 16384
+#define EXPLAINER_TABLE_TEXT_STACK 16384
+#define EXPLAINER_COMBINE_STACK 32768
 #define EXPLAINER_READ_FORMULA_STACK 196608
 #define EXPLAINER_WRITE_FORMULA_STACK 16384
 #define EXPLAINER_VERDICT_STACK 32768
@@ -81,6 +86,16 @@ extern "C" {
 
 /* Reads a table's text into a prepared table. Accepted: *figure is 0. Refused: 1 to 4, 14. */
 uint32_t explainer_read_table(const uint8_t *text, size_t text_len, uint8_t *table, size_t table_len, uint64_t *figure);
+
+/* Writes a prepared table as text, the one that reading takes to it. Accepted: *figure is the length of the text, which stands in the first
+   bytes lent for it; the others stay. Refused: 10, 14. */
+uint32_t explainer_table_text(const uint8_t *table, size_t table_len, uint8_t *text, size_t text_len, uint64_t *figure);
+
+/* Combines two prepared tables, running side by side, into a prepared table. Pair (i, j) of their states is state i * (states of second) + j.
+   Labels n! of one and n? of the other move only together, as n!; every other label, and the silent step, moves alone. Accepted: *figure is
+   0. Refused: 10 (0 for either), 14, 17 to 19. */
+uint32_t explainer_combine(const uint8_t *first, size_t first_len, const uint8_t *second, size_t second_len,
+                           uint8_t *combined, size_t combined_len, uint64_t *figure);
 
 /* Reads a formula's text, over a prepared table, into a prepared formula. Accepted: *figure is 0. Refused: 5 to 10, 14. */
 uint32_t explainer_read_formula(const uint8_t *table, size_t table_len, const uint8_t *text, size_t text_len,
@@ -140,6 +155,9 @@ static inline const char *explainer_refusal(uint32_t number)
     case EXPLAINER_BUFFER_SHORT: return "a prepared buffer, or the one for a text or for answers, is under its length";
     case EXPLAINER_TEXT_TOO_LONG: return "the formula's text is over 512 bytes, and not written";
     case EXPLAINER_STARTS_BAD: return "a listed state is not above the one before, or the table lacks it";
+    case EXPLAINER_TOO_MANY_PAIRS: return "the tables have over 256 pairs of states";
+    case EXPLAINER_TOO_MANY_LABELS: return "the combined table is over 40 labels";
+    case EXPLAINER_TOO_MANY_TRANSITIONS: return "the combined table is over 1,024 transitions";
     default: return NULL;
     }
 }

@@ -11,23 +11,26 @@ use crate::formula::{Formula, MAX_BYTES, MAX_NODES};
 use crate::inputs::kinds::Kinds;
 use crate::inputs::questions::{Question, longest_listing};
 use crate::inputs::rng::Rng;
-use crate::inputs::{tables, written};
+use crate::inputs::{pairs, tables, written};
 use crate::listing::Listing;
 use crate::prepared::{self, FORMULA_LENGTH, TABLE_LENGTH};
 use crate::reply::Reply;
-use crate::table::{MAX_LABELS, MAX_STATES, MAX_TRANSITIONS, Table};
+use crate::table::{MAX_LABELS, MAX_STATES, MAX_TEXT, MAX_TRANSITIONS, Table};
 use crate::word::MAX_WORD;
 
 /// The explainers are timed in turn, so often; the shortest time of each counts.
 const ROUNDS: usize = 31;
 const ROUND: Duration = Duration::from_millis(4);
 
+#[derive(Default)]
 struct Input {
     size: &'static str,
     table_text: Vec<u8>,
     formula_text: Vec<u8>,
     table: Vec<u8>,
     formula: Vec<u8>,
+    /// The table that is combined with the other.
+    second: Vec<u8>,
     /// All states.
     starts: Vec<u8>,
     word: Vec<u8>,
@@ -46,7 +49,7 @@ impl Input {
             formula: prepared::formula_bytes(formula),
             starts: (0..table.states).map(|state| state as u8).collect(),
             word: word_along(&Listing::of(table, formula)),
-            number: 0,
+            ..Input::default()
         }
     }
 }
@@ -207,14 +210,38 @@ fn longest() -> Input {
 fn to_write(size: &'static str, question: &Question) -> Input {
     Input {
         size,
-        table_text: Vec::new(),
-        formula_text: Vec::new(),
         table: prepared::table_bytes(&question.table),
         formula: prepared::formula_bytes(&question.formula),
-        starts: Vec::new(),
-        word: Vec::new(),
-        number: 0,
+        ..Input::default()
     }
+}
+
+/// What is combined.
+fn side_by_side() -> [Input; 3] {
+    let small = ["req", "ack"].map(|stem| [format!("{stem}!"), format!("{stem}?")]);
+    let [small, other] = [[0, 1], [1, 0]].map(|marks| {
+        let names = small.iter().zip(marks).map(|(names, mark)| names[mark].as_str());
+        drawn([2, 3], names.collect())
+    });
+    let typical = ["load", "unload", "clamp!", "release!", "frame?", "drop", "retry!", "ack?"];
+    let channel = ["clamp?", "release?", "frame!", "ack!", "lost", "retry?"];
+    [
+        to_combine("small", [small, other]),
+        to_combine("typical", [drawn([12, 30], typical.into()), drawn([8, 20], channel.into())]),
+        to_combine("largest", pairs::of_most(&mut Rng::new(3))),
+    ]
+}
+
+/// Of so many states and transitions.
+fn drawn([states, transitions]: [usize; 2], names: Vec<&str>) -> Table {
+    let kinds = &mut Kinds::default();
+    let drawn = tables::with_counts(&mut Rng::new(2), kinds, states, names.len(), transitions);
+    Table { names: names.into_iter().map(Vec::from).collect(), ..drawn }
+}
+
+fn to_combine(size: &'static str, tables: [Table; 2]) -> Input {
+    let [table, second] = tables.map(|table| prepared::table_bytes(&table));
+    Input { size, table, second, ..Input::default() }
 }
 
 /// The longest listing; its formula's text, with long names, is another of 40 nodes and 512 bytes.
@@ -253,6 +280,7 @@ fn word_along(listing: &Listing) -> Vec<u8> {
 struct Buffers {
     table: Vec<u8>,
     formula: Vec<u8>,
+    /// Of a formula or a table.
     text: Vec<u8>,
     answers: Vec<u8>,
     rows: Vec<u8>,
@@ -261,8 +289,10 @@ struct Buffers {
 
 type Call = fn(&Entries, &Input, &mut Buffers) -> Option<Reply>;
 
-const CALLS: [(&str, Call); 9] = [
+const CALLS: [(&str, Call); 11] = [
     ("read_table", read_table),
+    ("table_text", table_text),
+    (COMBINE, combine),
     ("read_formula", read_formula),
     ("write_formula", write_formula),
     ("verdict", verdict),
@@ -275,6 +305,16 @@ const CALLS: [(&str, Call); 9] = [
 
 fn read_table(of: &Entries, input: &Input, lent: &mut Buffers) -> Option<Reply> {
     Some(of.read_table?(&input.table_text, &mut lent.table))
+}
+
+fn table_text(of: &Entries, input: &Input, lent: &mut Buffers) -> Option<Reply> {
+    Some(of.table_text?(&input.table, &mut lent.text))
+}
+
+const COMBINE: &str = "combine";
+
+fn combine(of: &Entries, input: &Input, lent: &mut Buffers) -> Option<Reply> {
+    Some(of.combine?(&input.table, &input.second, &mut lent.table))
 }
 
 fn read_formula(of: &Entries, input: &Input, lent: &mut Buffers) -> Option<Reply> {
@@ -343,13 +383,13 @@ pub fn run(
     let mut lent = Buffers {
         table: vec![0; TABLE_LENGTH],
         formula: vec![0; FORMULA_LENGTH],
-        text: vec![0; MAX_BYTES],
+        text: vec![0; MAX_TEXT],
         answers: vec![0; MAX_STATES],
         rows: vec![0; 10_496 * ROW_PLACE],
         edges: vec![0; 1_000_000 * EDGE_PLACE],
     };
     write_row(out, before.is_some(), ["entry", "input"], HEAD.map(str::to_owned))?;
-    let (inputs, directed, alike) = (inputs(), directed(), alike());
+    let (inputs, directed, alike, side_by_side) = (inputs(), directed(), alike(), side_by_side());
     let (short_forms, many_names) = (short_forms(), many_names());
     let explainers = [before.unwrap_or(&NONE), library, &BASELINE];
     for (entry, call) in CALLS.into_iter().filter(|(entry, _)| entry.contains(part)) {
@@ -357,6 +397,7 @@ pub fn run(
         let alike = alike.iter().filter(|_| entry.starts_with("read_"));
         let short_forms = short_forms.iter().filter(|_| entry == "read_formula");
         let many_names = many_names.iter().filter(|_| entry == "write_formula");
+        let inputs = if entry == COMBINE { &side_by_side } else { &inputs };
         let inputs = inputs.iter().chain(directed).chain(alike).chain(short_forms);
         for input in inputs.chain(many_names) {
             let times = time(explainers.map(|of| (of, call)), input, &mut lent);

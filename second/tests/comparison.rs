@@ -52,6 +52,15 @@ fn a_number_or_a_kind_of_input_that_dries_up_is_told() {
     let count = Kind { part: "starts", name: "the count of states alone" };
     verdicts.kinds.get_mut(&count).expect("such lists").remove(&Outcome::of(16));
     assert!(told(verdicts).contains(&format!("verdicts: no {count} answered 16")));
+    let combine = tallies.iter_mut().find(|tally| tally.of == "combine").expect("two tables");
+    for (part, name) in [("tables", "41 labels"), ("arises", "twice, from both joints of a stem")] {
+        let kind = Kind { part, name };
+        assert!(combine.kinds.remove(&kind).is_some());
+        assert!(told(combine).contains(&format!("combine: no {kind}")));
+    }
+    let most = Kind { part: "tables", name: "1,024 transitions" };
+    combine.kinds.get_mut(&most).expect("such tables").remove(&Outcome::of(0));
+    assert!(told(combine).contains(&format!("combine: no {most} answered 0")));
 }
 
 #[test]

@@ -8,14 +8,16 @@ use std::path::PathBuf;
 
 use common::loops::with_loops;
 use second::digests::answers::Explainer;
-use second::digests::{self, BASE, Corpus, IDLE, MARKS, NAMES, SHORT, STARTS, WRITTEN, difference};
+use second::digests::{
+    self, BASE, COMBINED, Corpus, IDLE, MARKS, NAMES, SHORT, STARTS, WRITTEN, difference,
+};
 use second::entries::{self, Entries, SECOND};
 use second::prepared;
 use second::reply::Reply;
 use second::table::SILENT;
 
 /// Each corpus and its stored lines.
-fn stored() -> [(Corpus, Vec<&'static str>); 7] {
+fn stored() -> [(Corpus, Vec<&'static str>); 8] {
     let lines = |file: &'static str| file.lines().filter(|line| !line.starts_with('#')).collect();
     let base = lines(include_str!("../corpus/base.txt"));
     let marks = lines(include_str!("../corpus/marks.txt"));
@@ -24,6 +26,7 @@ fn stored() -> [(Corpus, Vec<&'static str>); 7] {
     let written = lines(include_str!("../corpus/written.txt"));
     let names = lines(include_str!("../corpus/names.txt"));
     let starts = lines(include_str!("../corpus/starts.txt"));
+    let combined = lines(include_str!("../corpus/combined.txt"));
     [
         (BASE, base),
         (MARKS, marks),
@@ -32,6 +35,7 @@ fn stored() -> [(Corpus, Vec<&'static str>); 7] {
         (WRITTEN, written),
         (NAMES, names),
         (STARTS, starts),
+        (COMBINED, combined),
     ]
 }
 
@@ -91,7 +95,8 @@ fn every_kind_has_a_stored_line_and_no_line_is_without_a_kind() {
 
 #[test]
 fn every_refusal_of_every_entry_is_among_the_answers() {
-    let [base, marks, short, idle, written, names, starts] = stored().map(|(_, lines)| lines);
+    let [base, marks, short, idle, written, names, starts, combined] =
+        stored().map(|(_, lines)| lines);
     all_are_among(
         &base,
         &[
@@ -131,6 +136,10 @@ fn every_refusal_of_every_entry_is_among_the_answers() {
         ],
     );
     all_are_among(&starts, &[("verdicts", &[0, 10, 14, 16])]);
+    all_are_among(
+        &combined,
+        &[("combine", &[0, 10, 14, 17, 18, 19]), ("table_text", &[0, 10, 14])],
+    );
 }
 
 fn all_are_among(lines: &[&str], expected: &[(&str, &[u32])]) {
@@ -213,10 +222,6 @@ fn lists_of_states_are_answered_by_whether_they_rise() {
         let number = if words[1].starts_with("bad-") { 16 } else { 0 };
         assert_eq!(words[4..], [format!("{number}:{}", words[2])], "{}", words[1]);
     }
-    let figures = |name: &str| -> BTreeSet<String> {
-        let lines = each(SECOND, &STARTS, "verdicts", name);
-        lines.iter().map(|line| line.split_whitespace().nth(2).expect("it").to_owned()).collect()
-    };
     for (name, figure) in [
         ("none", "1"),
         ("bad-count-alone", "0"),
@@ -226,8 +231,42 @@ fn lists_of_states_are_answered_by_whether_they_rise() {
         ("bad-300-entries", "256"),
         ("bad-70000-entries", "256"),
     ] {
-        assert_eq!(figures(name), BTreeSet::from([figure.to_owned()]), "{name}");
+        assert_eq!(figures(&STARTS, "verdicts", name), [figure.to_owned()].into(), "{name}");
     }
+}
+
+/// All that the second explainer answers to a kind.
+fn figures(corpus: &Corpus, entry: &str, name: &str) -> BTreeSet<String> {
+    let lines = each(SECOND, corpus, entry, name);
+    lines.iter().map(|line| line.split_whitespace().nth(2).expect("it").to_owned()).collect()
+}
+
+#[test]
+fn results_over_a_limit_are_answered_by_their_count() {
+    for (name, figure) in [
+        ("bad-258-pairs", "258"),
+        ("bad-41-labels", "41"),
+        ("bad-1025-transitions", "1025"),
+        ("bad-labels-and-transitions", "41"),
+        ("256-pairs", "0"),
+        ("40-labels", "0"),
+        ("1024-transitions", "0"),
+        ("largest", "0"),
+    ] {
+        assert_eq!(figures(&COMBINED, "combine", name), [figure.to_owned()].into(), "{name}");
+    }
+    assert_eq!(figures(&COMBINED, "table_text", "longest"), ["20321".to_owned()].into());
+}
+
+#[test]
+fn tables_in_the_other_order_change_their_inputs() {
+    let combine: entries::Combine =
+        |first, second, combined| entries::combine(second, first, combined);
+    let wrong = Entries { combine: Some(combine), ..SECOND };
+    assert!(differing_in(&COMBINED, wrong, "combine", "any-two") > 400);
+    assert!(differing_in(&COMBINED, wrong, "combine", "largest") > 30);
+    assert_eq!(differing_in(&COMBINED, wrong, "combine", "any-and-itself"), 0);
+    assert_eq!(differing_in(&COMBINED, wrong, "combine", "bad-41-labels"), 0);
 }
 
 #[test]

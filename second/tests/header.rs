@@ -14,7 +14,7 @@ use second::inputs::tables::longest_table;
 use second::interface::{Declared, INTERFACE};
 use second::prepared::{FORMULA_LENGTH, TABLE_LENGTH};
 use second::reply::{Refusal, Reply};
-use second::table::{IDLE, MAX_LABELS, MAX_NAME, MAX_STATES, MAX_TRANSITIONS};
+use second::table::{IDLE, MAX_LABELS, MAX_NAME, MAX_STATES, MAX_TEXT, MAX_TRANSITIONS};
 use second::word::MAX_WORD;
 
 /// Every constant of the header but those of the stack, which tests/stack.rs measures.
@@ -29,7 +29,7 @@ fn constants() -> Vec<(&'static str, usize)> {
         ("MOST_LABELS", MAX_LABELS),
         ("MOST_TRANSITIONS", MAX_TRANSITIONS),
         ("LONGEST_NAME", MAX_NAME),
-        ("LONGEST_TABLE_TEXT", longest_table(&mut Rng::new(1)).text().len()),
+        ("LONGEST_TABLE_TEXT", MAX_TEXT),
         ("LONGEST_FORMULA_TEXT", MAX_BYTES),
         ("MOST_NODES", MAX_NODES),
         ("MOST_ROWS", (MAX_NODES + 1) * MAX_STATES),
@@ -55,6 +55,9 @@ fn constants() -> Vec<(&'static str, usize)> {
         ("BUFFER_SHORT", number(Refusal::ShortBuffer(0))),
         ("TEXT_TOO_LONG", number(Refusal::TextLength(0))),
         ("STARTS_BAD", number(Refusal::Start(0))),
+        ("TOO_MANY_PAIRS", number(Refusal::PairCount(0))),
+        ("TOO_MANY_LABELS", number(Refusal::LabelCount(0))),
+        ("TOO_MANY_TRANSITIONS", number(Refusal::TransitionCount(0))),
     ]
 }
 
@@ -69,6 +72,11 @@ fn the_constants_are_those_of_the_second_explainer() {
         expected.map(|(name, value)| (format!("EXPLAINER_{name}"), value as u64)).collect();
     let stated = defines().into_iter().filter(|(name, _)| !name.ends_with("_STACK"));
     assert_eq!(stated.collect::<Vec<_>>(), expected);
+}
+
+#[test]
+fn the_longest_text_of_a_table_has_the_most_bytes() {
+    assert_eq!(longest_table(&mut Rng::new(1)).text().len(), MAX_TEXT);
 }
 
 #[test]
@@ -117,11 +125,11 @@ fn each_function_has_a_figure_for_its_stack_and_the_documents_have_it_too() {
 fn each_returned_number_has_words() {
     let header = header();
     let defines = defines().into_iter();
-    let returned = defines.skip_while(|(name, _)| name != "EXPLAINER_ACCEPTED").take(17);
+    let returned = defines.skip_while(|(name, _)| name != "EXPLAINER_ACCEPTED").take(20);
     for (name, _) in returned {
         let words = header.split(&format!("case {name}: return \"")).nth(1);
         let words = words.and_then(|rest| rest.split_once("\";"));
         assert!(words.is_some_and(|(words, _)| !words.is_empty()), "{name}");
     }
-    assert_eq!(header.matches("case EXPLAINER_").count(), 17);
+    assert_eq!(header.matches("case EXPLAINER_").count(), 20);
 }

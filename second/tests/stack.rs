@@ -7,7 +7,8 @@ use std::process::{Command, ExitStatus};
 
 use common::header::defines;
 use second::compare::{
-    Accepts, Build, Case, Explain, Lent, ReadFormula, ReadTable, Verdict, Verdicts, WriteFormula,
+    Accepts, Build, Case, Combine, Explain, Lent, ReadFormula, ReadTable, TableText, Verdict,
+    Verdicts, WriteFormula,
 };
 use second::entries::{EDGE_PLACE, ROW_PLACE};
 use second::formula::{Formula, MAX_BYTES};
@@ -16,12 +17,12 @@ use second::inputs::questions::Question;
 use second::inputs::questions::longest_listing;
 use second::inputs::rng::Rng;
 use second::inputs::tables::longest_table;
-use second::inputs::written;
+use second::inputs::{pairs, written};
 use second::interface::INTERFACE;
 use second::link::library;
 use second::link::stack::{PAGE, Stack};
 use second::prepared::{self, FORMULA_LENGTH, TABLE_LENGTH};
-use second::table::{MAX_STATES, Table};
+use second::table::{MAX_STATES, MAX_TEXT, Table};
 
 /// More than any call takes.
 const PLENTY: usize = 1 << 20;
@@ -163,6 +164,20 @@ fn calls(entry: &str) -> Vec<Call> {
             let text = longest_table(&mut Rng::new(5)).text();
             calls.push(call(ReadTable { text, table: lent(TABLE_LENGTH) }));
             calls.extend(random(1).map(|mut rng| call(fuzz::read_table(&mut rng).case)));
+        }
+        "table_text" => {
+            let table = prepared::table_bytes(&longest_table(&mut Rng::new(5)));
+            calls.push(call(TableText { table, text: lent(MAX_TEXT) }));
+            calls.extend(random(9).map(|mut rng| call(fuzz::table_text(&mut rng).case)));
+        }
+        "combine" => {
+            let rng = &mut Rng::new(6);
+            calls.extend((0..4).map(|_| {
+                let [first, second] =
+                    pairs::of_most(rng).map(|table| prepared::table_bytes(&table));
+                call(Combine { first, second, combined: lent(TABLE_LENGTH) })
+            }));
+            calls.extend(random(10).map(|mut rng| call(fuzz::combine(&mut rng).case)));
         }
         "read_formula" => {
             let table = prepared::table_bytes(&small_table());

@@ -1,9 +1,10 @@
 //! The corpus `base`, whose answers `corpus/base.txt` holds. This generator is left alone and uses
 //! nothing else of the crate, so that its inputs stay what they are, byte for byte; new kinds of
-//! input get a new corpus beside it, as in `marks`, `short`, `idle`, `written`, `names` and
-//! `starts`.
+//! input get a new corpus beside it, as in `marks`, `short`, `idle`, `written`, `names`, `starts` and
+//! `combined`.
 
 mod calls;
+pub mod combined;
 mod damage;
 mod folders;
 mod formulas;
@@ -48,6 +49,15 @@ pub enum Input {
     ReadTable {
         text: Vec<u8>,
         table: Lent,
+    },
+    TableText {
+        table: Vec<u8>,
+        text: Lent,
+    },
+    Combine {
+        first: Vec<u8>,
+        second: Vec<u8>,
+        combined: Lent,
     },
     ReadFormula {
         table: Vec<u8>,
@@ -235,5 +245,6 @@ mod tests {
         no_two_have_one_name(written::kinds());
         no_two_have_one_name(names::kinds());
         no_two_have_one_name(starts::kinds());
+        no_two_have_one_name(combined::kinds());
     }
 }

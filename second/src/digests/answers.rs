@@ -109,6 +109,20 @@ fn call(entries: &Entries, input: &Input, shown: &mut Shown) -> Option<Reply> {
             shown.buffers(&[&text, &table]);
             reply
         }
+        Input::TableText { table, text } => {
+            let (table, mut text) = (table.clone(), text.buffer());
+            let reply = entries.table_text?(&table, inside(&mut text));
+            shown.reply("table_text", reply);
+            shown.buffers(&[&table, &text]);
+            reply
+        }
+        Input::Combine { first, second, combined } => {
+            let (first, second, mut combined) = (first.clone(), second.clone(), combined.buffer());
+            let reply = entries.combine?(&first, &second, inside(&mut combined));
+            shown.reply("combine", reply);
+            shown.buffers(&[&first, &second, &combined]);
+            reply
+        }
         Input::ReadFormula { table, text, formula } => {
             let (table, text, mut formula) = (table.clone(), text.clone(), formula.buffer());
             let reply = entries.read_formula?(&table, &text, inside(&mut formula));

@@ -22,6 +22,14 @@ impl Inputs {
                 self.bytes(&[text]);
                 self.lent(&[table]);
             }
+            Input::TableText { table, text } => {
+                self.bytes(&[table]);
+                self.lent(&[text]);
+            }
+            Input::Combine { first, second, combined } => {
+                self.bytes(&[first, second]);
+                self.lent(&[combined]);
+            }
             Input::ReadFormula { table, text, formula } => {
                 self.bytes(&[table, text]);
                 self.lent(&[formula]);

@@ -62,7 +62,13 @@ pub const STARTS: Corpus = Corpus {
     kinds: || corpus::starts::kinds().collect(),
 };
 
-pub const CORPORA: [Corpus; 7] = [BASE, MARKS, SHORT, IDLE, WRITTEN, NAMES, STARTS];
+pub const COMBINED: Corpus = Corpus {
+    name: "combined",
+    generator: "second/src/corpus/combined.rs",
+    kinds: || corpus::combined::kinds().collect(),
+};
+
+pub const CORPORA: [Corpus; 8] = [BASE, MARKS, SHORT, IDLE, WRITTEN, NAMES, STARTS, COMBINED];
 
 impl Corpus {
     pub fn kinds(&self) -> Vec<Kind> {

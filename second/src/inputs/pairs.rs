@@ -49,9 +49,7 @@ const PAIRS: [Way<(), Pair>; 31] = [
     way("sent by the first, both marks in the second", 3, &[0], |rng, ()| {
         small(rng, |_| [vec!["!"], vec!["?", "!"]])
     }),
-    way("equal names", 5, &[0], |rng, ()| {
-        small(rng, |rng| twice(rng.pick(&[["", ""], ["!", "!"], ["?", "?"]])).map(Vec::from))
-    }),
+    way("equal names", 5, &[0], |rng, ()| small(rng, |rng| twice(vec![rng.pick(&["", "!", "?"])]))),
     way("equal stems, one of them marked", 3, &[0], |rng, ()| {
         small(rng, |rng| {
             let mark = rng.pick(&["!", "?"]);
@@ -157,14 +155,18 @@ fn any_marks(rng: &mut Rng) -> Vec<&'static str> {
 fn named(rng: &mut Rng, marks: fn(&mut Rng) -> Marks) -> [Names; 2] {
     let (count, longest) = (rng.between(1, 4), longest(rng));
     let stems = different(rng, count, |rng| name(rng, longest));
+    of_stems(&stems, || marks(rng)).map(|mut names| {
+        rng.shuffle(&mut names);
+        names
+    })
+}
+
+fn of_stems(stems: &Names, mut marks: impl FnMut() -> Marks) -> [Names; 2] {
     let mut names = [Names::new(), Names::new()];
-    for stem in &stems {
-        for (names, marks) in names.iter_mut().zip(marks(rng)) {
+    for stem in stems {
+        for (names, marks) in names.iter_mut().zip(marks()) {
             names.extend(marks.iter().map(|mark| [stem, mark.as_bytes()].concat()));
         }
-    }
-    for names in &mut names {
-        rng.shuffle(names);
     }
     names
 }
@@ -212,12 +214,7 @@ fn names_of(rng: &mut Rng, labels: usize) -> [Names; 2] {
     loop {
         let longest = longest(rng);
         let stems = different(rng, labels, |rng| name(rng, longest));
-        let mut names = [Names::new(), Names::new()];
-        for stem in &stems {
-            for (names, marks) in names.iter_mut().zip(rng.pick(kinds)) {
-                names.extend(marks.iter().map(|mark| [stem, mark.as_bytes()].concat()));
-            }
-        }
+        let names = of_stems(&stems, || rng.pick(kinds).map(Vec::from));
         if names.iter().all(|names| names.len() <= MAX_LABELS) {
             return names;
         }

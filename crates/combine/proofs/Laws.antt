@@ -1,0 +1,1 @@
+-- Laws that several proofs cite, by topic.
