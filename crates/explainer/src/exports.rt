@@ -7,6 +7,8 @@ ghost use Rattle.starts.specs.VerdictsAsked.{verdictsReplied, verdictsLeft};
 ghost use Rattle.automaton.specs.Build.{buildReplied, rowsLeft, edgesLeft};
 ghost use Rattle.automaton.specs.WordAsked.{wordReplied};
 ghost use Rattle.written_back.specs.FormulaWriting.{formulaWritten, textLeft};
+ghost use Rattle.write_table.specs.TableWriting.{tableWritten, tableTextLeft};
+ghost use Rattle.side_by_side.specs.Combining.{combineReplied, combinedLeft};
 ghost use Rattle.replies.specs.Interface.{numberIn, figureIn, edgesIn};
 ghost use Rattle.explanations.specs.Explanation.{explaining};
 ghost use Rattle.explainer.specs.Interface.{Returned, Promised};
@@ -15,12 +17,15 @@ use crate::explained::Values;
 use crate::explained::explain_answer;
 use crate::explained::explain_values;
 use building::build;
+use combine::combine;
 use formula_text::read_formula;
 use labelling::verdict;
 use replies::build_answer;
 use replies::build_edges;
+use replies::combine_answer;
 use replies::formula_answer;
 use replies::table_answer;
+use replies::text_answer;
 use replies::verdict_answer;
 use replies::verdicts_answer;
 use replies::word_answer;
@@ -37,6 +42,34 @@ pub extern "C" fn explainer_read_table(text: &[u8], table: &mut [u8], figure: &m
     ensures { λ _. ⌜ now (figure .exit) ≡ figureIn (λ _. 0) (tableReplied (now (text .entry)) (now (table .entry))) ⌝ }
 {
     let answer = table_answer(read_table(text, table));
+    *figure = answer.figure;
+    answer.number
+}
+
+#[no_mangle]
+pub extern "C" fn explainer_table_text(table: &[u8], text: &mut [u8], figure: &mut u64) -> u32
+    ensures { λ r. ⌜ r ≡ numberIn (tableWritten (now (table .entry)) (now (text .entry))) ⌝ }
+    ensures { λ _. ⌜ now (text .exit) ≡ tableTextLeft (now (table .entry)) (now (text .entry)) ⌝ }
+    ensures { λ _. ⌜ now (figure .exit) ≡ figureIn (λ length. length) (tableWritten (now (table .entry)) (now (text .entry))) ⌝ }
+{
+    let answer = text_answer(write_table::table_text(table, text));
+    *figure = answer.figure;
+    answer.number
+}
+
+#[no_mangle]
+pub extern "C" fn explainer_combine(
+    first: &[u8],
+    second: &[u8],
+    combined: &mut [u8],
+    figure: &mut u64,
+) -> u32
+    ensures { λ r. ⌜ r ≡ numberIn (combineReplied (now (first .entry)) (now (second .entry)) (now (combined .entry))) ⌝ }
+    ensures { λ _. ⌜ now (combined .exit) ≡ combinedLeft (now (first .entry)) (now (second .entry)) (now (combined .entry)) ⌝ }
+    ensures { λ _. ⌜ now (figure .exit) ≡ figureIn (λ _. 0)
+        (combineReplied (now (first .entry)) (now (second .entry)) (now (combined .entry))) ⌝ }
+{
+    let answer = combine_answer(combine(first, second, combined));
     *figure = answer.figure;
     answer.number
 }

@@ -8,9 +8,12 @@ ghost use Rattle.verdicts.specs.Replies.{verdictsReply};
 ghost use Rattle.building.specs.Replies.{buildReply};
 ghost use Rattle.words.specs.Replies.{wordReply};
 ghost use Rattle.write_formula.specs.Replies.{writeReply};
+ghost use Rattle.combine.specs.Replies.{combineReply};
+ghost use Rattle.write_table.specs.Replies.{textReply};
 ghost use Rattle.replies.specs.inner.Says.{Says};
 ghost use Rattle.replies.specs.Interface.{edgesIn};
 use building::BuildReply;
+use combine::CombineReply;
 use formula_check::inputs::Unprepared;
 use formula_text::FormulaReply;
 use labelling::VerdictReply;
@@ -18,6 +21,7 @@ use table_text::TableReply;
 use verdicts::VerdictsReply;
 use words::WordReply;
 use write_formula::WriteReply;
+use write_table::TextReply;
 
 // What is said of a reply: the number of a refusal, or 0; and the figure.
 pub struct Answer {
@@ -134,5 +138,28 @@ pub fn write_answer(reply: WriteReply) -> Answer
         WriteReply::Written(length) => numbered(0, length),
         WriteReply::TooLong(needed) => numbered(15, needed),
         WriteReply::Refused(why) => unprepared_answer(why),
+    }
+}
+
+pub fn combine_answer(reply: CombineReply) -> Answer
+    ensures { λ r. ⌜ Says (λ _. 0) (combineReply reply) r ⌝ }
+{
+    match reply {
+        CombineReply::Combined => numbered(0, 0),
+        CombineReply::TooManyPairs(pairs) => numbered(17, pairs),
+        CombineReply::TooManyLabels(labels) => numbered(18, labels),
+        CombineReply::TooManyTransitions(transitions) => numbered(19, transitions),
+        CombineReply::TableForeign => numbered(10, 0),
+        CombineReply::BufferShort(needed) => numbered(14, needed),
+    }
+}
+
+pub fn text_answer(reply: TextReply) -> Answer
+    ensures { λ r. ⌜ Says (λ length. length) (textReply reply) r ⌝ }
+{
+    match reply {
+        TextReply::Written(length) => numbered(0, length),
+        TextReply::TableForeign => numbered(10, 0),
+        TextReply::BufferShort(needed) => numbered(14, needed),
     }
 }
