@@ -4,20 +4,24 @@ use mathlib.Core.List.{List}
 use mathlib.Core.Option.{some}
 use Prim.Native.Nat.{ℕ}
 use Rattle.explanations.specs.inner.Printed.{TextWritten}
-use Rattle.files.specs.inner.Writing.{PrefixLength}
 use Rattle.lts.specs.Reading.{readTable}
-use Rattle.lts.specs.Reply.{Reply, accepted}
+use Rattle.lts.specs.Reply.{accepted, refusal}
 use Rattle.lts.specs.Steps.{Table}
 use Rattle.lts.specs.TableText.{tableText}
 use Rattle.lts.specs.inner.Prepared.{preparedTable}
 use Rattle.replies.specs.declared.Answer.{Answer}
-use Rattle.replies.specs.inner.Says.{Says}
 use Rattle.side_by_side.specs.Combining.{combining}
 use Rattle.combined_text.specs.CombinedText.{unlessRefused}
 
+-- The table of a file, prepared.
+pub record FileHeld (file table : List ℕ) : Type 0 where
+  pub t : Table
+  pub read : readTable file ≡ accepted t
+  pub held : preparedTable table ≡ some t
+
 pub record FileRead (file table : List ℕ) (a : Answer) : Type 0 where
-  pub says : Says (λ _. 0) (readTable file) a
-  pub holds : (t : Table) → readTable file ≡ accepted t → preparedTable table ≡ some t
+  pub refused : (a .number ≡ 0 → ⊥) → readTable file ≡ refusal (a .number) (a .figure)
+  pub taken : a .number ≡ 0 → FileHeld file table
 
 -- The tables that prepared bytes hold.
 pub record BothHeld (one two : List ℕ) : Type 0 where
@@ -29,8 +33,3 @@ pub record BothHeld (one two : List ℕ) : Type 0 where
 -- What is written of two tables, for a buffer that held `before`.
 abbrev pub BothWritten : List ℕ → List ℕ → List ℕ → List ℕ → ℕ → Type 0
 BothWritten one two before out n = (h : BothHeld one two) → TextWritten (unlessRefused 0 (combining (h .f) (h .s)) tableText) before out n
-
--- And of two files.
-pub record TextLeft (text before out : List ℕ) (n : ℕ) : Type 0 where
-  pub written : TextWritten text before out n
-  pub prefix : PrefixLength n out
