@@ -1,3 +1,4 @@
 pub mod Both
 pub mod Examples
+pub mod Lines
 pub mod Right

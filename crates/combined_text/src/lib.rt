@@ -21,11 +21,11 @@ ghost use Rattle.combined_text.specs.inner.Reading.{FileRead, BothHeld, 
 pub const COMBINED_LENGTH: usize = LONGEST_TABLE_TEXT;
 
 // A refusal's line, about one of the files or about both together.
-fn write_refused(file: u64, said: Answer, out: &mut [u8]) -> usize
+fn write_refused(file: u64, number: u32, figure: u64, out: &mut [u8]) -> usize
     requires { ⌜ 81 ≤ length (now out) ⌝ }
-    ensures { λ r. ⌜ TextWritten (refusedLine file (said .number) (said .figure)) (now (out .entry)) (now (out .exit)) r ⌝ }
+    ensures { λ r. ⌜ TextWritten (refusedLine file number figure) (now (out .entry)) (now (out .exit)) r ⌝ }
 {
-    write_numbers([said.number as u64, said.figure, file, 0], 3, out, 0)
+    write_numbers([number as u64, figure, file, 0], 3, out, 0)
 }
 
 // Reads a file's table.
@@ -44,7 +44,7 @@ fn write_both(first: &[u8], second: &[u8], out: &mut [u8]) -> usize
     let mut combined = [0u8; TABLE_LENGTH];
     let said = combine_answer(combine(first, second, &mut combined));
     if said.number != 0 {
-        return write_refused(0, said, out);
+        return write_refused(0, said.number, said.figure, out);
     }
     let written = text_answer(write_table::table_text(&combined, out));
     written.figure as usize
@@ -59,12 +59,12 @@ fn write_files(firstfile: &[u8], secondfile: &[u8], out: &mut [u8]) -> usize
     let mut first = [0u8; TABLE_LENGTH];
     let one = read_file(firstfile, &mut first);
     if one.number != 0 {
-        return write_refused(1, one, out);
+        return write_refused(1, one.number, one.figure, out);
     }
     let mut second = [0u8; TABLE_LENGTH];
     let two = read_file(secondfile, &mut second);
     if two.number != 0 {
-        return write_refused(2, two, out);
+        return write_refused(2, two.number, two.figure, out);
     }
     write_both(&first, &second, out)
 }

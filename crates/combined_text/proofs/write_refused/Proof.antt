@@ -17,7 +17,7 @@ returns : tie.Need-returns
 returns c =
     let w = c .before .before .write-numbers in
     let a = c .before .before .before .before .before .args in
-    record { is = w .ensures .1 .0 ∙ pasted-start (a .out .now) (refusedLine (a .file) (a .said .number) (a .said .figure)); ends = w .ensures .0 ∙ zero-add _ }
+    record { is = w .ensures .1 .0 ∙ pasted-start (a .out .now) (refusedLine (a .file) (a .number) (a .figure)); ends = w .ensures .0 ∙ zero-add _ }
 
 pub write-refused-spec : {M : Type 1} → statement M
 write-refused-spec = tie.close (tie.spec write-numbers-requires same-length returns)
