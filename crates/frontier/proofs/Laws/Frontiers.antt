@@ -14,6 +14,7 @@ use Rattle.frontier.specs.inner.Sizes.{frontierLength}
 use Rattle.lts.proofs.Booleans.{or-true-right, or-false}
 use Rattle.bits.specs.inner.Bits.{bitAt}
 use Rattle.bits.proofs.Laws.Bits.{bit-or, bit-zero, bit-pow}
+use Rattle.bits.proofs.Laws.Zeros.{zero-here, zero-kept}
 use Rattle.target_masks.proofs.Laws.Places.{zeros-at}
 use Rattle.frontier.specs.inner.Frontier.{marksAt, hasState, placesAt, nowhere, emptied, brought, FirstFrom}
 
@@ -46,18 +47,6 @@ unmarked frontier v q e = ap (λ b. bitAt (cond b (getD frontier v 0) 0) q) (ap 
 
 pub nowhere-reached : (v q : ℕ) → reachedAt nowhere v q ≡ false
 nowhere-reached v q = unmarked nowhere v q (zeros-at frontierLength (256 + v / 64))
-
-zero-here : (l : List ℕ) (i : ℕ) → getD (set l i 0) i 0 ≡ 0
-zero-here [] i = refl
-zero-here (x ∷ l) zero = refl
-zero-here (x ∷ l) (suc i) = zero-here l i
-
-zero-kept : (l : List ℕ) (i j : ℕ) → getD l j 0 ≡ 0 → getD (set l i 0) j 0 ≡ 0
-zero-kept [] i j e = e
-zero-kept (x ∷ l) zero zero e = refl
-zero-kept (x ∷ l) zero (suc j) e = e
-zero-kept (x ∷ l) (suc i) zero e = e
-zero-kept (x ∷ l) (suc i) (suc j) e = zero-kept l i j e
 
 module _ (frontier : List ℕ) where
   abbrev one : List ℕ
