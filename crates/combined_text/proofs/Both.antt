@@ -1,20 +1,19 @@
 -- Two tables combined and written: what is said of them, and the text that is left.
 use mathlib.Core.Path.{_≡_, refl, sym, ap, _∙_, subst}
-use mathlib.Core.List.{List, _++_}
+use mathlib.Core.List.{List}
 use mathlib.Core.Option.{some}
-use Prim.Native.Nat.{ℕ, _≤_, _<_}
+use Prim.Native.Nat.{ℕ, _≤_}
 use native.Mathlib.Omega.{arith}
-use lib.Dec.{leb}
 use lib.ListN.{length}
 use borrow.Author.Tests.{le-leb}
-use Rattle.lts.specs.Prepared.{tableBytes, withTable}
+use Rattle.lts.specs.Prepared.{tableBytes}
 use Rattle.lts.specs.Reply.{Reply, accepted, refusal, overwritten, leftIn, answers}
 use Rattle.lts.specs.Sizes.{tableLength, longestTableText}
 use Rattle.lts.specs.Steps.{Table}
 use Rattle.lts.specs.TableText.{tableText}
 use Rattle.lts.specs.inner.Prepared.{preparedTable}
 use Rattle.lts.proofs.Laws.Prepared.{prepared-of, prepared-to, prepared-length}
-use Rattle.lts.proofs.Laws.Refusals.{Numbered, numbered-of}
+use Rattle.lts.proofs.Laws.Refusals.{numbered-of}
 use Rattle.explanations.specs.inner.Printed.{TextWritten}
 use Rattle.explainer.proofs.Answers.{refused-so}
 use Rattle.replies.specs.Interface.{numberIn, figureIn}
@@ -24,7 +23,6 @@ use Rattle.side_by_side.specs.Combining.{combining, combineAsked, combineReplie
 use Rattle.side_by_side.proofs.Accepted.{asked-combining, accepted-range}
 use Rattle.side_by_side.proofs.Answered.{left-begins, combining-numbers}
 use Rattle.write_table.specs.TableWriting.{tableWriting, tableWritten, tableTextLeft}
-use Rattle.combined_text.specs.CombinedText.{refusedLine, unlessRefused}
 use Rattle.combined_text.specs.inner.Reading.{BothHeld}
 
 -- What is said of a part of the values is said of the reply.

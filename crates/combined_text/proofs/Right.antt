@@ -1,13 +1,10 @@
 -- What is written for what was read of two files is what the program is to write for them: `combined-right`.
 use mathlib.Core.Path.{_≡_, ap₂, _∙_}
 use mathlib.Core.List.{List}
-use Prim.Native.Nat.{ℕ, _≤_}
-use lib.ListN.{take}
-use Rattle.lts.specs.Reading.{readTable}
+use Prim.Native.Nat.{ℕ}
 use Rattle.lts.specs.Reply.{Reply}
 use Rattle.lts.specs.Steps.{Table}
 use Rattle.lts.specs.TableText.{tableText}
-use Rattle.lts.specs.inner.Sizes.{enoughTableText}
 use Rattle.lts.proofs.Laws.Bounded.{reading-bounded}
 use Rattle.files.specs.inner.Files.{Begins}
 use Rattle.side_by_side.specs.Combining.{combining}

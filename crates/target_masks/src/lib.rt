@@ -19,7 +19,7 @@ ghost use Prim.Native.Nat.{_+_, _^_, _<_, _≤_};
 ghost use lib.Dec.{eqb};
 ghost use lib.ListN.{length, getD};
 ghost use Rattle.actl.specs.Sizes.{mostNodes, formulaLength};
-ghost use Rattle.automaton.specs.inner.Sizes.{placeCount, columnCount};
+ghost use Rattle.automaton.specs.inner.Sizes.{columnCount};
 ghost use Rattle.lts.specs.inner.Steps.{Carried};
 ghost use Rattle.actl.specs.Actions as actions;
 ghost use Rattle.actl.specs.Formulas.{Formula};

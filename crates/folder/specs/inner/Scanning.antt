@@ -3,7 +3,7 @@ use mathlib.Core.Path.{_≡_}
 use mathlib.Core.List.{List}
 use Prim.Native.Nat.{ℕ}
 use Rattle.files.specs.declared.Scanned.{Scanned}
-use Rattle.files.specs.inner.Scan.{Scan, scanChunks}
+use Rattle.files.specs.inner.Scan.{scanChunks}
 
 -- From one state of the scan to a later one.
 pub record ScannedOn (head : List ℕ) (scanned : Scanned) (head′ : List ℕ) (scanned′ : Scanned) : Type 0 where

@@ -9,13 +9,13 @@ use lib.Dec.{leb, ltb}
 use lib.ListN.{length, drop}
 use Rattle.lts.specs.Sizes.{mostStates, mostLabels, mostTransitions, tableLength}
 use Rattle.lts.specs.Reply.{Reply, accepted, refusal, unless, overwritten, leftIn, answers}
-use Rattle.lts.specs.Steps.{Step, Table}
+use Rattle.lts.specs.Steps.{Table}
 use Rattle.lts.specs.Reading.{Header, firstLine, headerOf, headerLaidOut, headerInRange, readTable, readTableWith}
 use Rattle.lts.specs.inner.Reading.{readLabels}
 use Rattle.lts.specs.Prepared.{tableBytes}
 use Rattle.table_text.specs.Replies.{tableReply}
 use Rattle.lts.specs.TableReading.{tableReading, tableReplied, tableLeft}
-use Rattle.lts.specs.inner.Slots.{nameBytes, stepBytes, headBytes}
+use Rattle.lts.specs.inner.Slots.{headBytes}
 use Rattle.lts.specs.inner.Lines.{LineAt, NoLineAt}
 use Rattle.table_text.specs.inner.Progress.{Refuses, LinesRead, isAccepted}
 use Rattle.table_text.specs.declared.TableReply.{TableReply}
