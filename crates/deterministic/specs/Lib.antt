@@ -1,0 +1,5 @@
+pub mod Sizes
+pub mod Automata
+pub mod Smallest
+pub mod Bytes
+pub mod inner

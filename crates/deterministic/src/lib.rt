@@ -1,0 +1,2 @@
+// Deterministic automata, and the smallest one of a language: definitions and laws; the code is in the crates above.
+pub mod sizes;
