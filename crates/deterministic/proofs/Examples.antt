@@ -8,7 +8,8 @@ use Rattle.deterministic.specs.inner.Lists.{sameLists}
 use Rattle.deterministic.specs.Automata.{edge, Automaton, bare}
 use Rattle.deterministic.specs.inner.Search.{numberOf, movesFrom, visit, visits, expand, search, found, movesUpto, automatonOf}
 use Rattle.deterministic.specs.inner.Blocks.{signature, refine, refined, blocks}
-use Rattle.deterministic.specs.inner.Subsets.{setOf, startSet, stepSet, finalSet, nonempty, sets, minimized, smallest}
+use Rattle.deterministic.specs.inner.Subsets.{setOf, startSet, stepSet, finalSet, nonempty, sets, smallest}
+use Rattle.deterministic.specs.inner.Arrays.{numbered}
 
 abbrev alphabet : List ℕ
 alphabet = 0 ∷ 1 ∷ 99 ∷ []
@@ -18,7 +19,7 @@ abbrev forked : Automaton
 forked = record { final = true ∷ false ∷ false ∷ []; edges = edge 0 0 1 ∷ edge 0 0 2 ∷ edge 1 1 0 ∷ edge 2 1 0 ∷ [] }
 
 forked-smallest : smallest forked alphabet 256 ≡ record { final = true ∷ false ∷ []; edges = edge 0 0 1 ∷ edge 1 1 0 ∷ [] }
-unfolding smallest minimized sets found search expand visits visit movesFrom movesUpto numberOf automatonOf sameLists setOf startSet stepSet finalSet nonempty blocks refined refine signature
+unfolding smallest numbered sets found search expand visits visit movesFrom movesUpto numberOf automatonOf sameLists setOf startSet stepSet finalSet nonempty blocks refined refine signature
 forked-smallest = refl
 
 -- Three sets, two of them with the same words, and a silent loop.
@@ -30,7 +31,7 @@ unfolding sets found search expand visits visit movesFrom numberOf sameLists set
 doubled-sets = refl
 
 doubled-smallest : smallest doubled alphabet 256 ≡ record { final = true ∷ false ∷ []; edges = edge 0 0 1 ∷ edge 0 1 1 ∷ edge 1 1 0 ∷ edge 1 99 1 ∷ [] }
-unfolding smallest minimized sets found search expand visits visit movesFrom movesUpto numberOf automatonOf sameLists setOf startSet stepSet finalSet nonempty blocks refined refine signature
+unfolding smallest numbered sets found search expand visits visit movesFrom movesUpto numberOf automatonOf sameLists setOf startSet stepSet finalSet nonempty blocks refined refine signature
 doubled-smallest = refl
 
 -- The second letter from the end is 0: four sets, all different.
@@ -41,7 +42,7 @@ second-smallest : smallest second alphabet 256 ≡ record {
   final = false ∷ false ∷ true ∷ true ∷ [];
   edges = edge 0 0 1 ∷ edge 0 1 0 ∷ edge 1 0 2 ∷ edge 1 1 3 ∷ edge 2 0 2 ∷ edge 2 1 3 ∷ edge 3 0 1 ∷ edge 3 1 0 ∷ [];
 }
-unfolding smallest minimized sets found search expand visits visit movesFrom movesUpto numberOf automatonOf sameLists setOf startSet stepSet finalSet nonempty blocks refined refine signature
+unfolding smallest numbered sets found search expand visits visit movesFrom movesUpto numberOf automatonOf sameLists setOf startSet stepSet finalSet nonempty blocks refined refine signature
 second-smallest = refl
 
 -- Past the limit the search is cut off with more sets than the limit.
@@ -50,5 +51,5 @@ unfolding sets found search expand visits visit movesFrom numberOf sameLists set
 second-refused = refl
 
 bare-smallest : smallest bare alphabet 256 ≡ bare
-unfolding smallest minimized sets found search expand visits visit movesFrom movesUpto numberOf automatonOf sameLists setOf startSet stepSet finalSet nonempty blocks refined refine signature
+unfolding smallest numbered sets found search expand visits visit movesFrom movesUpto numberOf automatonOf sameLists setOf startSet stepSet finalSet nonempty blocks refined refine signature
 bare-smallest = refl

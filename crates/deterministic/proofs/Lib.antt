@@ -10,9 +10,10 @@ pub mod Refining
 pub mod Merging
 pub mod Minimal
 pub mod Tabled
-pub mod Subsets
+pub mod SetSystem
+pub mod Loops
 pub mod Smallest
 pub mod Limit
-pub mod Examples
+pub mod Subsets
 pub mod Request
-pub mod Loops
+pub mod Examples

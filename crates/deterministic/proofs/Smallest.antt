@@ -1,87 +1,85 @@
--- `smallest` is the smallest deterministic automaton of a build's words, if the sets of rows that words lead to are few enough.
-use mathlib.Core.Path.{_≡_, refl, sym, ap, subst}
+-- The automaton of the blocks of a table of sets is the smallest deterministic automaton of a build's words.
+use mathlib.Core.Path.{_≡_, refl, sym, ap, _∙_, subst}
 use mathlib.Core.Logic.{_⊎_, inl, inr}
 use mathlib.Core.Bool.{Bool, true, false}
 use mathlib.Core.List.{List, [], _∷_, List·Memᴰ, List·Memᴰ·head, List·Memᴰ·not-nil}
 use Prim.Native.Nat.{ℕ, _*_, _<_, _≤_}
 use native.Mathlib.Omega.{arith}
 use lib.ListN.{length, getD}
-use Rattle.automaton.specs.Listing.{Edge}
-use Rattle.deterministic.specs.Automata.{edge, Automaton, count, IsEdge, Leads, Accepts, WellFormed, bare}
-use Rattle.deterministic.specs.Smallest.{SameWords, CanFinish, IsSmallest}
-use Rattle.deterministic.specs.inner.Search.{placeAt, found}
-use Rattle.deterministic.specs.inner.Blocks.{Table}
-use Rattle.deterministic.specs.inner.Subsets.{startSet, finalSet, nonempty, subsets, tableOf, sets, minimized, smallest, IsBuild}
+use Rattle.lts.specs.Lists.{Rising}
 use Rattle.lts.proofs.Lists.{getD-mem}
+use Rattle.automaton.specs.Listing.{Edge}
+use Rattle.deterministic.specs.Automata.{edge, Automaton, count, IsEdge, Leads, Accepts, bare}
+use Rattle.deterministic.specs.Smallest.{SameWords, CanFinish, IsSmallest}
+use Rattle.deterministic.specs.inner.Search.{System, placeAt}
+use Rattle.deterministic.specs.inner.Blocks.{Table, blocks}
+use Rattle.deterministic.specs.inner.Arrays.{numbered}
+use Rattle.deterministic.specs.inner.Explored.{Places, Tabulates}
+use Rattle.deterministic.specs.inner.Subsets.{IsBuild}
 use Rattle.deterministic.proofs.Runs.{same-sym, same-trans, bare-reads-none}
-use Rattle.deterministic.proofs.Search.{Complete, passes-on, found-complete}
-use Rattle.deterministic.proofs.Found.{rows-first}
+use Rattle.deterministic.proofs.Search.{passes-on}
 use Rattle.deterministic.proofs.Merging.{Words, StepsFinish}
 use Rattle.deterministic.proofs.Minimal.{Minimal, minimal}
-use Rattle.deterministic.proofs.Tabled.{row-lives, next-is, tabled-words}
-use Rattle.deterministic.proofs.Subsets.{flags-tests, In, nonempty-of, nonempty-to, step-of, start-of, start-to, SetReads, start-words, says-words}
+use Rattle.deterministic.proofs.Tabled.{row-of, next-is, tabled-words}
+use Rattle.deterministic.proofs.SetSystem.{IsSets, SetReads, start-words, says-words}
 
-module _ (alphabet : List ℕ) (A : Automaton) (b : IsBuild alphabet A) (rows : List (List Bool)) (c : Complete (subsets A alphabet) rows) where
-  abbrev f : WellFormed A
-  f = b .well-formed
+module _ {P : Type 0} (A : Automaton) (S : System P) (final : P → Bool) (In : P → ℕ → Type 0) (Good : P → Type 0) (h : IsSets A S final In Good)
+    (b : IsBuild (S .labels) A) (rows : List P) (c : Places S rows) (t : Table) (g : Tabulates S final rows t) where
+  abbrev place : ℕ → P
+  place = placeAt S rows
 
-  abbrev t : Table
-  t = tableOf A alphabet rows
-
-  abbrev place : ℕ → List Bool
-  place = placeAt (subsets A alphabet) rows
-
-  lives : nonempty (startSet A) ≡ true
-  lives = nonempty-to (startSet A) 0 (start-to A f)
+  good : (k : ℕ) → k < t .size → Good (place k)
+  good k x =
+      let (w, r) = c .reached (place k) (getD-mem rows k (S .start) (row-of S final rows t g k x)) in
+      passes-on S Good (λ p l y m z. h .good-step p l y) (S .start) (place k) w (h .good-start) r
 
   -- A set in the table has the words of the states in it.
-  set-words : (k : ℕ) → k < t .size → SameWords (Words t k) (SetReads A f (place k))
-  set-words k h = same-trans (tabled-words (subsets A alphabet) flags-tests (finalSet A) rows c lives k h) (says-words A f alphabet (b .labelled) (place k))
+  set-words : (k : ℕ) → k < t .size → SameWords (Words t k) (SetReads A S final In Good h (place k))
+  set-words k x = same-trans (tabled-words S final rows t g k x) (says-words A S final In Good h (place k) (good k x))
 
-  states-in : (k : ℕ) → k < t .size → (q : ℕ) → In (place k) q → q < count A
-  states-in k h =
-      let (w, r) = c .reached (place k) (getD-mem rows k (startSet A) h) in
-      passes-on (subsets A alphabet) (λ s. (q : ℕ) → In s q → q < count A) (λ s l g m x q i. let (p, j, e) = step-of A s l q i in f .in-range (edge p l q) e .1)
-      (startSet A) (place k) w (λ q i. let z = start-of A f q i in subst (λ (y : ℕ). y < count A) (sym z) (f .some-state)) r
+  lives : (k : ℕ) → k < t .size → S .live (place k) ≡ true
+  lives k x =
+      let (w, r) = c .reached (place k) (getD-mem rows k (S .start) (row-of S final rows t g k x)) in
+      passes-on S (λ p. S .live p ≡ true) (λ p l y m z. z) (S .start) (place k) w (h .live-to (S .start) 0 (h .good-start) (h .start-to)) r
 
   finishes : CanFinish A → (k : ℕ) → k < t .size → (w : List ℕ) × Words t k w
-  finishes g k h =
-      let (q, i) = nonempty-of (place k) (row-lives (subsets A alphabet) flags-tests (finalSet A) rows c lives k h) in
-      let (w, r) = g q (states-in k h q i) in
-      (w, set-words k h w .1 (q, i, r))
+  finishes f k x =
+      let (q, i) = h .live-of (place k) (good k x) (lives k x) in
+      let (w, r) = f q (h .in-range (place k) q (good k x) i) in
+      (w, set-words k x w .1 (q, i, r))
 
   -- Without edges there are no steps.
-  no-steps : A ≡ bare → (k l : ℕ) → t .next k l < t .size → ⊥
-  no-steps z k l h =
-      let e = next-is (subsets A alphabet) flags-tests (finalSet A) rows c lives k l h in
-      let (q, i) = nonempty-of (place (t .next k l)) (row-lives (subsets A alphabet) flags-tests (finalSet A) rows c lives (t .next k l) h) in
-      let (p, j, m) = step-of A (place k) l q (subst (λ s. In s q) e i) in
-      List·Memᴰ·not-nil (subst (λ (x : Automaton). IsEdge x (edge p l q)) z m)
+  no-steps : A ≡ bare → (k l : ℕ) → k < t .size → List·Memᴰ l (t .labels) → t .next k l < t .size → ⊥
+  no-steps z k l x m y =
+      let (u, e) = next-is S final rows t g k l x m y in
+      let (q, i) = h .live-of (S .step (place k) l) (h .good-step (place k) l (good k x)) u in
+      let (p, j, n) = h .step-of (place k) l q (good k x) i in
+      List·Memᴰ·not-nil (subst (λ (a : Automaton). IsEdge a (edge p l q)) z n)
 
   steps-finish : StepsFinish t
-  steps-finish k l h m x = case (b .no-trap)
+  steps-finish k l x m y = case (b .no-trap)
     where
       case : CanFinish A ⊎ (A ≡ bare) → (w : List ℕ) × Words t (t .next k l) w
-      case (inl g) = finishes g (t .next k l) x
-      case (inr z) = absurd (no-steps z k l x)
+      case (inl f) = finishes f (t .next k l) y
+      case (inr z) = absurd (no-steps z k l x m y)
 
   some : 0 < t .size
-  some = rows-first (subsets A alphabet) flags-tests rows c .0
+  some = omega (arith, c .first .0, g .size-is)
 
   abbrev d : Automaton
-  d = minimized A alphabet rows
+  d = numbered t (blocks t)
 
   least : Minimal t some d
-  unfolding minimized
+  unfolding numbered
   least = minimal t some
 
   exact : SameWords (Accepts A) (Accepts d)
   exact =
-      let s = subst (λ (x : List Bool). SameWords (Words t 0) (SetReads A f x)) (rows-first (subsets A alphabet) flags-tests rows c .1) (set-words 0 some) in
-      same-trans (same-sym (start-words A f)) (same-trans (same-sym s) (least .words))
+      let s = subst (λ (p : P). SameWords (Words t 0) (SetReads A S final In Good h p)) (c .first .1) (set-words 0 some) in
+      same-trans (same-sym (start-words A S final In Good h)) (same-trans (same-sym s) (least .words))
 
   no-edges : A ≡ bare → (a : Edge) → IsEdge d a → ⊥
-  no-edges z a m = let (k, l, h, i, x) = least .steps a m in no-steps z k l x
+  no-edges z a m = let (k, l, x, i, y) = least .steps a m in no-steps z k l x i y
 
   is-bare : A ≡ bare → d ≡ bare
   is-bare z = λ i. record { final = marks (d .final) refl i; edges = none (d .edges) refl i }
@@ -101,13 +99,13 @@ module _ (alphabet : List ℕ) (A : Automaton) (b : IsBuild alphabet A) (rows : 
       marks (false ∷ x ∷ l) e = let (w, r) = least .reached 1 (omega (arith, ap length e)) in let y = only w 1 r in absurd (omega arith)
 
   no-trap : CanFinish A ⊎ (A ≡ bare) → CanFinish d ⊎ (d ≡ bare)
-  no-trap (inl g) = inl (λ i h. let (k, x, s) = least .state-of i h in let (w, r) = finishes g k x in (w, s w .1 r))
+  no-trap (inl f) = inl (λ i x. let (k, y, s) = least .state-of i x in let (w, r) = finishes f k y in (w, s w .1 r))
   no-trap (inr z) = inr (is-bare z)
 
-  pub minimized-smallest : IsSmallest (Accepts A) d
-  minimized-smallest = record {
+  pub numbered-smallest : IsSmallest (Accepts A) d
+  numbered-smallest = record {
     well-formed = least .well-formed;
-    sorted = least .sorted (b .rising);
+    sorted = least .sorted (subst (λ (l : List ℕ). Rising _<_ l) (sym (g .labels-are)) (b .rising));
     exact = exact;
     reached = least .reached;
     no-trap = no-trap (b .no-trap);
@@ -115,14 +113,5 @@ module _ (alphabet : List ℕ) (A : Automaton) (b : IsBuild alphabet A) (rows : 
     in-turn = least .in-turn;
   }
 
-  pub minimized-count : (count d ≤ length rows) × (length (d .edges) ≤ count d * length alphabet)
-  minimized-count = (least .few, least .few-edges)
-
-pub smallest-if : (alphabet : List ℕ) (limit : ℕ) (A : Automaton) → IsBuild alphabet A → length (sets A alphabet limit) ≤ limit → IsSmallest (Accepts A) (smallest A alphabet limit)
-unfolding smallest sets
-smallest-if alphabet limit A b h = minimized-smallest alphabet A b (found (subsets A alphabet) limit) (found-complete (subsets A alphabet) flags-tests limit h)
-
-pub smallest-count : (alphabet : List ℕ) (limit : ℕ) (A : Automaton) → IsBuild alphabet A → length (sets A alphabet limit) ≤ limit
-    → (count (smallest A alphabet limit) ≤ length (sets A alphabet limit)) × (length (smallest A alphabet limit .edges) ≤ count (smallest A alphabet limit) * length alphabet)
-unfolding smallest sets
-smallest-count alphabet limit A b h = minimized-count alphabet A b (found (subsets A alphabet) limit) (found-complete (subsets A alphabet) flags-tests limit h)
+  pub numbered-count : (count d ≤ length rows) × (length (d .edges) ≤ count d * length (S .labels))
+  numbered-count = (omega (arith, least .few, g .size-is), subst (λ (l : List ℕ). length (d .edges) ≤ count d * length l) (g .labels-are) (least .few-edges))

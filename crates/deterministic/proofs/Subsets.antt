@@ -1,25 +1,30 @@
--- Sets of states: what they hold, and that their words are those of the states in them.
+-- Sets of states as flags: they are the places of the system `subsets`, and its search finds all of them, or more than the limit.
 use mathlib.Core.Path.{_≡_, refl, sym, ap, _∙_, subst}
 use mathlib.Core.Bool.{Bool, true, false, false≢true, cond, not, _&&_}
 use mathlib.Core.List.{List, [], _∷_, List·Memᴰ}
-use Prim.Native.Nat.{ℕ, _<_}
+use Prim.Native.Nat.{ℕ, _<_, _≤_}
 use native.Mathlib.Nat.{zero-add}
 use native.Mathlib.Decide.{decLt}
 use native.Mathlib.Omega.{arith}
 use lib.Dec.{eqb}
 use lib.ListN.{length, getD, length-map, List·getD-eq-default}
+use lib.Seq.{ext-getD}
 use borrow.Author.Tests.{eqb-true, eq-eqb}
 use Rattle.lts.specs.inner.Lists.{upFrom}
 use Rattle.lts.specs.Lists.{anyOf as some}
-use Rattle.automaton.specs.Listing.{Edge}
-use Rattle.deterministic.specs.Automata.{edge, Automaton, count, IsEdge, Reads, Accepts, WellFormed}
-use Rattle.deterministic.specs.Smallest.{SameWords}
-use Rattle.deterministic.specs.inner.Subsets.{sameFlags, setOf, startSet, joins, stepSet, finalSet, nonempty, subsets}
+use Rattle.deterministic.specs.Automata.{edge, Automaton, count, IsFinal, IsEdge, WellFormed}
+use Rattle.deterministic.specs.inner.Lists.{Distinct}
+use Rattle.deterministic.specs.inner.Search.{System, numberOf, placeAt, found, movesUpto}
+use Rattle.deterministic.specs.inner.Explored.{Places, Tabulates, Explored}
+use Rattle.deterministic.specs.inner.Subsets.{sameFlags, setOf, startSet, joins, stepSet, finalSet, nonempty, subsets, tableOf, sets, IsBuild}
 use Rattle.lts.proofs.Booleans.{and-true-of, and-true-to}
 use Rattle.lts.proofs.Lists.{upFrom-to, upFrom-length, upFrom-at, getD-mem, mem-index, some-of, some-to}
-use Rattle.deterministic.proofs.ListLaws.{getD-map}
-use Rattle.deterministic.proofs.Numbers.{Tests, lists-tests}
-use Rattle.deterministic.proofs.Found.{Speaks}
+use Rattle.deterministic.proofs.ListLaws.{same-flag, getD-map}
+use Rattle.deterministic.proofs.Numbers.{Tests, lists-tests, number-mem-of}
+use Rattle.deterministic.proofs.Visits.{all-first, all-distinct}
+use Rattle.deterministic.proofs.Search.{Expanded, Complete, passes-on, found-expanded, found-complete}
+use Rattle.deterministic.proofs.Found.{goal-row}
+use Rattle.deterministic.proofs.SetSystem.{IsSets}
 
 pub flags-tests : Tests sameFlags
 flags-tests = lists-tests (record { of = equal; to = λ x y e. subst (λ (z : Bool). cond x z (not z) ≡ true) e (itself x) })
@@ -101,41 +106,79 @@ module _ (A : Automaton) where
     unfolding startSet
     start-to = set-to (λ q. eqb q 0) 0 (f .some-state) refl
 
-    -- The words that the states of a set read.
-    abbrev pub SetReads : List Bool → List ℕ → Type 0
-    SetReads s w = (q : ℕ) × In s q × Reads A q w
-
-    pub start-words : SameWords (SetReads (startSet A)) (Accepts A)
-    start-words w = (λ (q, h, r). subst (λ (k : ℕ). Reads A k w) (start-of q h) r, λ r. (0, start-to, r))
-
-    final-of : (s : List Bool) → finalSet A s ≡ true → SetReads s []
+    final-of : (s : List Bool) → finalSet A s ≡ true → (q : ℕ) × In s q × IsFinal A q
     unfolding finalSet
     final-of s e =
         let (q, m, x) = some-of (λ q. getD s q false && getD (A .final) q false) (upFrom 0 (count A)) e in
         let (y, z) = and-true-of (getD s q false) (getD (A .final) q false) x in
         (q, y, z)
 
-    final-to : (s : List Bool) → SetReads s [] → finalSet A s ≡ true
+    final-to : (s : List Bool) (q : ℕ) → In s q → IsFinal A q → finalSet A s ≡ true
     unfolding finalSet
-    final-to s (q, h, r) = some-to (λ q. getD s q false && getD (A .final) q false) (upFrom 0 (count A)) (upFrom-to 0 (count A) q (omega arith) (omega (arith, in-length (A .final) q r)))
+    final-to s q h r = some-to (λ q. getD s q false && getD (A .final) q false) (upFrom 0 (count A)) (upFrom-to 0 (count A) q (omega arith) (omega (arith, in-length (A .final) q r)))
         (and-true-to (getD s q false) (getD (A .final) q false) h r)
 
-    module _ (alphabet : List ℕ) (labelled : (e : Edge) → IsEdge A e → List·Memᴰ (e .label) alphabet) where
-      abbrev pub Says : List Bool → List ℕ → Type 0
-      Says = Speaks (subsets A alphabet) (finalSet A)
+  -- A flag for each state.
+  abbrev pub Sized : List Bool → Type 0
+  Sized s = length s ≡ count A
 
-      pub says-of : (s : List Bool) (w : List ℕ) → Says s w → SetReads s w
-      says-of s [] h = final-of s h
-      says-of s (l ∷ w) (m, x, h) =
-          let (q, i, r) = says-of (stepSet A s l) w h in
-          let (p, j, e) = step-of s l q i in
-          (p, j, (q, e, r))
+  same-set : (s u : List Bool) → Sized s → Sized u → ((q : ℕ) → In s q → In u q) → ((q : ℕ) → In u q → In s q) → s ≡ u
+  same-set s u a b f g = ext-getD false s u (a ∙ sym b) (λ q i. same-flag (getD s q false) (getD u q false) (f q, g q))
 
-      pub says-to : (s : List Bool) (w : List ℕ) → SetReads s w → Says s w
-      says-to s [] h = final-to s h
-      says-to s (l ∷ w) (p, i, (q, e, r)) =
-          let j = step-to s l p q i e in
-          (labelled (edge p l q) e, nonempty-to (stepSet A s l) q j, says-to (stepSet A s l) w (q, j, r))
+module _ (alphabet : List ℕ) (A : Automaton) (b : IsBuild alphabet A) where
+  abbrev S : System (List Bool)
+  S = subsets A alphabet
 
-      pub says-words : (s : List Bool) → SameWords (Says s) (SetReads s)
-      says-words s w = (says-of s w, says-to s w)
+  pub subsets-sets : IsSets A S (finalSet A) In (Sized A)
+  unfolding startSet stepSet
+  subsets-sets = record {
+    labelled = b .labelled;
+    tests = flags-tests;
+    good-start = set-length A (λ q. eqb q 0);
+    good-step = λ p l g. set-length A (λ q. some (joins A p l q) (A .edges));
+    in-range = λ p q g i. omega (arith, in-length p q i);
+    start-of = start-of A (b .well-formed);
+    start-to = start-to A (b .well-formed);
+    step-of = λ p l q g i. step-of A p l q i;
+    step-to = λ p l r q g i e. step-to A (b .well-formed) p l r q i e;
+    live-of = λ p g e. nonempty-of p e;
+    live-to = λ p q g i. nonempty-to p q i;
+    final-of = λ p g e. final-of A (b .well-formed) p e;
+    final-to = λ p q g i e. final-to A (b .well-formed) p q i e;
+    same-set = same-set A;
+  }
+
+  places : (rows : List (List Bool)) (i : ℕ) → Expanded S i rows → Places S rows
+  places rows i x = record {
+    first = subst (λ (l : List (List Bool)). (0 < length l) × (placeAt S l 0 ≡ S .start)) (sym (x .built)) (all-first S flags-tests (S .start) (movesUpto S rows i));
+    reached = x .reached;
+    distinct = subst (λ (l : List (List Bool)). Distinct l) (sym (x .built)) (all-distinct S flags-tests (S .start) (movesUpto S rows i));
+  }
+
+  tabulates : (rows : List (List Bool)) → Complete S rows → Tabulates S (finalSet A) rows (tableOf A alphabet rows)
+  tabulates rows c = record {
+    size-is = refl;
+    labels-are = refl;
+    marked = λ k h. refl;
+    leading = λ k l h m. record {
+      lives = goal-row S flags-tests rows c k l h m;
+      ends = λ e. dead k l h e (decLt (numberOf sameFlags rows (stepSet A (placeAt S rows k) l)) (length rows));
+    };
+  }
+    where
+      -- Rows live, so what does not live is none.
+      dead : (k l : ℕ) → k < length rows → nonempty (stepSet A (placeAt S rows k) l) ≡ false → Dec (numberOf sameFlags rows (stepSet A (placeAt S rows k) l) < length rows)
+          → length rows ≤ numberOf sameFlags rows (stepSet A (placeAt S rows k) l)
+      dead k l h e (no x) = omega (arith, x)
+      dead k l h e (yes x) =
+          let q = stepSet A (placeAt S rows k) l in
+          let (w, r) = c .reached q (number-mem-of flags-tests rows q (S .start) x) in
+          let y = passes-on S (λ p. nonempty p ≡ true) (λ p l g m z. z) (S .start) q w (nonempty-to (S .start) 0 (start-to A (b .well-formed))) r in
+          absurd (false≢true (sym e ∙ y))
+
+  pub subsets-explored : (limit : ℕ) → Explored S (finalSet A) limit (length (sets A alphabet limit)) (tableOf A alphabet (sets A alphabet limit))
+  unfolding sets
+  subsets-explored limit = record {
+    few = λ h. let c = found-complete S flags-tests limit h in (found S limit, refl, places (found S limit) (length (found S limit)) c, tabulates (found S limit) c);
+    many = λ h. let (j, x) = found-expanded S flags-tests limit in (found S limit, h, places (found S limit) j x);
+  }

@@ -1,5 +1,6 @@
 pub mod Sizes
 pub mod Automata
 pub mod Smallest
+pub mod Sets
 pub mod Bytes
 pub mod inner
