@@ -17,3 +17,4 @@ pub mod Limit
 pub mod Subsets
 pub mod Request
 pub mod Examples
+pub mod Listings

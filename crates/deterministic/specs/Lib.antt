@@ -1,6 +1,7 @@
 pub mod Sizes
 pub mod Automata
 pub mod Smallest
+pub mod Listings
 pub mod Sets
 pub mod Bytes
 pub mod inner

@@ -49,7 +49,7 @@ module _ (masks : List ℕ) (places l q : ℕ) where
   abbrev led : ℕ → Bool
   led k = bitAt places k && bitAt (maskOn masks k l) q
 
-  targets-led : bitAt (targetsOf masks places l) q ≡ anyOf (λ k. bitAt places k && bitAt (maskOn masks k l) q) (upFrom 0 placeCount)
+  pub targets-led : bitAt (targetsOf masks places l) q ≡ anyOf (λ k. bitAt places k && bitAt (maskOn masks k l) q) (upFrom 0 placeCount)
   targets-led =
       through-adds (targetsAdded masks places l) (λ m. bitAt m q) led (λ m. Unit {0}) placeCount (λ k m h u. tt) (λ k m h u. adds k m (bitAt places k)) placeCount 0 0 (omega arith) tt
       ∙ ap (λ b. b || anyOf led (upFrom 0 placeCount)) (bit-zero q)

@@ -1,0 +1,5 @@
+pub mod Bits
+pub mod Steps
+pub mod Rows
+pub mod Listed
+pub mod Found
