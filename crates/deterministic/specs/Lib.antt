@@ -4,4 +4,5 @@ pub mod Smallest
 pub mod Listings
 pub mod Sets
 pub mod Bytes
+pub mod SmallestAsked
 pub mod inner
