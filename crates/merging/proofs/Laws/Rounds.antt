@@ -1,0 +1,129 @@
+-- Rounds of refinement over arrays: the first state like another, one block more, the end of a round, and the rounds together.
+use mathlib.Core.Path.{_≡_, refl, sym, ap, _∙_, subst}
+use mathlib.Core.Logic.{_⊎_, inl, inr}
+use mathlib.Core.Bool.{Bool, true, false, _&&_}
+use mathlib.Core.List.{List}
+use Prim.Native.Nat.{ℕ, zero, suc, _+_, _-_, _<_, _≤_}
+use native.Mathlib.Decide.{decLt}
+use native.Mathlib.Nat.{zero-add, suc-add, eq-or-lt-of-le}
+use native.Mathlib.Omega.{arith}
+use lib.Dec.{eqb}
+use lib.ListN.{length, take, getD, set, replicate, length-take, length-replicate, getD-replicate}
+use lib.Seq.{length-take-le, getD-take, getD-set-same, getD-set-other, ext-getD}
+use borrow.Author.Tests.{eqb-true, eqb-false, eq-eqb}
+use Rattle.lts.specs.inner.Answers.{Decides}
+use Rattle.deterministic.specs.inner.Blocks.{Table, blockOf, signature, refine, refined, blocks}
+use Rattle.merging.specs.inner.Rounds.{Named, RoundTo, SameTo}
+use Rattle.lts.proofs.Booleans.{and-true-of, and-true-to}
+use Rattle.lts.proofs.Laws.Decides.{decided-test}
+use Rattle.deterministic.proofs.Refining.{Partition, signed-block, refine-like, refine-to, refine-partition, one-block, refined-partition, blocks-partition, blocks-stable}
+use Rattle.merging.proofs.Laws.Signatures.{block-in}
+
+module _ (t : Table) where
+  abbrev n : ℕ
+  n = t .size
+
+  abbrev B : List ℕ → ℕ → ℕ
+  B = blockOf t
+
+  -- The first state like k.
+  module _ (c : List ℕ) (k : ℕ) (h : k < n) where
+    abbrev first : ℕ
+    first = B (refine t c) k
+
+    pub first-low : first ≤ k
+    first-low = refine-partition t c .low k h
+
+    -- It is the lowest state of its new block.
+    pub first-here : (j : ℕ) → j < n → j ≡ B (refine t c) j → signature t c j ≡ signature t c k → j ≡ first
+    first-here j b e s = e ∙ refine-to t c j k b h s
+
+    pub first-lowest : (j : ℕ) → j ≡ first → j ≡ B (refine t c) j
+    first-lowest j e = e ∙ (sym (refine-partition t c .own k h) ∙ ap (B (refine t c)) (sym e))
+
+    pub first-like : (j : ℕ) → j ≡ first → signature t c j ≡ signature t c k
+    first-like j e = ap (signature t c) e ∙ refine-like t c k h
+
+  -- It has the same old block: the search may begin there.
+  pub first-from : (old : List ℕ) (k : ℕ) → Named n old → k < n → getD old k 0 ≤ B (refine t (take n old)) k
+  first-from old k p h =
+      let c = take n old in
+      let first = B (refine t c) k in
+      let b = first-low c k h in
+      let e = signed-block t c first k (refine-like t c k h) in
+      omega (arith, block-in old n k (p .long) h, block-in old n first (p .long) (omega arith), p .low first (omega arith))
+
+  -- A round.
+  module _ (old new : List ℕ) (a : n ≤ length old) (b : n ≤ length new) where
+    abbrev c : List ℕ
+    c = take n old
+
+    pub round-done : RoundTo t c new n → take n new ≡ refine t c
+    round-done r =
+        let e = length-take-le n new b in
+        ext-getD n (take n new) (refine t c) (e ∙ sym (refine-partition t c .long)) (λ i h. sym (block-in new n i b (omega arith)) ∙ r i (omega arith))
+
+    pub round-steady : RoundTo t c new n → {r : Bool} → Decides (SameTo old new n) r → Decides (refine t c ≡ c) r
+    round-steady r d = record {
+      yes = λ e.
+          let f = d .yes e in
+          let x = length-take-le n old a in
+          ext-getD n (refine t c) c (refine-partition t c .long ∙ sym x) (λ i h.
+              let h′ : i < n = omega (arith, refine-partition t c .long) in
+              sym (r i h′) ∙ (f i h′ ∙ block-in old n i a h′));
+      no = λ e s. d .no e (λ i h. r i h ∙ (ap (λ l. B l i) s ∙ sym (block-in old n i a h)));
+    }
+
+-- One block more.
+module _ (P : ℕ → ℕ) (new : List ℕ) (k x : ℕ) (b : k < length new) where
+  pub one-more : ((i : ℕ) → i < k → getD new i 0 ≡ P i) → x ≡ P k → (i : ℕ) → i < k + 1 → getD (set new k x) i 0 ≡ P i
+  one-more f e i h = case (eq-or-lt-of-le (omega arith))
+    where
+      case : (i ≡ k) ⊎ (i < k) → getD (set new k x) i 0 ≡ P i
+      case (inl z) = ap (λ j. getD (set new k x) j 0) z ∙ (getD-set-same new k x 0 b ∙ (e ∙ ap P (sym z)))
+      case (inr z) = getD-set-other new k i x 0 (λ y. absurd (omega arith)) ∙ f i z
+
+  pub one-less : ((i : ℕ) → i < k + 1 → getD (set new k x) i 0 ≡ P i) → ((i : ℕ) → i < k → getD new i 0 ≡ P i) × (x ≡ P k)
+  one-less f = (λ i h. sym (getD-set-other new k i x 0 (λ y. absurd (omega arith))) ∙ f i (omega arith), sym (getD-set-same new k x 0 b) ∙ f k (omega arith))
+
+  pub still-same : {s : Bool} {r : Bool} → r ≡ (s && eqb x (P k)) → Decides ((i : ℕ) → i < k → getD new i 0 ≡ P i) s
+      → Decides ((i : ℕ) → i < k + 1 → getD (set new k x) i 0 ≡ P i) r
+  still-same {s} e d = decided-test _ _ e
+      (λ y. let (u, v) = and-true-of s (eqb x (P k)) y in one-more (d .yes u) (eqb-true x (P k) v))
+      (λ f. let (g, v) = one-less f in and-true-to s (eqb x (P k)) (is-yes s d g) (eq-eqb x (P k) v))
+    where
+      is-yes : (s : Bool) → Decides ((i : ℕ) → i < k → getD new i 0 ≡ P i) s → ((i : ℕ) → i < k → getD new i 0 ≡ P i) → s ≡ true
+      is-yes true d g = refl
+      is-yes false d g = absurd (d .no refl g)
+
+-- The rounds together.
+module _ (t : Table) where
+  abbrev m : ℕ
+  m = t .size
+
+  pub refined-named : (l : List ℕ) (r : ℕ) → take m l ≡ refined t r → Named m l
+  refined-named l r e =
+      let p = refined-partition t r in
+      let long : m ≤ length l = omega (arith, ap length e, p .long, length-take m l) in
+      record { long = long; low = λ k h. omega (arith, block-in l m k long h, ap (λ (x : List ℕ). blockOf t x k) e, p .low k h) }
+
+  pub refined-none : (s : ℕ) → m ≤ s → take m (replicate s 0) ≡ refined t 0
+  refined-none s b =
+      let zeros : List ℕ = replicate s 0 in
+      let e = length-take-le {A = ℕ} m zeros (omega (arith, length-replicate {A = ℕ} s 0)) in
+      ext-getD m (take m zeros) (refined t 0) (e ∙ sym (refined-partition t 0 .long)) (λ i h.
+          getD-take m zeros i m (omega arith) ∙ (getD-replicate s i 0 m (omega arith) ∙ sym (one-block t i (omega arith))))
+
+  -- After as many rounds as there are states nothing changes.
+  pub refined-late : (r : ℕ) → m ≤ r → refined t r ≡ blocks t
+  unfolding refined blocks
+  refined-late r b = let e : r ≡ r - m + m = omega arith in ap (refined t) e ∙ by (decLt 0 m) (r - m)
+    where
+      stable : 0 < m → (k : ℕ) → refined t (k + m) ≡ blocks t
+      stable s zero = ap (refined t) (zero-add m)
+      stable s (suc k) = ap (refined t) (suc-add k m) ∙ (ap (refine t) (stable s k) ∙ blocks-stable t s)
+
+      by : Dec (0 < m) → (k : ℕ) → refined t (k + m) ≡ blocks t
+      by (yes s) k = stable s k
+      by (no s) k = ext-getD 0 (refined t (k + m)) (blocks t) (refined-partition t (k + m) .long ∙ sym (blocks-partition t .long))
+          (λ i h. absurd (omega (arith, s, refined-partition t (k + m) .long)))
