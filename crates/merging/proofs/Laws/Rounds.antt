@@ -8,16 +8,38 @@ use native.Mathlib.Decide.{decLt}
 use native.Mathlib.Nat.{zero-add, suc-add, eq-or-lt-of-le}
 use native.Mathlib.Omega.{arith}
 use lib.Dec.{eqb}
-use lib.ListN.{length, take, getD, set, replicate, length-take, length-replicate, getD-replicate}
+use lib.ListN.{length, take, getD, set, replicate, length-take, length-set, length-replicate, getD-replicate}
 use lib.Seq.{length-take-le, getD-take, getD-set-same, getD-set-other, ext-getD}
 use borrow.Author.Tests.{eqb-true, eqb-false, eq-eqb}
 use Rattle.lts.specs.inner.Answers.{Decides}
 use Rattle.deterministic.specs.inner.Blocks.{Table, blockOf, signature, refine, refined, blocks}
 use Rattle.merging.specs.inner.Rounds.{Named, RoundTo, SameTo}
 use Rattle.lts.proofs.Booleans.{and-true-of, and-true-to}
-use Rattle.lts.proofs.Laws.Decides.{decided-test}
+use Rattle.lts.proofs.Laws.Decides.{decided-yes, decided-by, decided-test}
 use Rattle.deterministic.proofs.Refining.{Partition, signed-block, refine-like, refine-to, refine-partition, one-block, refined-partition, blocks-partition, blocks-stable}
 use Rattle.merging.proofs.Laws.Signatures.{block-in}
+
+-- One block more.
+module _ (P : ℕ → ℕ) (new : List ℕ) (k x : ℕ) (b : k < length new) where
+  pub one-more : ((i : ℕ) → i < k → getD new i 0 ≡ P i) → x ≡ P k → (i : ℕ) → i < k + 1 → getD (set new k x) i 0 ≡ P i
+  one-more f e i h = case (eq-or-lt-of-le (omega arith))
+    where
+      case : (i ≡ k) ⊎ (i < k) → getD (set new k x) i 0 ≡ P i
+      case (inl z) = ap (λ j. getD (set new k x) j 0) z ∙ (getD-set-same new k x 0 b ∙ (e ∙ ap P (sym z)))
+      case (inr z) = getD-set-other new k i x 0 (λ y. absurd (omega arith)) ∙ f i z
+
+  pub one-less : ((i : ℕ) → i < k + 1 → getD (set new k x) i 0 ≡ P i) → ((i : ℕ) → i < k → getD new i 0 ≡ P i) × (x ≡ P k)
+  one-less f = (λ i h. sym (getD-set-other new k i x 0 (λ y. absurd (omega arith))) ∙ f i (omega arith), sym (getD-set-same new k x 0 b) ∙ f k (omega arith))
+
+  pub still-same : {s : Bool} {r : Bool} → r ≡ (s && eqb x (P k)) → Decides ((i : ℕ) → i < k → getD new i 0 ≡ P i) s
+      → Decides ((i : ℕ) → i < k + 1 → getD (set new k x) i 0 ≡ P i) r
+  still-same {s} e d = decided-test _ _ e
+      (λ y. let (u, v) = and-true-of s (eqb x (P k)) y in one-more (d .yes u) (eqb-true x (P k) v))
+      (λ f. let (g, v) = one-less f in and-true-to s (eqb x (P k)) (is-yes s d g) (eq-eqb x (P k) v))
+    where
+      is-yes : (s : Bool) → Decides ((i : ℕ) → i < k → getD new i 0 ≡ P i) s → ((i : ℕ) → i < k → getD new i 0 ≡ P i) → s ≡ true
+      is-yes true d g = refl
+      is-yes false d g = absurd (d .no refl g)
 
 module _ (t : Table) where
   abbrev n : ℕ
@@ -53,48 +75,50 @@ module _ (t : Table) where
       let e = signed-block t c first k (refine-like t c k h) in
       omega (arith, block-in old n k (p .long) h, block-in old n first (p .long) (omega arith), p .low first (omega arith))
 
-  -- A round.
-  module _ (old new : List ℕ) (a : n ≤ length old) (b : n ≤ length new) where
-    abbrev c : List ℕ
-    c = take n old
+  -- A round whose first k blocks are made, and whether they are as they were.
+  pub record Going (old new : List ℕ) (k : ℕ) (steady : Bool) : Type 0 where
+    pub within : k ≤ n
+    pub long : n ≤ length new
+    pub made : RoundTo t (take n old) new k
+    pub same : Decides (SameTo old new k) steady
 
-    pub round-done : RoundTo t c new n → take n new ≡ refine t c
-    round-done r =
-        let e = length-take-le n new b in
-        ext-getD n (take n new) (refine t c) (e ∙ sym (refine-partition t c .long)) (λ i h. sym (block-in new n i b (omega arith)) ∙ r i (omega arith))
+  pub going-start : (old new : List ℕ) → n ≤ length new → Going old new 0 true
+  going-start old new b = record { within = omega arith; long = b; made = λ i h. absurd (omega arith); same = decided-yes (λ i h. absurd (omega arith)) }
 
-    pub round-steady : RoundTo t c new n → {r : Bool} → Decides (SameTo old new n) r → Decides (refine t c ≡ c) r
-    round-steady r d = record {
-      yes = λ e.
-          let f = d .yes e in
-          let x = length-take-le n old a in
-          ext-getD n (refine t c) c (refine-partition t c .long ∙ sym x) (λ i h.
-              let h′ : i < n = omega (arith, refine-partition t c .long) in
-              sym (r i h′) ∙ (f i h′ ∙ block-in old n i a h′));
-      no = λ e s. d .no e (λ i h. r i h ∙ (ap (λ l. B l i) s ∙ sym (block-in old n i a h)));
-    }
+  pub going-more : (old new : List ℕ) (k x y : ℕ) (s r : Bool) → Going old new k s → k < n → x ≡ B (refine t (take n old)) k → y ≡ getD old k 0 → r ≡ (s && eqb x y)
+      → Going old (set new k x) (k + 1) r
+  going-more old new k x y s r g h e d f =
+      let b : k < length new = omega (arith, g .long) in
+      record {
+        within = omega arith;
+        long = omega (arith, length-set new k x, g .long);
+        made = one-more (B (refine t (take n old))) new k x b (g .made) e;
+        same = still-same (λ i. getD old i 0) new k x b (f ∙ ap (λ z. s && eqb x z) d) (g .same);
+      }
 
--- One block more.
-module _ (P : ℕ → ℕ) (new : List ℕ) (k x : ℕ) (b : k < length new) where
-  pub one-more : ((i : ℕ) → i < k → getD new i 0 ≡ P i) → x ≡ P k → (i : ℕ) → i < k + 1 → getD (set new k x) i 0 ≡ P i
-  one-more f e i h = case (eq-or-lt-of-le (omega arith))
+  pub going-done : (old new : List ℕ) (k : ℕ) (s : Bool) → n ≤ length old → Going old new k s → n ≤ k → (take n new ≡ refine t (take n old)) × Decides (refine t (take n old) ≡ take n old) s
+  going-done old new k s a g h = (done, decided-by (g .same) steady changed)
     where
-      case : (i ≡ k) ⊎ (i < k) → getD (set new k x) i 0 ≡ P i
-      case (inl z) = ap (λ j. getD (set new k x) j 0) z ∙ (getD-set-same new k x 0 b ∙ (e ∙ ap P (sym z)))
-      case (inr z) = getD-set-other new k i x 0 (λ y. absurd (omega arith)) ∙ f i z
+      c : List ℕ
+      c = take n old
 
-  pub one-less : ((i : ℕ) → i < k + 1 → getD (set new k x) i 0 ≡ P i) → ((i : ℕ) → i < k → getD new i 0 ≡ P i) × (x ≡ P k)
-  one-less f = (λ i h. sym (getD-set-other new k i x 0 (λ y. absurd (omega arith))) ∙ f i (omega arith), sym (getD-set-same new k x 0 b) ∙ f k (omega arith))
+      made : (i : ℕ) → i < n → getD new i 0 ≡ B (refine t c) i
+      made i b = g .made i (omega arith)
 
-  pub still-same : {s : Bool} {r : Bool} → r ≡ (s && eqb x (P k)) → Decides ((i : ℕ) → i < k → getD new i 0 ≡ P i) s
-      → Decides ((i : ℕ) → i < k + 1 → getD (set new k x) i 0 ≡ P i) r
-  still-same {s} e d = decided-test _ _ e
-      (λ y. let (u, v) = and-true-of s (eqb x (P k)) y in one-more (d .yes u) (eqb-true x (P k) v))
-      (λ f. let (g, v) = one-less f in and-true-to s (eqb x (P k)) (is-yes s d g) (eq-eqb x (P k) v))
-    where
-      is-yes : (s : Bool) → Decides ((i : ℕ) → i < k → getD new i 0 ≡ P i) s → ((i : ℕ) → i < k → getD new i 0 ≡ P i) → s ≡ true
-      is-yes true d g = refl
-      is-yes false d g = absurd (d .no refl g)
+      done : take n new ≡ refine t c
+      done =
+          let e = length-take-le n new (g .long) in
+          ext-getD n (take n new) (refine t c) (e ∙ sym (refine-partition t c .long)) (λ i b. sym (block-in new n i (g .long) (omega arith)) ∙ made i (omega arith))
+
+      steady : SameTo old new k → refine t c ≡ c
+      steady f =
+          let e = length-take-le n old a in
+          ext-getD n (refine t c) c (refine-partition t c .long ∙ sym e) (λ i b.
+              let b′ : i < n = omega (arith, refine-partition t c .long) in
+              sym (made i b′) ∙ (f i (omega arith) ∙ block-in old n i a b′))
+
+      changed : refine t c ≡ c → SameTo old new k
+      changed e i b = let b′ : i < n = omega (arith, g .within) in made i b′ ∙ (ap (λ l. B l i) e ∙ sym (block-in old n i a b′))
 
 -- The rounds together.
 module _ (t : Table) where
