@@ -21,11 +21,7 @@ fn target_block(next: &[u16], old: &[u16; SETS], n: usize, k: usize, c: usize) -
     ensures { λ r. ⌜ r ≡ targetBlock (now (next .entry)) (take n (now (old .entry))) n k c ⌝ }
 {
     let to = wide(next[k * LETTERS + c]);
-    if to < n {
-        old[to]
-    } else {
-        n as u16
-    }
+    if to < n { old[to] } else { n as u16 }
 }
 
 fn same_targets(

@@ -6,6 +6,7 @@ use mathlib.Core.List.{List}
 use Prim.Native.Nat.{ℕ, zero, suc, _+_, _-_, _<_, _≤_}
 use native.Mathlib.Decide.{decLt}
 use native.Mathlib.Nat.{zero-add, suc-add, eq-or-lt-of-le}
+use native.Mathlib.Numerals.{add-one}
 use native.Mathlib.Omega.{arith}
 use lib.Dec.{eqb}
 use lib.ListN.{length, take, getD, set, replicate, length-take, length-set, length-replicate, getD-replicate}
@@ -17,6 +18,7 @@ use Rattle.merging.specs.inner.Rounds.{Named, RoundTo, SameTo}
 use Rattle.lts.proofs.Booleans.{and-true-of, and-true-to}
 use Rattle.lts.proofs.Laws.Decides.{decided-yes, decided-by, decided-test}
 use Rattle.deterministic.proofs.Refining.{Partition, signed-block, refine-like, refine-to, refine-partition, one-block, refined-partition, blocks-partition, blocks-stable}
+use Rattle.deterministic.proofs.Loops.{stops-early}
 use Rattle.merging.proofs.Laws.Signatures.{block-in}
 
 -- One block more.
@@ -114,8 +116,8 @@ module _ (t : Table) where
       steady f =
           let e = length-take-le n old a in
           ext-getD n (refine t c) c (refine-partition t c .long ∙ sym e) (λ i b.
-              let b′ : i < n = omega (arith, refine-partition t c .long) in
-              sym (made i b′) ∙ (f i (omega arith) ∙ block-in old n i a b′))
+          let b′ : i < n = omega (arith, refine-partition t c .long) in
+          sym (made i b′) ∙ (f i (omega arith) ∙ block-in old n i a b′))
 
       changed : refine t c ≡ c → SameTo old new k
       changed e i b = let b′ : i < n = omega (arith, g .within) in made i b′ ∙ (ap (λ l. B l i) e ∙ sym (block-in old n i a b′))
@@ -136,7 +138,7 @@ module _ (t : Table) where
       let zeros : List ℕ = replicate s 0 in
       let e = length-take-le {A = ℕ} m zeros (omega (arith, length-replicate {A = ℕ} s 0)) in
       ext-getD m (take m zeros) (refined t 0) (e ∙ sym (refined-partition t 0 .long)) (λ i h.
-          getD-take m zeros i m (omega arith) ∙ (getD-replicate s i 0 m (omega arith) ∙ sym (one-block t i (omega arith))))
+      getD-take m zeros i m (omega arith) ∙ (getD-replicate s i 0 m (omega arith) ∙ sym (one-block t i (omega arith))))
 
   -- After as many rounds as there are states nothing changes.
   pub refined-late : (r : ℕ) → m ≤ r → refined t r ≡ blocks t
@@ -151,3 +153,17 @@ module _ (t : Table) where
       by (yes s) k = stable s k
       by (no s) k = ext-getD 0 (refined t (k + m)) (blocks t) (refined-partition t (k + m) .long ∙ sym (blocks-partition t .long))
           (λ i h. absurd (omega (arith, s, refined-partition t (k + m) .long)))
+
+  -- Blocks that a round leaves as they are, or that are late.
+  pub merged-early : (l : List ℕ) (r : ℕ) → take m l ≡ refined t r → refine t (take m l) ≡ take m l → r ≤ m → (take m l ≡ blocks t) × ((k : ℕ) → k < m → getD l k 0 ≤ k)
+  merged-early l r e s b =
+      let stable = ap (refine t) (sym e) ∙ (s ∙ e) in
+      (e ∙ sym (stops-early t r stable b), refined-named l r e .low)
+
+  pub merged-late : (l : List ℕ) (r : ℕ) → take m l ≡ refined t r → m ≤ r → (take m l ≡ blocks t) × ((k : ℕ) → k < m → getD l k 0 ≤ k)
+  merged-late l r e b = (e ∙ refined-late r b, refined-named l r e .low)
+
+  -- One round more.
+  pub refined-more : (l k : List ℕ) (r : ℕ) → take m l ≡ refined t r → take m k ≡ refine t (take m l) → take m k ≡ refined t (r + 1)
+  unfolding refined
+  refined-more l k r e d = d ∙ (ap (refine t) e ∙ ap (refined t) (sym (add-one r)))
