@@ -1,5 +1,5 @@
 -- Rounds of refinement over arrays: the first state like another, one block more, the end of a round, and the rounds together.
-use mathlib.Core.Path.{_≡_, refl, sym, ap, _∙_, subst}
+use mathlib.Core.Path.{_≡_, refl, sym, ap, _∙_}
 use mathlib.Core.Logic.{_⊎_, inl, inr}
 use mathlib.Core.Bool.{Bool, true, false, _&&_}
 use mathlib.Core.List.{List}
@@ -11,13 +11,13 @@ use native.Mathlib.Omega.{arith}
 use lib.Dec.{eqb}
 use lib.ListN.{length, take, getD, set, replicate, length-take, length-set, length-replicate, getD-replicate}
 use lib.Seq.{length-take-le, getD-take, getD-set-same, getD-set-other, ext-getD}
-use borrow.Author.Tests.{eqb-true, eqb-false, eq-eqb}
+use borrow.Author.Tests.{eqb-true, eq-eqb}
 use Rattle.lts.specs.inner.Answers.{Decides}
 use Rattle.deterministic.specs.inner.Blocks.{Table, blockOf, signature, refine, refined, blocks}
 use Rattle.merging.specs.inner.Rounds.{Named, RoundTo, SameTo}
 use Rattle.lts.proofs.Booleans.{and-true-of, and-true-to}
 use Rattle.lts.proofs.Laws.Decides.{decided-yes, decided-by, decided-test}
-use Rattle.deterministic.proofs.Refining.{Partition, signed-block, refine-like, refine-to, refine-partition, one-block, refined-partition, blocks-partition, blocks-stable}
+use Rattle.deterministic.proofs.Refining.{signed-block, refine-like, refine-to, refine-partition, one-block, refined-partition, blocks-partition, blocks-stable}
 use Rattle.deterministic.proofs.Loops.{stops-early}
 use Rattle.merging.proofs.Laws.Signatures.{block-in}
 

@@ -3,14 +3,13 @@ use mathlib.Core.Path.{_≡_, refl, sym, ap, _∙_, subst}
 use mathlib.Core.Logic.{_⊎_, inl, inr}
 use mathlib.Core.Bool.{Bool, true, false, true≢false, false≢true, Bool·beq, cond, not}
 use mathlib.Core.List.{List, [], _∷_, List·Memᴰ, List·Memᴰ·head, List·Memᴰ·append-cases, List·Memᴰ·eq-of-singleton, Memᴰ·append-left, Memᴰ·append-right}
-use Prim.Native.Nat.{ℕ, suc, _+_, _-_, _*_, _<_, _≤_}
+use Prim.Native.Nat.{ℕ, _+_, _-_, _*_, _<_, _≤_}
 use native.Mathlib.Decide.{decLt}
 use native.Mathlib.Nat.{eq-or-lt-of-le}
 use native.Mathlib.Omega.{arith}
-use lib.Dec.{eqb}
 use lib.ListN.{length, take, getD, List·getD-eq-default}
 use lib.Seq.{length-take-le, getD-take}
-use borrow.Author.Tests.{eq-eqb, ne-eqb}
+use borrow.Author.Tests.{ne-eqb}
 use Rattle.lts.specs.Idle.{idleLabel}
 use Rattle.lts.specs.inner.Lists.{upFrom}
 use Rattle.deterministic.specs.Sizes.{mostLetters}
@@ -20,7 +19,7 @@ use Rattle.merging.specs.inner.Rounds.{targetBlock, SameTargets}
 use Rattle.lts.proofs.Lists.{upFrom-of, upFrom-to}
 use Rattle.lts.proofs.Laws.Compare.{getD-any}
 use Rattle.deterministic.proofs.ListLaws.{map-same}
-use Rattle.deterministic.proofs.Refining.{signed-final, signed-block, signed-next}
+use Rattle.deterministic.proofs.Refining.{signed-next}
 
 -- The block of a state.
 pub block-in : (l : List ℕ) (n x : ℕ) → n ≤ length l → x < n → getD l x 0 ≡ getD (take n l) x n

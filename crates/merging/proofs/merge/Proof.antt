@@ -1,5 +1,4 @@
 -- `merge` meets its contract: each turn starts behind r rounds.
-use borrow.Author.Needs.{needs}
 use Rattle.merging.proofs.merge.Statement.{statement}
 use Rattle.merging.proofs.merge.Tie as tie
 use mathlib.Core.Path.{_≡_, ap, _∙_}

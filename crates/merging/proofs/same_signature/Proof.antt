@@ -6,7 +6,6 @@ use mathlib.Core.Path.{_≡_, sym, _∙_}
 use mathlib.Core.Bool.{false}
 use mathlib.Core.List.{List}
 use Prim.Native.Nat.{ℕ}
-use native.Mathlib.Omega.{arith}
 use lib.ListN.{take, getD}
 use Rattle.deterministic.specs.inner.Blocks.{Table, blockOf}
 use Rattle.deterministic.specs.inner.Arrays.{arrayTable}

@@ -47,7 +47,10 @@ loop-again c =
     let a = in-loop .before .before .before .args in
     let x = c .before .before .target-block in
     let y = c .before .target-block2 in
-    (omega arith, targets-more (a .next .now) (take (a .n) (a .old .now)) (a .n) (in-loop .before .loop .c) (a .j) (a .k) (x .result) (y .result) (in-loop .before .loop .inv .1) (x .ensures) (y .ensures) (c .if1 .left))
+    let l = in-loop .before .loop in (
+      omega arith,
+      targets-more (a .next .now) (take (a .n) (a .old .now)) (a .n) (l .c) (a .j) (a .k) (x .result) (y .result) (l .inv .1) (x .ensures) (y .ensures) (c .if1 .left),
+    )
 
 returns-2 : tie.Need-returns-2 Inv-loop μ-loop
 returns-2 c = let l = c .before .loop in
