@@ -23,17 +23,17 @@ use Rattle.merging.proofs.Laws.Signatures.{block-in}
 
 -- One block more.
 module _ (P : ℕ → ℕ) (new : List ℕ) (k x : ℕ) (b : k < length new) where
-  pub one-more : ((i : ℕ) → i < k → getD new i 0 ≡ P i) → x ≡ P k → (i : ℕ) → i < k + 1 → getD (set new k x) i 0 ≡ P i
+  one-more : ((i : ℕ) → i < k → getD new i 0 ≡ P i) → x ≡ P k → (i : ℕ) → i < k + 1 → getD (set new k x) i 0 ≡ P i
   one-more f e i h = case (eq-or-lt-of-le (omega arith))
     where
       case : (i ≡ k) ⊎ (i < k) → getD (set new k x) i 0 ≡ P i
       case (inl z) = ap (λ j. getD (set new k x) j 0) z ∙ (getD-set-same new k x 0 b ∙ (e ∙ ap P (sym z)))
       case (inr z) = getD-set-other new k i x 0 (λ y. absurd (omega arith)) ∙ f i z
 
-  pub one-less : ((i : ℕ) → i < k + 1 → getD (set new k x) i 0 ≡ P i) → ((i : ℕ) → i < k → getD new i 0 ≡ P i) × (x ≡ P k)
+  one-less : ((i : ℕ) → i < k + 1 → getD (set new k x) i 0 ≡ P i) → ((i : ℕ) → i < k → getD new i 0 ≡ P i) × (x ≡ P k)
   one-less f = (λ i h. sym (getD-set-other new k i x 0 (λ y. absurd (omega arith))) ∙ f i (omega arith), sym (getD-set-same new k x 0 b) ∙ f k (omega arith))
 
-  pub still-same : {s : Bool} {r : Bool} → r ≡ (s && eqb x (P k)) → Decides ((i : ℕ) → i < k → getD new i 0 ≡ P i) s
+  still-same : {s : Bool} {r : Bool} → r ≡ (s && eqb x (P k)) → Decides ((i : ℕ) → i < k → getD new i 0 ≡ P i) s
       → Decides ((i : ℕ) → i < k + 1 → getD (set new k x) i 0 ≡ P i) r
   still-same {s} e d = decided-test _ _ e
       (λ y. let (u, v) = and-true-of s (eqb x (P k)) y in one-more (d .yes u) (eqb-true x (P k) v))
@@ -141,7 +141,7 @@ module _ (t : Table) where
       getD-take m zeros i m (omega arith) ∙ (getD-replicate s i 0 m (omega arith) ∙ sym (one-block t i (omega arith))))
 
   -- After as many rounds as there are states nothing changes.
-  pub refined-late : (r : ℕ) → m ≤ r → refined t r ≡ blocks t
+  refined-late : (r : ℕ) → m ≤ r → refined t r ≡ blocks t
   unfolding refined blocks
   refined-late r b = let e : r ≡ r - m + m = omega arith in ap (refined t) e ∙ by (decLt 0 m) (r - m)
     where
