@@ -21,6 +21,7 @@ use Rattle.automaton.specs.Build.{Counts, counts, fitted}
 use Rattle.automaton.specs.AcceptsBytes.{AcceptsBytes}
 use Rattle.automaton.specs.Explains.{Explains}
 use Rattle.automaton.specs.inner.Search.{listing}
+use Rattle.explanations.specs.Explanation.{andThen}
 use Rattle.deterministic.specs.Sizes.{mostSets, smallestLength, workLength}
 use Rattle.deterministic.specs.Automata.{Automaton, Accepts}
 use Rattle.deterministic.specs.Smallest.{SameWords, IsSmallest}
@@ -38,11 +39,6 @@ abbrev pub besideOf : Table → Listing → Reply Beside
 besideOf t L =
     let A = automatonIn L in
     unless (leb (length (sets A (alphabet t) mostSets)) mostSets) 20 (suc mostSets) (accepted (record { list = L; smallest = smallest A (alphabet t) mostSets }))
-
--- Goes on with what was accepted.
-abbrev pub andThen : {A B : Type 0} → Reply A → (A → Reply B) → Reply B
-andThen (accepted a) next = next a
-andThen (refusal number figure) next = refusal number figure
 
 -- `table` and `formula` are prepared bytes; rows, edges, `buffer` and `work` are lent.
 unfoldable pub smallestAsked : List ℕ → List ℕ → List ℕ → List ℕ → List ℕ → List ℕ → Reply Beside
