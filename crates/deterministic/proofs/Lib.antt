@@ -18,3 +18,4 @@ pub mod Subsets
 pub mod Request
 pub mod Examples
 pub mod Listings
+pub mod Answered
