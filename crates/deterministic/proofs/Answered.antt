@@ -1,16 +1,22 @@
 -- What an accepted call for the smallest automaton says of the bytes that it leaves.
 use mathlib.Core.Path.{_≡_, refl, sym, ap, _∙_, subst}
 use mathlib.Core.Logic.{_↔_}
-use mathlib.Core.List.{List, _++_}
+use mathlib.Core.List.{List, [], _∷_, _++_}
 use mathlib.Core.Option.{some}
-use Prim.Native.Nat.{ℕ, suc, _≤_}
+use Prim.Native.Nat.{ℕ, suc, _*_, _≤_}
 use lib.Dec.{leb}
-use lib.ListN.{length, take, drop}
+use native.Mathlib.Nat.{mul-le-mul}
+use native.Mathlib.Omega.{arith}
+use lib.ListN.{length, take, drop, length-append}
 use lib.Seq.{take-append-seam}
 use borrow.Author.Tests.{le-leb, leb-true}
 use Rattle.lts.specs.Reply.{Reply, accepted, refusal, unless, overwritten, leftIn, answers}
 use Rattle.lts.specs.Steps.{Table, labels}
+use Rattle.lts.specs.Idle.{idleLabel}
+use Rattle.lts.specs.inner.Lists.{upFrom}
+use Rattle.lts.specs.inner.Range.{InRange}
 use Rattle.lts.specs.inner.Steps.{alphabet}
+use Rattle.lts.proofs.Lists.{upFrom-length}
 use Rattle.lts.specs.Prepared.{withTable}
 use Rattle.lts.specs.inner.Prepared.{preparedTable}
 use Rattle.actl.specs.Formulas.{Formula}
@@ -32,8 +38,8 @@ use Rattle.automaton.proofs.WordsAccepted.{listing-accepts}
 use Rattle.explanations.specs.Demands.{FromPrepared}
 use Rattle.explanations.specs.Explanation.{andThen}
 use Rattle.explanations.proofs.Demands.{building-explains}
-use Rattle.deterministic.specs.Sizes.{mostSets, smallestLength, workLength}
-use Rattle.deterministic.specs.Automata.{Automaton, Accepts}
+use Rattle.deterministic.specs.Sizes.{mostSets, mostLetters, smallestLength, workLength}
+use Rattle.deterministic.specs.Automata.{Automaton, count, Accepts}
 use Rattle.deterministic.specs.Smallest.{SameWords, IsSmallest}
 use Rattle.deterministic.specs.Listings.{automatonIn}
 use Rattle.deterministic.specs.Bytes.{automatonBytes}
@@ -41,7 +47,7 @@ use Rattle.deterministic.specs.SmallestAsked.{Beside, besideOf, smallest
 use Rattle.deterministic.specs.inner.Subsets.{sets, smallest}
 use Rattle.deterministic.proofs.Runs.{same-trans}
 use Rattle.deterministic.proofs.Listings.{build-words, is-build}
-use Rattle.deterministic.proofs.Request.{refused-exactly, smallest-is}
+use Rattle.deterministic.proofs.Request.{refused-exactly, smallest-is, is-small, has-few-edges}
 
 same-accepted : {A : Type 0} {a b : A} → accepted a ≡ accepted b → a ≡ b
 same-accepted e = cc
@@ -53,6 +59,12 @@ besideIn rows edges t F = andThen (fitted (listing t F) rows edges) (besideOf t)
 and-accepted : {A B : Type 0} (r : Reply A) (next : A → Reply B) {b : B} → andThen r next ≡ accepted b → (a : A) × (r ≡ accepted a) × (next a ≡ accepted b)
 and-accepted (accepted a) next e = (a, refl, e)
 and-accepted (refusal n g) next e = absurd (refusal-is-not-accepted e)
+
+alphabet-few : (t : Table) → InRange t → length (alphabet t) ≤ mostLetters
+alphabet-few t w = omega (arith, length-append (upFrom 0 (suc (labels t))) (idleLabel ∷ []), upFrom-length 0 (suc (labels t)), w .few-labels)
+
+few-edges : (d : Automaton) {n : ℕ} → count d ≤ mostSets → length (d .edges) ≤ count d * n → n ≤ mostLetters → length (d .edges) ≤ mostSets * mostLetters
+few-edges d {n} a b c = let e = mul-le-mul a c in omega arith
 
 -- Of the same words.
 of-words : {P Q : List ℕ → Type 0} {d : Automaton} → SameWords P Q → IsSmallest Q d → IsSmallest P d
@@ -153,7 +165,8 @@ module _ (table formula rows edges buffer work : List ℕ) where
           let c = formed-has-class form in
           let h = listing-listed t F w c in
           let build = is-build t F w c L h in
-          let least = smallest-is (alphabet t) mostSets (automatonIn L) build (refused-exactly (alphabet t) mostSets (automatonIn L) build .0 (a .few)) in
+          let few = refused-exactly (alphabet t) mostSets (automatonIn L) build .0 (a .few) in
+          let least = smallest-is (alphabet t) mostSets (automatonIn L) build few in
           let bytes : (v : List ℕ) → AcceptsBytes (counts L) (overwritten (rowsBytes L) rows) (overwritten (edgesBytes L) edges) v ↔ Explains t F v
           = listing-accepts t F w c (form .few) (drop (length (rowsBytes L)) rows) (drop (length (edgesBytes L)) edges) in
           let words : SameWords (Explains t F) (Accepts (automatonIn L)) = λ v. let u = explains-is-walk t F v c in let x = listing-words t F w c v in let y = build-words L v in
@@ -164,6 +177,9 @@ module _ (table formula rows edges buffer work : List ℕ) where
             says = take-append-seam (automatonBytes (b .smallest)) (drop (length (automatonBytes (b .smallest))) buffer);
             is-smallest = is;
             same-words = same-trans (subst (λ (K : Listing). SameWords (AcceptsBytes (counts K) (overwritten (rowsBytes K) rows) (overwritten (edgesBytes K) edges)) (Explains t F)) (sym (a .list-is)) bytes) (is .exact);
+            few-states = subst (λ (e : Automaton). count e ≤ mostSets) (sym (a .smallest-is)) (is-small (alphabet t) mostSets (automatonIn L) build few);
+            few-edges = subst (λ (e : Automaton). length (e .edges) ≤ mostSets * mostLetters) (sym (a .smallest-is)) (few-edges (smallestOf t L)
+                (is-small (alphabet t) mostSets (automatonIn L) build few) (has-few-edges (alphabet t) mostSets (automatonIn L) build few) (alphabet-few t w));
           }
 
       by : (r : Reply Beside) → asked ≡ r → SmallestAnswered table formula (answers countsBeside r) (leftIn rowsBeside r rows) (leftIn edgesBeside r edges) (leftIn smallestBytes r buffer)

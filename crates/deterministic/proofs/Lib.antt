@@ -19,3 +19,5 @@ pub mod Request
 pub mod Examples
 pub mod Listings
 pub mod Answered
+pub mod Refusals
+pub mod Bytes

@@ -1,9 +1,8 @@
 -- What asking for the smallest automaton beside a build answers and leaves.
 use mathlib.Core.Path.{_≡_}
-use mathlib.Core.Logic.{_↔_}
 use mathlib.Core.Bool.{cond}
 use mathlib.Core.List.{List}
-use Prim.Native.Nat.{ℕ, suc}
+use Prim.Native.Nat.{ℕ, suc, _*_, _≤_}
 use lib.Dec.{eqb, leb}
 use lib.ListN.{length, take, replicate}
 use Rattle.lts.specs.Reply.{Reply, accepted, refusal, unless, overwritten, leftIn, answers}
@@ -22,8 +21,8 @@ use Rattle.automaton.specs.AcceptsBytes.{AcceptsBytes}
 use Rattle.automaton.specs.Explains.{Explains}
 use Rattle.automaton.specs.inner.Search.{listing}
 use Rattle.explanations.specs.Explanation.{andThen}
-use Rattle.deterministic.specs.Sizes.{mostSets, smallestLength, workLength}
-use Rattle.deterministic.specs.Automata.{Automaton, Accepts}
+use Rattle.deterministic.specs.Sizes.{mostSets, mostLetters, smallestLength, workLength}
+use Rattle.deterministic.specs.Automata.{Automaton, count, Accepts}
 use Rattle.deterministic.specs.Smallest.{SameWords, IsSmallest}
 use Rattle.deterministic.specs.Listings.{automatonIn}
 use Rattle.deterministic.specs.Bytes.{automatonBytes}
@@ -77,6 +76,8 @@ pub record SmallestIn (t : Table) (F : Formula) (c : Counts) (rows edges left : 
   pub says : take (length (automatonBytes d)) left ≡ automatonBytes d
   pub is-smallest : IsSmallest (Explains t F) d
   pub same-words : SameWords (AcceptsBytes c rows edges) (Accepts d)
+  pub few-states : count d ≤ mostSets
+  pub few-edges : length (d .edges) ≤ mostSets * mostLetters
 
 abbrev pub SmallestAnswered : List ℕ → List ℕ → Reply Counts → List ℕ → List ℕ → List ℕ → Type 0
 SmallestAnswered table formula (accepted c) rows edges left = InPrepared table formula (λ t F. SmallestIn t F c rows edges left)
