@@ -100,7 +100,8 @@ module _ (table formula rows edges buffer work : List ℕ) where
   unfolding smallestAsked
   had-room e =
       let second = unless (leb workLength (length work)) 14 workLength behindLengths in
-      let (x, d) = unless-accepted (leb smallestLength (length buffer)) 14 smallestLength second (long-enough-accepted table formula (unless (leb smallestLength (length buffer)) 14 smallestLength second) e) in
+      let (x, d) = unless-accepted (leb smallestLength (length buffer)) 14 smallestLength second
+      (long-enough-accepted table formula (unless (leb smallestLength (length buffer)) 14 smallestLength second) e) in
       let (y, f) = unless-accepted (leb workLength (length work)) 14 workLength behindLengths d in
       (leb-true smallestLength (length buffer) x, leb-true workLength (length work) y)
 
@@ -127,7 +128,8 @@ module _ (table formula rows edges buffer work : List ℕ) where
       let (L, f, g) = and-accepted (fitted (listing t F) rows edges) (besideOf t) (p .goes-on) in
       let is = fitted-accepted (listing t F) rows edges f .2 in
       let g′ : besideOf t (listing t F) ≡ accepted b = subst (λ (K : Listing). besideOf t K ≡ accepted b) is g in
-      let (few, h) = unless-accepted (leb (length (sets (automatonIn (listing t F)) (alphabet t) mostSets)) mostSets) 20 (suc mostSets) (accepted (record { list = listing t F; smallest = smallestOf t (listing t F) })) g′ in
+      let (few, h) = unless-accepted (leb (length (sets (automatonIn (listing t F)) (alphabet t) mostSets)) mostSets) 20 (suc mostSets)
+      (accepted (record { list = listing t F; smallest = smallestOf t (listing t F) })) g′ in
       let same : record { list = listing t F; smallest = smallestOf t (listing t F) } ≡ b = same-accepted h in
       record {
         t = t;
@@ -155,7 +157,8 @@ module _ (table formula rows edges buffer work : List ℕ) where
   pub smallest-answered : SmallestAnswered table formula (answers countsBeside asked) (leftIn rowsBeside asked rows) (leftIn edgesBeside asked edges) (leftIn smallestBytes asked buffer)
   smallest-answered = by asked refl
     where
-      said : (b : Beside) (a : Accepted b) → SmallestIn (a .t) (a .F) (counts (b .list)) (overwritten (rowsBytes (b .list)) rows) (overwritten (edgesBytes (b .list)) edges) (overwritten (automatonBytes (b .smallest)) buffer)
+      said : (b : Beside) (a : Accepted b)
+          → SmallestIn (a .t) (a .F) (counts (b .list)) (overwritten (rowsBytes (b .list)) rows) (overwritten (edgesBytes (b .list)) edges) (overwritten (automatonBytes (b .smallest)) buffer)
       said b a =
           let t = a .t in
           let F = a .F in
@@ -176,7 +179,8 @@ module _ (table formula rows edges buffer work : List ℕ) where
             d = b .smallest;
             says = take-append-seam (automatonBytes (b .smallest)) (drop (length (automatonBytes (b .smallest))) buffer);
             is-smallest = is;
-            same-words = same-trans (subst (λ (K : Listing). SameWords (AcceptsBytes (counts K) (overwritten (rowsBytes K) rows) (overwritten (edgesBytes K) edges)) (Explains t F)) (sym (a .list-is)) bytes) (is .exact);
+            same-words = same-trans
+                (subst (λ (K : Listing). SameWords (AcceptsBytes (counts K) (overwritten (rowsBytes K) rows) (overwritten (edgesBytes K) edges)) (Explains t F)) (sym (a .list-is)) bytes) (is .exact);
             few-states = subst (λ (e : Automaton). count e ≤ mostSets) (sym (a .smallest-is)) (is-small (alphabet t) mostSets (automatonIn L) build few);
             few-edges = subst (λ (e : Automaton). length (e .edges) ≤ mostSets * mostLetters) (sym (a .smallest-is)) (few-edges (smallestOf t L)
                 (is-small (alphabet t) mostSets (automatonIn L) build few) (has-few-edges (alphabet t) mostSets (automatonIn L) build few) (alphabet-few t w));

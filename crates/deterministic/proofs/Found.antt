@@ -163,8 +163,10 @@ module _ {A : Type 0} (S : System A) (t : Tests (S .same)) (rows : List A) (c : 
     unfolding automatonOf
     found-sorted r = map-rising (edgeOf S rows) MoveBefore Before ms (λ x y a b h. h) (moves-rising r)
 
-    in-turn-rows : (pre : List (Move A)) (x : Move A) (post : List (Move A)) → ms ≡ pre ++ (x ∷ post) → (i : ℕ) → 1 ≤ i → i < number (x .goal) → (m : Move A) × List·Memᴰ m pre × (number (m .goal) ≡ i)
-    in-turn-rows = subst (λ (l : List A). (pre : List (Move A)) (x : Move A) (post : List (Move A)) → ms ≡ pre ++ (x ∷ post) → (i : ℕ) → 1 ≤ i → i < numberOf (S .same) l (x .goal) → (m : Move A) × List·Memᴰ m pre × (numberOf (S .same) l (m .goal) ≡ i))
+    in-turn-rows : (pre : List (Move A)) (x : Move A) (post : List (Move A)) → ms ≡ pre ++ (x ∷ post) → (i : ℕ) → 1 ≤ i → i < number (x .goal)
+        → (m : Move A) × List·Memᴰ m pre × (number (m .goal) ≡ i)
+    in-turn-rows = subst (λ (l : List A). (pre : List (Move A)) (x : Move A) (post : List (Move A)) → ms ≡ pre ++ (x ∷ post) → (i : ℕ) → 1 ≤ i
+        → i < numberOf (S .same) l (x .goal) → (m : Move A) × List·Memᴰ m pre × (numberOf (S .same) l (m .goal) ≡ i))
         (sym (c .built)) (all-in-turn S t (S .start) ms)
 
     pub found-in-turn : (before after : List Edge) (e : Edge) → d .edges ≡ before ++ (e ∷ after) → (i : ℕ) → 1 ≤ i → i < e .target → (a : Edge) × List·Memᴰ a before × (a .target ≡ i)

@@ -53,7 +53,8 @@ module _ {A : Type 0} (S : System A) where
     search-more zero i rows = ([], sym (append-nil rows))
     search-more (suc n) i rows = case (ltb i (length rows)) (search-more n (suc i) (expand S rows i))
       where
-        case : (b : Bool) → (extra : List A) × (search S n (suc i) (expand S rows i) ≡ expand S rows i ++ extra) → (extra : List A) × (cond b (search S n (suc i) (expand S rows i)) rows ≡ rows ++ extra)
+        case : (b : Bool) → (extra : List A) × (search S n (suc i) (expand S rows i) ≡ expand S rows i ++ extra)
+            → (extra : List A) × (cond b (search S n (suc i) (expand S rows i)) rows ≡ rows ++ extra)
         case true (x, e) =
             let (y, d) = visits-more S t rows (movesFrom S i (placeAt S rows i)) in
             (y ++ x, e ∙ (ap (λ l. l ++ x) d ∙ append-assoc rows y x))

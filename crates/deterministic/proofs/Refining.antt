@@ -141,7 +141,8 @@ module _ (t : Table) where
 
   rounds : 0 < n → (r : ℕ) → Stable (refined t r) ⊎ (r < blockCount (refined t r))
   unfolding refined
-  rounds s zero = inr (some (keep (lowest (refined t 0)) (upFrom 0 n)) (keep-to (lowest (refined t 0)) (upFrom 0 n) (upFrom-to 0 n 0 (omega arith) (omega arith)) (eq-eqb (B (refined t 0) 0) 0 (omega (arith, refined-partition 0 .low 0 s)))))
+  rounds s zero = inr (some (keep (lowest (refined t 0)) (upFrom 0 n))
+      (keep-to (lowest (refined t 0)) (upFrom 0 n) (upFrom-to 0 n 0 (omega arith) (omega arith)) (eq-eqb (B (refined t 0) 0) 0 (omega (arith, refined-partition 0 .low 0 s)))))
     where
       some : (l : List ℕ) → List·Memᴰ 0 l → 0 < length l
       some [] m = absurd (List·Memᴰ·not-nil m)

@@ -97,7 +97,8 @@ module _ (table formula rows edges buffer work : List ℕ) where
         ∙ (on-prepared-goes table formula is-table is-formula (besideIn rows edges) long wide ∙ ap (λ r. andThen r (besideOf t)) fits) in
         let told = answers-refused countsBeside asked 20 (suc mostSets) in (
           λ e h. many (length (sets A (alphabet t) mostSets)) (record { list = listing t F; smallest = smallestOf t (listing t F) }) (sym is ∙ told .0 e) (few .1 h),
-          λ n. told .1 (is ∙ ap (λ b. unless b 20 (suc mostSets) (accepted (record { list = listing t F; smallest = smallestOf t (listing t F) }))) (none (length (sets A (alphabet t) mostSets)) (λ h. n (few .0 h)))),
+          λ n. told .1 (is ∙ ap (λ b. unless b 20 (suc mostSets) (accepted (record { list = listing t F; smallest = smallestOf t (listing t F) })))
+              (none (length (sets A (alphabet t) mostSets)) (λ h. n (few .0 h)))),
         )
       where
         none : (k : ℕ) → (k ≤ mostSets → ⊥) → leb k mostSets ≡ false

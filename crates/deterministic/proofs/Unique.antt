@@ -43,7 +43,8 @@ first-to n (x ∷ l) e m z = case (ℕ-discrete (x .target) n) (λ k. first-to n
 -- In a sorted list, what stands before an edge is what precedes it.
 pub stands-before : (pre post : List Edge) (x a : Edge) → Rising Before (pre ++ (x ∷ post)) → List·Memᴰ a pre → Before a x
 stands-before [] post x a s m = absurd (List·Memᴰ·not-nil m)
-stands-before (y ∷ pre) post x a s m = elim (List·Memᴰ·cases-cons m) [ inl e ↦ subst (λ u. Before u x) (sym e) (s .0 x (Memᴰ·append-right pre (List·Memᴰ·head refl))) | inr n ↦ stands-before pre post x a (s .1) n ]
+stands-before (y ∷ pre) post x a s m =
+    elim (List·Memᴰ·cases-cons m) [ inl e ↦ subst (λ u. Before u x) (sym e) (s .0 x (Memᴰ·append-right pre (List·Memᴰ·head refl))) | inr n ↦ stands-before pre post x a (s .1) n ]
 
 pub before-stands : (pre post : List Edge) (x a : Edge) → Rising Before (pre ++ (x ∷ post)) → List·Memᴰ a (pre ++ (x ∷ post)) → Before a x → List·Memᴰ a pre
 before-stands [] post x a s m b = elim (List·Memᴰ·cases-cons m) [ inl e ↦ let z = subst (λ u. Before u x) e b in absurd (before-never x x z z) | inr n ↦ absurd (before-never x a (s .0 a n) b) ]

@@ -3,7 +3,8 @@
 use mathlib.Core.Path.{_≡_, refl, sym, ap, _∙_, subst}
 use mathlib.Core.Logic.{_⊎_, inl, inr}
 use mathlib.Core.Bool.{Bool, true, false, cond}
-use mathlib.Core.List.{List, [], _∷_, _++_, append-nil, append-assoc, List·Memᴰ, List·Memᴰ·head, List·Memᴰ·tail, List·Memᴰ·not-nil, List·Memᴰ·cases-cons, List·Memᴰ·append-cases, List·Memᴰ·eq-of-singleton, Memᴰ·cast, Memᴰ·append-left, Memᴰ·append-right}
+use mathlib.Core.List.{List, [], _∷_, _++_, append-nil, append-assoc, List·Memᴰ, List·Memᴰ·head}
+use mathlib.Core.List.{List·Memᴰ·tail, List·Memᴰ·not-nil, List·Memᴰ·cases-cons, List·Memᴰ·append-cases, List·Memᴰ·eq-of-singleton, Memᴰ·cast, Memᴰ·append-left, Memᴰ·append-right}
 use Prim.Native.Nat.{ℕ, _<_, _≤_}
 use native.Mathlib.Omega.{arith}
 use lib.ListN.{length, length-append, List·getD-append}
@@ -128,14 +129,16 @@ module _ {A : Type 0} (S : System A) (t : Tests (S .same)) where
     pub all-numbered : (i : ℕ) → i < length all → number all (placeAt S all i) ≡ i
     all-numbered i h = numbered t all all-distinct i (S .start) h
 
-    goal-or : (i : ℕ) → 1 ≤ i → i < length all → (l : List (Move A)) → List·Memᴰ (placeAt S all i) (r ∷ []) ⊎ ((m : Move A) × List·Memᴰ m l × (placeAt S all i ≡ m .goal)) → (m : Move A) × List·Memᴰ m l × (number all (m .goal) ≡ i)
+    goal-or : (i : ℕ) → 1 ≤ i → i < length all → (l : List (Move A)) → List·Memᴰ (placeAt S all i) (r ∷ []) ⊎ ((m : Move A) × List·Memᴰ m l × (placeAt S all i ≡ m .goal))
+        → (m : Move A) × List·Memᴰ m l × (number all (m .goal) ≡ i)
     goal-or i h b l (inl n) =
         let e : placeAt S all i ≡ placeAt S all 0 = List·Memᴰ·eq-of-singleton n ∙ sym (all-first .1) in
         let z : i ≡ 0 = sym (all-numbered i b) ∙ (ap (number all) e ∙ all-numbered 0 (omega (arith, all-first .0))) in
         absurd (omega arith)
     goal-or i h b l (inr (m, n, e)) = (m, n, ap (number all) (sym e) ∙ all-numbered i b)
 
-    pub all-in-turn : (pre : List (Move A)) (x : Move A) (post : List (Move A)) → ms ≡ pre ++ (x ∷ post) → (i : ℕ) → 1 ≤ i → i < number all (x .goal) → (m : Move A) × List·Memᴰ m pre × (number all (m .goal) ≡ i)
+    pub all-in-turn : (pre : List (Move A)) (x : Move A) (post : List (Move A)) → ms ≡ pre ++ (x ∷ post) → (i : ℕ) → 1 ≤ i → i < number all (x .goal)
+        → (m : Move A) × List·Memᴰ m pre × (number all (m .goal) ≡ i)
     unfolding visits
     all-in-turn pre x post e i h b =
         let B = visits S (r ∷ []) pre in
