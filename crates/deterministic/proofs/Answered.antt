@@ -43,7 +43,7 @@ use Rattle.deterministic.specs.Automata.{Automaton, count, Accepts}
 use Rattle.deterministic.specs.Smallest.{SameWords, IsSmallest}
 use Rattle.deterministic.specs.Listings.{automatonIn}
 use Rattle.deterministic.specs.Bytes.{automatonBytes}
-use Rattle.deterministic.specs.SmallestAsked.{Beside, besideOf, smallestAsked, countsBeside, rowsBeside, edgesBeside, smallestBytes, SmallestIn, SmallestAnswered}
+use Rattle.deterministic.specs.SmallestAsked.{Beside, besideOf, besideIn, smallestAsked, countsBeside, rowsBeside, edgesBeside, smallestBytes, SmallestIn, SmallestAnswered}
 use Rattle.deterministic.specs.inner.Subsets.{sets, smallest}
 use Rattle.deterministic.proofs.Runs.{same-trans}
 use Rattle.deterministic.proofs.Listings.{build-words, is-build}
@@ -51,10 +51,6 @@ use Rattle.deterministic.proofs.Request.{refused-exactly, smallest-is, 
 
 same-accepted : {A : Type 0} {a b : A} → accepted a ≡ accepted b → a ≡ b
 same-accepted e = cc
-
--- What the table and the formula in prepared bytes say.
-abbrev pub besideIn : List ℕ → List ℕ → Table → Formula → Reply Beside
-besideIn rows edges t F = andThen (fitted (listing t F) rows edges) (besideOf t)
 
 and-accepted : {A B : Type 0} (r : Reply A) (next : A → Reply B) {b : B} → andThen r next ≡ accepted b → (a : A) × (r ≡ accepted a) × (next a ≡ accepted b)
 and-accepted (accepted a) next e = (a, refl, e)

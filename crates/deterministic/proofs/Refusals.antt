@@ -33,9 +33,9 @@ use Rattle.explanations.specs.Explanation.{andThen}
 use Rattle.deterministic.specs.Sizes.{mostSets, smallestLength, workLength}
 use Rattle.deterministic.specs.Listings.{automatonIn}
 use Rattle.deterministic.specs.Sets.{FewSets}
-use Rattle.deterministic.specs.SmallestAsked.{Beside, besideOf, smallestAsked, countsBeside}
+use Rattle.deterministic.specs.SmallestAsked.{Beside, besideOf, besideIn, smallestAsked, countsBeside}
 use Rattle.deterministic.specs.inner.Subsets.{sets, smallest}
-use Rattle.deterministic.proofs.Answered.{besideIn, with-room, smallestOf}
+use Rattle.deterministic.proofs.Answered.{with-room, smallestOf}
 use Rattle.deterministic.proofs.Listings.{is-build}
 use Rattle.deterministic.proofs.Request.{refused-exactly}
 

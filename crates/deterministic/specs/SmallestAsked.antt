@@ -39,6 +39,10 @@ besideOf t L =
     let A = automatonIn L in
     unless (leb (length (sets A (alphabet t) mostSets)) mostSets) 20 (suc mostSets) (accepted (record { list = L; smallest = smallest A (alphabet t) mostSets }))
 
+-- Of the table and the formula: 11 and 12 as of a build, then 20.
+abbrev pub besideIn : List ℕ → List ℕ → Table → Formula → Reply Beside
+besideIn rows edges t F = andThen (fitted (listing t F) rows edges) (besideOf t)
+
 -- `table` and `formula` are prepared bytes; rows, edges, `buffer` and `work` are lent.
 unfoldable pub smallestAsked : List ℕ → List ℕ → List ℕ → List ℕ → List ℕ → List ℕ → Reply Beside
 smallestAsked table formula rows edges buffer work =
@@ -46,8 +50,7 @@ smallestAsked table formula rows edges buffer work =
     unless (leb smallestLength (length buffer)) 14 smallestLength (
     unless (leb workLength (length work)) 14 workLength (
     withTable (preparedTable table) (λ t.
-    withFormula (preparedFormula (labels t) formula) (λ F.
-    andThen (fitted (listing t F) rows edges) (besideOf t))))))
+    withFormula (preparedFormula (labels t) formula) (λ F. besideIn rows edges t F)))))
 
 abbrev pub countsBeside : Beside → Counts
 countsBeside b = counts (b .list)

@@ -3,3 +3,4 @@ pub mod Steps
 pub mod Rows
 pub mod Listed
 pub mod Found
+pub mod Ready

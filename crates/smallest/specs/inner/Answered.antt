@@ -1,0 +1,28 @@
+-- What is answered and left, over what a definition says; the work buffer keeps what is past its length.
+use mathlib.Core.Path.{_≡_}
+use mathlib.Core.List.{List}
+use Prim.Native.Nat.{ℕ}
+use lib.ListN.{length, drop}
+use Rattle.lts.specs.Reply.{Reply, leftIn, answers}
+use Rattle.lts.specs.Steps.{Table}
+use Rattle.actl.specs.Formulas.{Formula}
+use Rattle.actl.specs.FormulaReading.{onPrepared}
+use Rattle.deterministic.specs.Sizes.{workLength}
+use Rattle.deterministic.specs.SmallestAsked.{Beside, besideIn, countsBeside, rowsBeside, edgesBeside, smallestBytes}
+use Rattle.smallest.specs.Replies.{smallestReply}
+use Rattle.smallest.specs.declared.SmallestReply.{SmallestReply}
+
+pub record WorkKept (before after : List ℕ) : Type 0 where
+  pub long : length after ≡ length before
+  pub past : drop workLength after ≡ drop workLength before
+
+-- Laid out beside each other in lent places, as f says.
+pub record LaidBeside (f : Reply Beside) (rows edges out : List ℕ) (r : SmallestReply) (rowsAfter edgesAfter outAfter : List ℕ) : Type 0 where
+  pub reply : smallestReply r ≡ answers countsBeside f
+  pub rows-left : rowsAfter ≡ leftIn rowsBeside f rows
+  pub edges-left : edgesAfter ≡ leftIn edgesBeside f edges
+  pub out-left : outAfter ≡ leftIn smallestBytes f out
+
+pub record Answered (table formula rows edges out work : List ℕ) (r : SmallestReply) (rowsAfter edgesAfter outAfter workAfter : List ℕ) : Type 0 where
+  pub laid : LaidBeside (onPrepared table formula (besideIn rows edges)) rows edges out r rowsAfter edgesAfter outAfter
+  pub kept : WorkKept work workAfter
