@@ -72,6 +72,26 @@ abbrev pub workLeft : {A : Type 0} → Reply A → List ℕ → List ℕ
 workLeft (accepted a) work = cleared work
 workLeft (refusal number figure) work = cond (eqb number 14) work (cleared work)
 
+module _ (table formula rows edges buffer work : List ℕ) where
+  abbrev asked : Reply Beside
+  asked = smallestAsked table formula rows edges buffer work
+
+  -- Accepted: the counts of the build. Rows and edges as a build leaves them, the automaton's bytes beside them.
+  abbrev pub smallestReplied : Reply Counts
+  smallestReplied = answers countsBeside asked
+
+  abbrev pub smallestRows : List ℕ
+  smallestRows = leftIn rowsBeside asked rows
+
+  abbrev pub smallestEdges : List ℕ
+  smallestEdges = leftIn edgesBeside asked edges
+
+  abbrev pub smallestLeft : List ℕ
+  smallestLeft = leftIn smallestBytes asked buffer
+
+  abbrev pub smallestWork : List ℕ
+  smallestWork = workLeft asked work
+
 -- What an accepted call says of the bytes that it leaves: they say the smallest deterministic automaton of the words of Definition 6, which are those
 -- of the rows and edges beside it.
 pub record SmallestIn (t : Table) (F : Formula) (c : Counts) (rows edges left : List ℕ) : Type 0 where

@@ -13,10 +13,9 @@ mod beside;
 ghost use mathlib.Core.Path.{_≡_};
 ghost use Prim.Native.Nat.{_≤_};
 ghost use lib.ListN.{length};
-ghost use Rattle.lts.specs.Reply.{leftIn, answers};
 ghost use Rattle.explanations.specs.Demands.{FromPrepared};
 ghost use Rattle.deterministic.specs.Sizes.{smallestLength, workLength};
-ghost use Rattle.deterministic.specs.SmallestAsked.{smallestAsked, countsBeside, rowsBeside, edgesBeside, smallestBytes, cleared, workLeft, SmallestAnswered};
+ghost use Rattle.deterministic.specs.SmallestAsked.{smallestReplied, smallestRows, smallestEdges, smallestLeft, smallestWork, cleared, SmallestAnswered};
 ghost use Rattle.smallest.specs.Replies.{smallestReply};
 ghost use Rattle.smallest.specs.inner.Answered.{Answered};
 
@@ -70,15 +69,11 @@ pub fn smallest(
     out: &mut [u8],
     work: &mut [u8],
 ) -> SmallestReply
-    ensures { λ r. ⌜ smallestReply r ≡ answers countsBeside (smallestAsked (now (table .entry)) (now (formula .entry)) (now (rows .entry)) (now (edges .entry)) (now (out .entry)) (now (work .entry))) ⌝ }
-    ensures { λ _. ⌜ now (rows .exit)
-        ≡ leftIn rowsBeside (smallestAsked (now (table .entry)) (now (formula .entry)) (now (rows .entry)) (now (edges .entry)) (now (out .entry)) (now (work .entry))) (now (rows .entry)) ⌝ }
-    ensures { λ _. ⌜ now (edges .exit)
-        ≡ leftIn edgesBeside (smallestAsked (now (table .entry)) (now (formula .entry)) (now (rows .entry)) (now (edges .entry)) (now (out .entry)) (now (work .entry))) (now (edges .entry)) ⌝ }
-    ensures { λ _. ⌜ now (out .exit)
-        ≡ leftIn smallestBytes (smallestAsked (now (table .entry)) (now (formula .entry)) (now (rows .entry)) (now (edges .entry)) (now (out .entry)) (now (work .entry))) (now (out .entry)) ⌝ }
-    ensures { λ _. ⌜ now (work .exit)
-        ≡ workLeft (smallestAsked (now (table .entry)) (now (formula .entry)) (now (rows .entry)) (now (edges .entry)) (now (out .entry)) (now (work .entry))) (now (work .entry)) ⌝ }
+    ensures { λ r. ⌜ smallestReply r ≡ smallestReplied (now (table .entry)) (now (formula .entry)) (now (rows .entry)) (now (edges .entry)) (now (out .entry)) (now (work .entry)) ⌝ }
+    ensures { λ _. ⌜ now (rows .exit) ≡ smallestRows (now (table .entry)) (now (formula .entry)) (now (rows .entry)) (now (edges .entry)) (now (out .entry)) (now (work .entry)) ⌝ }
+    ensures { λ _. ⌜ now (edges .exit) ≡ smallestEdges (now (table .entry)) (now (formula .entry)) (now (rows .entry)) (now (edges .entry)) (now (out .entry)) (now (work .entry)) ⌝ }
+    ensures { λ _. ⌜ now (out .exit) ≡ smallestLeft (now (table .entry)) (now (formula .entry)) (now (rows .entry)) (now (edges .entry)) (now (out .entry)) (now (work .entry)) ⌝ }
+    ensures { λ _. ⌜ now (work .exit) ≡ smallestWork (now (table .entry)) (now (formula .entry)) (now (rows .entry)) (now (edges .entry)) (now (out .entry)) (now (work .entry)) ⌝ }
     ensures { λ r. ⌜ FromPrepared (now (table .entry)) (now (formula .entry)) (smallestReply r) (now (rows .exit)) (now (edges .exit)) ⌝ }
     ensures { λ r. ⌜ SmallestAnswered (now (table .entry)) (now (formula .entry)) (smallestReply r) (now (rows .exit)) (now (edges .exit)) (now (out .exit)) ⌝ }
 {
