@@ -1,0 +1,5 @@
+pub mod Entered
+pub mod Columns
+pub mod Searching
+pub mod Puts
+pub mod Bytes
