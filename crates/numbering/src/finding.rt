@@ -45,7 +45,7 @@ fn find_step(
     t: Totals,
 ) -> Totals
     requires { ⌜ (n ≤ mostSets) × Inside (now blocks) n ⌝ }
-    requires { ⌜ (at < mostSets * mostLetters) × (t .edges < mostSets * mostLetters) ⌝ }
+    requires { ⌜ (at < mostSets * mostLetters) × (t .edges ≤ mostSets * mostLetters) ⌝ }
     requires { ⌜ Rows (now rows) (now numbers) (t .rows) × Within n (take (t .rows) (now rows)) ⌝ }
     ensures { λ r. ⌜ Rows (now (rows .exit)) (now (numbers .exit)) (r .rows) × Within n (take (r .rows) (now (rows .exit))) ⌝ }
     ensures { λ r. ⌜ take (r .rows) (now (rows .exit)) ≡ taken (now (next .entry)) (now (blocks .entry)) n at (take (t .rows) (now (rows .entry))) ⌝ }

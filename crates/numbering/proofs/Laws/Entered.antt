@@ -3,7 +3,7 @@ use mathlib.Core.Path.{_≡_, refl, sym, ap, _∙_, subst}
 use mathlib.Core.Bool.{Bool, true, false, cond}
 use mathlib.Core.List.{List, [], _∷_, _++_, List·Memᴰ, List·Memᴰ·not-nil, List·Memᴰ·append-cases, List·Memᴰ·eq-of-singleton, Memᴰ·cast}
 use mathlib.Core.Logic.{_⊎_, inl, inr}
-use Prim.Native.Nat.{ℕ, zero, suc, _+_, _<_, _≤_}
+use Prim.Native.Nat.{ℕ, zero, suc, _+_, _-_, _<_, _≤_}
 use native.Mathlib.Decide.{ℕ-discrete}
 use native.Mathlib.Numerals.{add-one}
 use native.Mathlib.Omega.{arith}
@@ -17,7 +17,7 @@ use Rattle.deterministic.specs.Sizes.{mostSets}
 use Rattle.deterministic.specs.inner.Search.{numberOf, seen}
 use Rattle.deterministic.proofs.ListLaws.{fits}
 use Rattle.deterministic.proofs.Numbers.{Tests, number-append, number-past, number-new, unseen}
-use Rattle.numbering.specs.inner.Found.{Inside, added, slotOf, Rows, Within, taken, leads, goal, countFrom}
+use Rattle.numbering.specs.inner.Found.{Inside, added, slotOf, Rows, Within, leads, goal, taken, takenFrom, countFrom}
 
 abbrev pub tests : Tests eqb
 tests = record { of = eqb-true; to = eq-eqb }
@@ -126,12 +126,48 @@ within-added {n} {l} w b h = case (seen eqb l b) refl
     }
 
 -- One entry.
-module _ (next blocks : List ℕ) (n at : ℕ) (l : List ℕ) where
-  pub taken-none : n ≤ getD next at 0 → taken next blocks n at l ≡ l
-  taken-none h = ap (λ s. cond s (added l (goal next blocks n at)) l) (le-ltb (getD next at 0) n h)
+module _ (next blocks : List ℕ) (n at : ℕ) where
+  leads-none : n ≤ getD next at 0 → leads next blocks n at ≡ false
+  leads-none h = le-ltb (getD next at 0) n h
 
-  pub taken-one : getD next at 0 < n → taken next blocks n at l ≡ added l (goal next blocks n at)
-  taken-one h = ap (λ s. cond s (added l (goal next blocks n at)) l) (lt-ltb (getD next at 0) n h)
+  leads-one : getD next at 0 < n → leads next blocks n at ≡ true
+  leads-one h = lt-ltb (getD next at 0) n h
+
+  pub count-none : n ≤ getD next at 0 → _≡_ {A = ℕ} (cond (leads next blocks n at) 1 0) 0
+  count-none h = ap (λ s. cond s 1 0) (leads-none h)
+
+  pub count-one : getD next at 0 < n → _≡_ {A = ℕ} (cond (leads next blocks n at) 1 0) 1
+  count-one h = ap (λ s. cond s 1 0) (leads-one h)
+
+  pub taken-none : (l : List ℕ) → n ≤ getD next at 0 → taken next blocks n at l ≡ l
+  taken-none l h = ap (λ s. cond s (added l (goal next blocks n at)) l) (leads-none h)
+
+  pub taken-one : (l : List ℕ) → getD next at 0 < n → taken next blocks n at l ≡ added l (goal next blocks n at)
+  taken-one l h = ap (λ s. cond s (added l (goal next blocks n at)) l) (leads-one h)
+
+-- What is left of the entries before `end`.
+module _ (next blocks : List ℕ) (n : ℕ) where
+  pub taken-turn : (at end : ℕ) → at < end → (l : List ℕ) → takenFrom next blocks n at (end - at) l ≡ takenFrom next blocks n (at + 1) (end - (at + 1)) (taken next blocks n at l)
+  unfolding takenFrom
+  taken-turn at end h l =
+      let e : end - at ≡ suc (end - (at + 1)) = omega arith in
+      let d : suc at ≡ at + 1 = omega arith in
+      ap (λ k. takenFrom next blocks n at k l) e ∙ ap (λ k. takenFrom next blocks n k (end - (at + 1)) (taken next blocks n at l)) d
+
+  pub taken-over : (at end : ℕ) → end ≤ at → (l : List ℕ) → takenFrom next blocks n at (end - at) l ≡ l
+  unfolding takenFrom
+  taken-over at end h l = let e : end - at ≡ 0 = omega arith in ap (λ k. takenFrom next blocks n at k l) e
+
+  pub count-turn : (at end : ℕ) → at < end → countFrom next blocks n at (end - at) ≡ cond (leads next blocks n at) 1 0 + countFrom next blocks n (at + 1) (end - (at + 1))
+  unfolding countFrom
+  count-turn at end h =
+      let e : end - at ≡ suc (end - (at + 1)) = omega arith in
+      let d : suc at ≡ at + 1 = omega arith in
+      ap (countFrom next blocks n at) e ∙ ap (λ k. cond (leads next blocks n at) 1 0 + countFrom next blocks n k (end - (at + 1))) d
+
+  pub count-over : (at end : ℕ) → end ≤ at → countFrom next blocks n at (end - at) ≡ 0
+  unfolding countFrom
+  count-over at end h = let e : end - at ≡ 0 = omega arith in ap (countFrom next blocks n at) e
 
 -- Entries that lead to a state are at most all.
 pub count-few : (next blocks : List ℕ) (n at k : ℕ) → countFrom next blocks n at k ≤ k
