@@ -33,8 +33,8 @@ map-itself f l h = map-same f (λ x. x) l h ∙ plain l
     plain [] = refl
     plain (x ∷ l) = ap (λ z. x ∷ z) (plain l)
 
-pub letter-last : (m : ℕ) → letterOf (suc m) m ≡ idleLabel
-letter-last m = ap (λ s. cond s idleLabel m) (eq-eqb (suc m) (suc m) refl)
+pub letter-last : (columns c : ℕ) → suc c ≡ columns → letterOf columns c ≡ idleLabel
+letter-last columns c e = ap (λ s. cond s idleLabel c) (eq-eqb (suc c) columns e)
 
 pub letter-before : (columns c : ℕ) → suc c < columns → letterOf columns c ≡ c
 letter-before columns c h = ap (λ s. cond s idleLabel c) (ne-eqb (suc c) columns (λ z. omega arith))
@@ -46,7 +46,7 @@ letters-are (suc m) h =
     let e : m ≡ suc m - 1 = omega arith in
     let f = letterOf (suc m) in
     let begin = map-itself f (upFrom 0 m) (λ x k. letter-before (suc m) x (omega (arith, upFrom-of 0 m k .1))) in
-    let last = letter-last m in
+    let last = letter-last (suc m) m refl in
     ap (map f) (upFrom-snoc m) ∙ (map-append f (upFrom 0 m) (m ∷ []) ∙ ((λ i. begin i ++ (last i ∷ [])) ∙ ap (λ k. upFrom 0 k ++ (idleLabel ∷ [])) e))
 
 pub column-back : (columns c : ℕ) → c < columns → columns ≤ mostLetters → columnFor columns (letterOf columns c) ≡ c

@@ -1,12 +1,24 @@
 -- Bytes put one behind the other: what is left of them gives the same bytes at the end.
 use mathlib.Core.Path.{_≡_, refl, sym, ap, _∙_}
-use mathlib.Core.List.{List, [], _++_}
-use Prim.Native.Nat.{ℕ, _+_, _≤_}
+use mathlib.Core.Bool.{Bool, cond}
+use mathlib.Core.List.{List, [], _∷_, _++_, map}
+use Prim.Native.Nat.{ℕ, suc, _+_, _-_, _*_, _<_, _≤_}
 use native.Mathlib.Omega.{arith}
-use lib.ListN.{length, length-append}
+use lib.ListN.{length, getD, take, length-append, drop-of-length-le}
+use lib.Seq.{length-take-le, slice, slice-cons}
+use borrow.Author.Tests.{lt-ltb, le-ltb}
 use Rattle.columns.specs.inner.Write.{pasted}
 use Rattle.columns.proofs.Laws.Pasted.{pasted-none, pasted-then, pasted-length}
-use Rattle.numbering.specs.inner.Written.{Put}
+use Rattle.deterministic.specs.Sizes.{mostLetters}
+use Rattle.deterministic.specs.inner.Arrays.{letterOf}
+use Rattle.numbering.specs.inner.Found.{goal}
+use Rattle.numbering.specs.inner.Written.{Put, markOf, stepIn, stepsIn, edgesIn}
+
+pub put-none : {bytes : List ℕ} (out : List ℕ) (at : ℕ) → bytes ≡ [] → Put bytes out at out at
+put-none out at e = record { is = pasted-none at out ∙ ap (pasted out at) (sym e); ends = omega (arith, ap length e) }
+
+pub put-as : {bytes other out after : List ℕ} {at end : ℕ} → bytes ≡ other → Put bytes out at after end → Put other out at after end
+put-as {out} {at} e p = record { is = p .is ∙ ap (pasted out at) e; ends = omega (arith, ap length e, p .ends) }
 
 -- With the bytes that are left, from `at` on, the last ones are reached, and their end.
 pub record Left (bytes now : List ℕ) (at : ℕ) (last : List ℕ) (end : ℕ) : Type 0 where
@@ -40,3 +52,48 @@ module _ {now last : List ℕ} {at end : ℕ} where
   left-done {bytes} e l =
       let m = left-as e l in
       (pasted-none at now ∙ m .is, omega (arith, m .ends))
+
+-- The marks by row.
+module _ (marks : List Bool) (rows : List ℕ) (i count : ℕ) where
+  pub marks-turn : i < count → count ≤ length rows → map (markOf marks) (slice i count rows) ≡ (markOf marks (getD rows i 0) ∷ []) ++ map (markOf marks) (slice (i + 1) count rows)
+  marks-turn h k =
+      let e : suc i ≡ i + 1 = omega arith in
+      ap (map (markOf marks)) (slice-cons i count rows 0 h k) ∙ ap (λ j. markOf marks (getD rows i 0) ∷ map (markOf marks) (slice j count rows)) e
+
+  pub marks-over : count ≤ i → count ≤ length rows → map (markOf marks) (slice i count rows) ≡ []
+  marks-over h k = ap (map (markOf marks)) (drop-of-length-le (take count rows) {i = i} (omega (arith, length-take-le count rows k)))
+
+-- The edges by column and by row.
+module _ (next blocks numbers : List ℕ) (n columns : ℕ) where
+  module _ (i first c : ℕ) where
+    pub step-none : n ≤ getD next (first + c) 0 → stepIn next blocks numbers n columns i first c ≡ []
+    step-none h = ap (λ s. cond s (i ∷ letterOf columns c ∷ (getD numbers (goal next blocks n (first + c)) 0 - 1) ∷ []) []) (le-ltb (getD next (first + c) 0) n h)
+
+    pub step-one : getD next (first + c) 0 < n → stepIn next blocks numbers n columns i first c ≡ i ∷ letterOf columns c ∷ (getD numbers (goal next blocks n (first + c)) 0 - 1) ∷ []
+    step-one h = ap (λ s. cond s (i ∷ letterOf columns c ∷ (getD numbers (goal next blocks n (first + c)) 0 - 1) ∷ []) []) (lt-ltb (getD next (first + c) 0) n h)
+
+    pub steps-turn : c < columns → stepsIn next blocks numbers n columns i first c (columns - c)
+        ≡ stepIn next blocks numbers n columns i first c ++ stepsIn next blocks numbers n columns i first (c + 1) (columns - (c + 1))
+    unfolding stepsIn
+    steps-turn h =
+        let e : columns - c ≡ suc (columns - (c + 1)) = omega arith in
+        let d : suc c ≡ c + 1 = omega arith in
+        ap (stepsIn next blocks numbers n columns i first c) e ∙ ap (λ k. stepIn next blocks numbers n columns i first c ++ stepsIn next blocks numbers n columns i first k (columns - (c + 1))) d
+
+    pub steps-over : columns ≤ c → stepsIn next blocks numbers n columns i first c (columns - c) ≡ []
+    unfolding stepsIn
+    steps-over h = let e : columns - c ≡ 0 = omega arith in ap (stepsIn next blocks numbers n columns i first c) e
+
+  module _ (rows : List ℕ) (i count : ℕ) where
+    pub edges-turn : i < count → edgesIn next blocks numbers n columns rows i (count - i)
+        ≡ stepsIn next blocks numbers n columns i (getD rows i 0 * mostLetters) 0 columns ++ edgesIn next blocks numbers n columns rows (i + 1) (count - (i + 1))
+    unfolding edgesIn
+    edges-turn h =
+        let e : count - i ≡ suc (count - (i + 1)) = omega arith in
+        let d : suc i ≡ i + 1 = omega arith in
+        ap (edgesIn next blocks numbers n columns rows i) e
+        ∙ ap (λ k. stepsIn next blocks numbers n columns i (getD rows i 0 * mostLetters) 0 columns ++ edgesIn next blocks numbers n columns rows k (count - (i + 1))) d
+
+    pub edges-over : count ≤ i → edgesIn next blocks numbers n columns rows i (count - i) ≡ []
+    unfolding edgesIn
+    edges-over h = let e : count - i ≡ 0 = omega arith in ap (edgesIn next blocks numbers n columns rows i) e

@@ -15,9 +15,12 @@ pub record Put (bytes before : List ℕ) (at : ℕ) (after : List ℕ) (end : �
   pub is : after ≡ pasted before at bytes
   pub ends : end ≡ at + length bytes
 
--- The marks of the first `count` rows.
+-- A block's mark, and those of the first `count` rows.
+abbrev pub markOf : List Bool → ℕ → ℕ
+markOf marks b = bitOf (getD marks b false)
+
 abbrev pub marksOf : List Bool → List ℕ → ℕ → List ℕ
-marksOf marks rows count = map (λ b. bitOf (getD marks b false)) (take count rows)
+marksOf marks rows count = map (markOf marks) (take count rows)
 
 module _ (next blocks numbers : List ℕ) (n columns : ℕ) where
   -- Row i, whose entries are from `first` on: the edge of column c, if there is one.
