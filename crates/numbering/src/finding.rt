@@ -104,7 +104,7 @@ pub fn find_blocks(
 ) -> Totals
     requires { ⌜ Fits (now next) (now blocks) n columns ⌝ }
     requires { ⌜ Rows (now rows) (now numbers) 0 ⌝ }
-    ensures { λ r. ⌜ Rows (now (rows .exit)) (now (numbers .exit)) (r .rows) ⌝ }
+    ensures { λ r. ⌜ Rows (now (rows .exit)) (now (numbers .exit)) (r .rows) × Within n (take (r .rows) (now (rows .exit))) ⌝ }
     ensures { λ r. ⌜ take (r .rows) (now (rows .exit)) ≡ found (blockSystem (now (next .entry)) (now (blocks .entry)) n columns) n ⌝ }
     ensures { λ r. ⌜ r .edges ≡ length (movesUpto (blockSystem (now (next .entry)) (now (blocks .entry)) n columns) (take (r .rows) (now (rows .exit))) (r .rows)) ⌝ }
 {

@@ -57,7 +57,7 @@ returns c =
     let at-loop = c .before .before in
     let d = at-loop .before .before .before .before .before .before in
     let s = at-loop .loop .inv in
-    (s .stand, (search-rows (d .pre .0) s (c .if1 .left), search-edges (d .pre .0) s (c .if1 .left)))
+    ((s .stand, s .within), (search-rows (d .pre .0) s (c .if1 .left), search-edges (d .pre .0) s (c .if1 .left)))
 
 pub find-blocks-spec : {M : Type 1} → statement M
 find-blocks-spec =
