@@ -3,3 +3,4 @@ pub mod Columns
 pub mod Searching
 pub mod Puts
 pub mod Bytes
+pub mod Whole

@@ -8,8 +8,7 @@ ghost use mathlib.Core.Bool.{cond};
 ghost use Prim.Native.Nat.{_+_, _*_, _<_, _≤_};
 ghost use lib.ListN.{length, getD, take};
 ghost use Rattle.deterministic.specs.Sizes.{mostSets, mostLetters};
-ghost use Rattle.deterministic.specs.inner.Search.{found, movesUpto};
-ghost use Rattle.numbering.specs.inner.Found.{blockSystem, Inside, Fits, added, Rows, Within, leads, taken, takenFrom, countFrom};
+ghost use Rattle.numbering.specs.inner.Found.{Inside, Fits, added, Rows, Within, leads, taken, takenFrom, countFrom, IsFound};
 
 // The rows and the edges so far.
 pub struct Totals {
@@ -104,9 +103,7 @@ pub fn find_blocks(
 ) -> Totals
     requires { ⌜ Fits (now next) (now blocks) n columns ⌝ }
     requires { ⌜ Rows (now rows) (now numbers) 0 ⌝ }
-    ensures { λ r. ⌜ Rows (now (rows .exit)) (now (numbers .exit)) (r .rows) × Within n (take (r .rows) (now (rows .exit))) ⌝ }
-    ensures { λ r. ⌜ take (r .rows) (now (rows .exit)) ≡ found (blockSystem (now (next .entry)) (now (blocks .entry)) n columns) n ⌝ }
-    ensures { λ r. ⌜ r .edges ≡ length (movesUpto (blockSystem (now (next .entry)) (now (blocks .entry)) n columns) (take (r .rows) (now (rows .exit))) (r .rows)) ⌝ }
+    ensures { λ r. ⌜ IsFound (now (next .entry)) (now (blocks .entry)) n columns (now (rows .exit)) (now (numbers .exit)) (r .rows) (r .edges) ⌝ }
 {
     let block = wide(blocks[0]);
     let count = enter(rows, numbers, block, 0);

@@ -8,7 +8,7 @@ use native.Mathlib.Decide.{ℕ-discrete}
 use native.Mathlib.Numerals.{add-one}
 use native.Mathlib.Omega.{arith}
 use lib.Dec.{eqb, ltb}
-use lib.ListN.{length, getD, take, set, length-append, length-set}
+use lib.ListN.{length, getD, take, set, replicate, length-append, length-set, length-replicate}
 use lib.Seq.{length-take-le, take-suc-set, getD-set-same, getD-set-other}
 use borrow.Author.Tests.{eqb-true, eq-eqb, ne-eqb, ltb-true, ltb-false, lt-ltb, le-ltb}
 use Rattle.lts.specs.inner.Lists.{upFrom}
@@ -48,6 +48,16 @@ slot-other l b d n = case (seen eqb l d) refl
         let one : _≡_ {A = ℕ} (cond (eqb b d) 0 1) 1 = ap (λ s. cond s 0 1) (ne-eqb b d (λ z. n (sym z))) in
         let z : numberOf eqb (l ++ (b ∷ [])) d ≡ length l + cond (eqb b d) 0 1 = number-past tests l (b ∷ []) d h in
         slot-unseen (l ++ (b ∷ [])) d (omega (arith, z, one, length-append l (b ∷ []))) ∙ sym (slot-unseen l d h)
+
+-- No rows.
+zeros : (m b : ℕ) → _≡_ {A = ℕ} (getD (replicate m 0) b 0) 0
+zeros zero b = refl
+zeros (suc m) zero = refl
+zeros (suc m) (suc b) = zeros m b
+
+pub rows-none : Rows (replicate mostSets 0) (replicate mostSets 0) 0
+unfolding numberOf
+rows-none = record { long = length-replicate {A = ℕ} mostSets 0; wide = length-replicate {A = ℕ} mostSets 0; few = omega arith; numbered = zeros mostSets }
 
 -- Entering a block.
 module _ {rows numbers : List ℕ} {count : ℕ} (r : Rows rows numbers count) (b : ℕ) where

@@ -9,7 +9,7 @@ use Rattle.deterministic.specs.Sizes.{mostSets, mostLetters}
 use Rattle.deterministic.specs.inner.Arrays.{arrayTable}
 use Rattle.deterministic.specs.inner.Blocks.{merged}
 use Rattle.deterministic.specs.inner.Lists.{Distinct}
-use Rattle.deterministic.specs.inner.Search.{System, numberOf, seen}
+use Rattle.deterministic.specs.inner.Search.{System, numberOf, seen, found, movesUpto}
 
 -- The blocks as a system; final marks play no part in it.
 abbrev pub blockSystem : List ℕ → List ℕ → ℕ → ℕ → System ℕ
@@ -66,3 +66,10 @@ module _ (next blocks : List ℕ) (n : ℕ) where
   unfoldable pub countFrom : ℕ → ℕ → ℕ
   countFrom at zero = 0
   countFrom at (suc k) = cond (leads at) 1 0 + countFrom (suc at) k
+
+-- The search found these rows, and counted their edges.
+pub record IsFound (next blocks : List ℕ) (n columns : ℕ) (rows numbers : List ℕ) (count edges : ℕ) : Type 0 where
+  pub stand : Rows rows numbers count
+  pub within : Within n (take count rows)
+  pub all : take count rows ≡ found (blockSystem next blocks n columns) n
+  pub counted : edges ≡ length (movesUpto (blockSystem next blocks n columns) (take count rows) count)

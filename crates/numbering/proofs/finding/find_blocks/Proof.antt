@@ -31,7 +31,7 @@ loop-holds c =
     search-start (at .before .before .pre .0) (at .wide .ensures) (x .0) (x .1)
 
 find-row-requires : tie.Need-find-row-requires Inv-loop μ-loop
-find-row-requires c κs = 
+find-row-requires c κs =
     let at-loop = c .before .before .before .before in
     let d = at-loop .before .before .before .before .before .before in
     let f = d .pre .0 in
@@ -57,7 +57,12 @@ returns c =
     let at-loop = c .before .before in
     let d = at-loop .before .before .before .before .before .before in
     let s = at-loop .loop .inv in
-    ((s .stand, s .within), (search-rows (d .pre .0) s (c .if1 .left), search-edges (d .pre .0) s (c .if1 .left)))
+    record {
+      stand = s .stand;
+      within = s .within;
+      all = search-rows (d .pre .0) s (c .if1 .left);
+      counted = search-edges (d .pre .0) s (c .if1 .left);
+    }
 
 pub find-blocks-spec : {M : Type 1} → statement M
 find-blocks-spec =
