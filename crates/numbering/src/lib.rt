@@ -54,7 +54,8 @@ fn write_found(
     requires { ⌜ Fits (now next) (now blocks) n columns ⌝ }
     requires { ⌜ IsFound (now next) (now blocks) n columns (now rows) (now numbers) (found .rows) (found .edges) ⌝ }
     requires { ⌜ smallestLength ≤ length (now out) ⌝ }
-    ensures { λ _. ⌜ now (out .exit) ≡ overwritten (automatonBytes (numbered (arrayTable (now (next .entry)) (now (marks .entry)) n columns) (take n (now (blocks .entry))))) (now (out .entry)) ⌝ }
+    ensures { λ _. ⌜ now (out .exit)
+        ≡ overwritten (automatonBytes (numbered (arrayTable (now (next .entry)) (now (marks .entry)) n columns) (take n (now (blocks .entry))))) (now (out .entry)) ⌝ }
 {
     put_counts(out, found.rows, found.edges);
     write_marks(marks, rows, found.rows, out);
@@ -74,7 +75,8 @@ pub fn write_numbered(
     requires { ⌜ (1 ≤ columns) × (columns ≤ mostLetters) ⌝ }
     requires { ⌜ ((k : ℕ) → k < n → getD (now blocks) k 0 < n) ⌝ }
     requires { ⌜ smallestLength ≤ length (now out) ⌝ }
-    ensures { λ _. ⌜ now (out .exit) ≡ overwritten (automatonBytes (numbered (arrayTable (now (next .entry)) (now (marks .entry)) n columns) (take n (now (blocks .entry))))) (now (out .entry)) ⌝ }
+    ensures { λ _. ⌜ now (out .exit)
+        ≡ overwritten (automatonBytes (numbered (arrayTable (now (next .entry)) (now (marks .entry)) n columns) (take n (now (blocks .entry))))) (now (out .entry)) ⌝ }
 {
     lengths(next, blocks);
     let mut rows = [0u16; SETS];

@@ -99,7 +99,8 @@ fn write_row(
     requires { ⌜ (row < mostSets) × (columns ≤ mostLetters) ⌝ }
     requires { ⌜ RowFits (now next) (now blocks) (now numbers) n columns block ⌝ }
     requires { ⌜ at + length (stepsIn (now next) (now blocks) (now numbers) n columns row (block * mostLetters) 0 columns) ≤ length (now out) ⌝ }
-    ensures { λ r. ⌜ Put (stepsIn (now (next .entry)) (now (blocks .entry)) (now (numbers .entry)) n columns row (block * mostLetters) 0 columns) (now (out .entry)) at (now (out .exit)) r ⌝ }
+    ensures { λ r. ⌜ Put (stepsIn (now (next .entry)) (now (blocks .entry)) (now (numbers .entry)) n columns row (block * mostLetters) 0 columns)
+        (now (out .entry)) at (now (out .exit)) r ⌝ }
 {
     let first = block * LETTERS;
     let mut end = at;

@@ -13,8 +13,7 @@ use Rattle.lts.specs.Lists.{bind}
 use Rattle.lts.specs.inner.Lists.{upFrom, consIf, keep}
 use Rattle.lts.proofs.Lists.{getD-mem, map-to, map-append, bind-append, upFrom-to}
 use Rattle.automaton.specs.Bytes.{bitOf}
-use Rattle.automaton.specs.Listing.{Edge}
-use Rattle.deterministic.specs.Sizes.{mostSets, mostLetters}
+use Rattle.deterministic.specs.Sizes.{mostLetters}
 use Rattle.deterministic.specs.Bytes.{stepBytes, automatonBytes}
 use Rattle.deterministic.specs.inner.Arrays.{letters, letterOf, arrayTable, numbered}
 use Rattle.deterministic.specs.inner.Search.{System, numberOf, Move, placeAt, movesFrom, found, movesUpto, edgeOf, automatonOf}
@@ -31,7 +30,8 @@ module _ (next blocks numbers : List ℕ) (n columns : ℕ) where
   unfolding stepsIn
   steps-few i first c zero = omega arith
   steps-few i first c (suc k) =
-      one (leads next blocks n (first + c)) (i ∷ letterOf columns c ∷ (getD numbers (goal next blocks n (first + c)) 0 - 1) ∷ []) refl (stepsIn next blocks numbers n columns i first (suc c) k) (steps-few i first (suc c) k)
+      let step = i ∷ letterOf columns c ∷ (getD numbers (goal next blocks n (first + c)) 0 - 1) ∷ [] in
+      one (leads next blocks n (first + c)) step refl (stepsIn next blocks numbers n columns i first (suc c) k) (steps-few i first (suc c) k)
     where
       one : (s : Bool) (l : List ℕ) → length l ≡ 3 → (m : List ℕ) → length m ≤ 3 * k → length (cond s l [] ++ m) ≤ 3 * suc k
       one true l e m h = omega (arith, length-append l m)
@@ -118,7 +118,8 @@ module _ {next blocks rows numbers : List ℕ} {n columns count : ℕ} (f : Fits
         one true t q =
             let b : c < columns = omega arith in
             let u = ltb-true (getD next (at c) 0) n t in
-            let target : numberOf eqb L (M .step p (letterOf columns c)) ≡ getD numbers (goal next blocks n (at c)) 0 - 1 = ap (numberOf eqb L) (step-goal f p small c b u) ∙ omega (arith, slot-is c b u) in
+            let to = ap (numberOf eqb L) (step-goal f p small c b u) in
+            let target : numberOf eqb L (M .step p (letterOf columns c)) ≡ getD numbers (goal next blocks n (at c)) 0 - 1 = omega (arith, to, slot-is c b u) in
             λ j. i ∷ letterOf columns c ∷ target j ∷ q j
         one false t q = q
 

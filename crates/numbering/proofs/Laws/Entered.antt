@@ -1,5 +1,5 @@
 -- Laws of the rows found: one more, and those of a row's entries.
-use mathlib.Core.Path.{_≡_, refl, sym, ap, _∙_, subst}
+use mathlib.Core.Path.{_≡_, refl, sym, ap, _∙_}
 use mathlib.Core.Bool.{Bool, true, false, cond}
 use mathlib.Core.List.{List, [], _∷_, _++_, List·Memᴰ, List·Memᴰ·not-nil, List·Memᴰ·append-cases, List·Memᴰ·eq-of-singleton, Memᴰ·cast}
 use mathlib.Core.Logic.{_⊎_, inl, inr}
@@ -7,7 +7,7 @@ use Prim.Native.Nat.{ℕ, zero, suc, _+_, _-_, _<_, _≤_}
 use native.Mathlib.Decide.{ℕ-discrete}
 use native.Mathlib.Numerals.{add-one}
 use native.Mathlib.Omega.{arith}
-use lib.Dec.{eqb, ltb}
+use lib.Dec.{eqb}
 use lib.ListN.{length, getD, take, set, replicate, length-append, length-set, length-replicate}
 use lib.Seq.{length-take-le, take-suc-set, getD-set-same, getD-set-other}
 use borrow.Author.Tests.{eqb-true, eq-eqb, ne-eqb, ltb-true, ltb-false, lt-ltb, le-ltb}
@@ -17,7 +17,7 @@ use Rattle.deterministic.specs.Sizes.{mostSets}
 use Rattle.deterministic.specs.inner.Search.{numberOf, seen}
 use Rattle.deterministic.proofs.ListLaws.{fits}
 use Rattle.deterministic.proofs.Numbers.{Tests, number-append, number-past, number-new, unseen}
-use Rattle.numbering.specs.inner.Found.{Inside, added, slotOf, Rows, Within, leads, goal, taken, takenFrom, countFrom}
+use Rattle.numbering.specs.inner.Found.{added, slotOf, Rows, Within, leads, goal, taken, takenFrom, countFrom}
 
 abbrev pub tests : Tests eqb
 tests = record { of = eqb-true; to = eq-eqb }

@@ -1,7 +1,7 @@
 -- The counts, the marks and the edges, written one behind the other, are the automaton's bytes.
 use mathlib.Core.Path.{_≡_, refl, sym, ap, _∙_}
 use mathlib.Core.Bool.{Bool}
-use mathlib.Core.List.{List, [], _∷_, _++_}
+use mathlib.Core.List.{List, _++_}
 use Prim.Native.Nat.{ℕ, _+_, _<_, _≤_}
 use native.Mathlib.Omega.{arith}
 use lib.ListN.{length, getD, take, length-map}
@@ -19,7 +19,8 @@ use Rattle.numbering.specs.inner.Written.{markOf, marksOf, edgesIn, RowF
 use Rattle.numbering.proofs.Laws.Entered.{rows-length}
 use Rattle.numbering.proofs.Laws.Bytes.{edges-few, row-fits, bytes-are}
 
-pub two-counts : (states edges : ℕ) (out x y : List ℕ) → 4 ≤ length out → x ≡ pasted out 0 (lowFirst 2 states) → y ≡ pasted x 2 (lowFirst 2 edges) → y ≡ pasted out 0 (lowFirst 2 states ++ lowFirst 2 edges)
+pub two-counts : (states edges : ℕ) (out x y : List ℕ) → 4 ≤ length out → x ≡ pasted out 0 (lowFirst 2 states)
+    → y ≡ pasted x 2 (lowFirst 2 edges) → y ≡ pasted out 0 (lowFirst 2 states ++ lowFirst 2 edges)
 two-counts states edges out x y h e d = pasted-then 0 2 (lowFirst 2 states) (lowFirst 2 edges) out x y e refl (omega arith) d
 
 module _ {next blocks rows numbers : List ℕ} {n columns count edges : ℕ} (f : Fits next blocks n columns) (d : IsFound next blocks n columns rows numbers count edges) where

@@ -1,6 +1,5 @@
 -- `write_found` meets its contract: the counts, the marks and the edges are the automaton's bytes.
 use borrow.Author.Needs.{needs}
-use mathlib.Core.Path.{_∙_}
 use native.Mathlib.Omega.{arith}
 use Rattle.numbering.proofs.Laws.Whole.{rows-fit, edges-fit, whole}
 use Rattle.numbering.proofs.write_found.Statement.{statement}

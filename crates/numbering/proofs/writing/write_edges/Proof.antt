@@ -4,11 +4,11 @@ use mathlib.Core.Path.{_≡_, refl, sym, ap, _∙_, subst}
 use mathlib.Core.List.{List, _++_}
 use Prim.Native.Nat.{ℕ, _+_, _-_, _*_, _≤_}
 use native.Mathlib.Omega.{arith}
-use lib.ListN.{length, getD}
+use lib.ListN.{length}
 use Rattle.columns.specs.inner.Write.{pasted}
 use Rattle.deterministic.specs.Sizes.{mostLetters}
 use Rattle.numbering.specs.inner.Written.{stepsIn, edgesIn, RowFits}
-use Rattle.numbering.proofs.Laws.Puts.{put-as, Left, left-start, left-as, part-room, left-after, left-done, edges-turn, edges-over}
+use Rattle.numbering.proofs.Laws.Puts.{Left, left-start, left-as, part-room, left-after, left-done, edges-turn, edges-over}
 use Rattle.numbering.proofs.writing.write_edges.Statement.{statement}
 use Rattle.numbering.proofs.writing.write_edges.Tie as tie
 

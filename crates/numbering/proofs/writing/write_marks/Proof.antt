@@ -1,15 +1,13 @@
 -- `writing::write_marks` meets its contract: what is left of the rows leads to the bytes at the end.
 use borrow.Author.Needs.{needs}
-use mathlib.Core.Path.{_≡_, refl, sym, ap, _∙_}
-use mathlib.Core.Bool.{Bool, false}
-use mathlib.Core.List.{List, [], _∷_, map}
-use Prim.Native.Nat.{ℕ, suc, _+_, _-_, _≤_}
+use mathlib.Core.Path.{_≡_, refl, ap, _∙_}
+use mathlib.Core.List.{[], _∷_, map}
+use Prim.Native.Nat.{_+_, _-_, _≤_}
 use native.Mathlib.Omega.{arith}
 use lib.ListN.{length, getD, take, length-map, length-set}
 use lib.Seq.{length-take-le, slice}
 use Rattle.columns.specs.inner.Write.{pasted}
 use Rattle.columns.proofs.Laws.Pasted.{set-pasted}
-use Rattle.automaton.specs.Bytes.{bitOf}
 use Rattle.numbering.specs.inner.Written.{markOf, marksOf}
 use Rattle.numbering.proofs.Laws.Puts.{put-as, Left, left-start, left-as, part-room, left-after, left-done, marks-turn, marks-over}
 use Rattle.numbering.proofs.writing.write_marks.Statement.{statement}
