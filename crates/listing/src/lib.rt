@@ -47,7 +47,7 @@ pub fn put_row(out: &mut [u8], n: usize, place: usize, state: usize, is_final: b
 }
 
 // A number in two bytes, the low one first.
-fn put_pair(out: &mut [u8], at: usize, x: usize)
+pub fn put_pair(out: &mut [u8], at: usize, x: usize)
     requires { ⌜ at + 2 ≤ length (now out) ⌝ }
     ensures { λ _. ⌜ now (out .exit) ≡ pasted (now (out .entry)) at (lowFirst 2 x) ⌝ }
 {
