@@ -1,0 +1,42 @@
+-- The executable twin of `automatonText` (../Text.antt), from the bytes: `text-held` (proofs/Laws/Held.antt) makes them equal. And what writing lines asks for and leaves.
+use mathlib.Core.Path.{_≡_}
+use mathlib.Core.List.{List, [], _∷_, _++_}
+use Prim.Native.Nat.{ℕ, _+_, _*_, _≤_}
+use lib.ListN.{length, getD}
+use Rattle.columns.specs.Lines.{numbersLine}
+use Rattle.columns.specs.inner.Write.{pasted}
+use Rattle.lts.specs.inner.Lists.{upFrom}
+use Rattle.lts.specs.Lists.{bind}
+
+-- The number in two bytes, the low one first.
+abbrev pub pairAt : List ℕ → ℕ → ℕ
+pairAt bytes k = getD bytes k 0 + getD bytes (k + 1) 0 * 256
+
+-- The line of state i, and that of edge j if the edges begin at a place.
+abbrev pub stateText : List ℕ → ℕ → List ℕ
+stateText bytes i = numbersLine (i ∷ getD bytes (4 + i) 0 ∷ [])
+
+-- The three numbers that stand at a place; no fourth one is printed.
+abbrev pub threeAt : List ℕ → ℕ → List ℕ
+threeAt bytes k = getD bytes k 0 ∷ getD bytes (k + 1) 0 ∷ getD bytes (k + 2) 0 ∷ []
+
+abbrev pub stepText : List ℕ → ℕ → ℕ → List ℕ
+stepText bytes first j = numbersLine (threeAt bytes (first + j * 3))
+
+abbrev pub linesText : (ℕ → List ℕ) → ℕ → List ℕ
+linesText line n = bind line (upFrom 0 n)
+
+abbrev pub headText : List ℕ → List ℕ
+headText bytes = numbersLine (pairAt bytes 0 ∷ pairAt bytes 2 ∷ [])
+
+abbrev pub smallestText : List ℕ → List ℕ
+smallestText bytes = headText bytes ++ (linesText (stateText bytes) (pairAt bytes 0) ++ linesText (stepText bytes (4 + pairAt bytes 0)) (pairAt bytes 2))
+
+-- Room for lines of one width behind a place, and for one line more of any width.
+pub record LinesFit (width count at : ℕ) (out : List ℕ) : Type 0 where
+  pub room : at + count * width + 81 ≤ length out
+
+pub record LinesWritten (line : ℕ → List ℕ) (width count at : ℕ) (before out : List ℕ) (end : ℕ) : Type 0 where
+  pub is : out ≡ pasted before at (linesText line count)
+  pub ends : end ≡ at + length (linesText line count)
+  pub wide : end ≡ at + count * width
