@@ -22,6 +22,7 @@ use Rattle.explanations.proofs.Lines.{lines-are}
 use Rattle.smallest_text.specs.Text.{stateLines, automatonText}
 use Rattle.smallest_text.specs.inner.Held.{AutomatonIn}
 use Rattle.smallest_text.specs.inner.Lines.{pairAt, stateText, stepText, linesText, smallestText}
+use Rattle.smallest_text.proofs.Laws.Lines.{two-wide}
 
 module _ (d : Automaton) where
   abbrev marks : List ℕ
@@ -51,7 +52,7 @@ module _ (d : Automaton) where
       ∙ bind-at stepBytes 3 (λ e. refl) (d .edges) [] noEdge j k b c
 
 module _ {d : Automaton} {bytes : List ℕ} (h : AutomatonIn d bytes) where
-  held-long : 4 + count d + length (d .edges) * 3 ≤ length bytes
+  pub held-long : 4 + count d + length (d .edges) * 3 ≤ length bytes
   held-long =
       let e : length (take (length (automatonBytes d)) bytes) ≡ length (automatonBytes d) = ap length (h .held) in
       omega (arith, bytes-long d, e, length-take (length (automatonBytes d)) bytes)
@@ -78,17 +79,28 @@ module _ {d : Automaton} {bytes : List ℕ} (h : AutomatonIn d bytes) where
       let first = ap (λ n. getD bytes n 0) (sym (add-zero at)) ∙ there 0 (omega arith) in
       λ i. numbersLine (first i ∷ there 1 (omega arith) i ∷ there 2 (omega arith) i ∷ []))
 
-  pub text-held : smallestText bytes ≡ automatonText d
+-- What is known of the counts that were read: they are small, all marks and edges stand in the bytes, and the first line has 13 bytes.
+pub record CountsHeld (bytes : List ℕ) (states edges : ℕ) : Type 0 where
+  pub few-states : states ≤ mostSets
+  pub few-edges : edges ≤ mostSets * mostLetters
+  pub stand : 4 + states + edges * 3 ≤ length bytes
+  pub head : length (numbersLine (states ∷ edges ∷ [])) ≡ 13
+
+module _ {d : Automaton} {bytes : List ℕ} {states edges : ℕ} (h : AutomatonIn d bytes) (s : states ≡ pairAt bytes 0) (e : edges ≡ pairAt bytes 2) where
+  pub counts-held : CountsHeld bytes states edges
+  counts-held =
+      let m = s ∙ states-held h in
+      let n = e ∙ edges-held h in
+      record {
+        few-states = omega (arith, m, h .few-states);
+        few-edges = omega (arith, n, h .few-edges);
+        stand = omega (arith, m, n, held-long h);
+        head = two-wide states edges (omega (arith, m, h .few-states)) (omega (arith, n, h .few-edges));
+      }
+
+  pub text-held : smallestText bytes states edges ≡ automatonText d
   unfolding automatonText
   text-held =
-      (λ i. numbersLine (states-held i ∷ edges-held i ∷ [])
-      ++ (linesText (stateText bytes) (states-held i) ++ linesText (stepText bytes (4 + states-held i)) (edges-held i)))
-      ∙ (λ i. numbersLine (count d ∷ length (d .edges) ∷ []) ++ (marks-text i ++ steps-text i))
-
-  -- Few states and edges, and the bytes of all of them.
-  pub counts-held : {states edges : ℕ} → states ≡ pairAt bytes 0 → edges ≡ pairAt bytes 2
-      → (states ≤ mostSets) × (edges ≤ mostSets * mostLetters) × (4 + states + edges * 3 ≤ length bytes)
-  counts-held s e =
-      let m = s ∙ states-held in
-      let n = e ∙ edges-held in
-      (omega (arith, m, h .few-states), omega (arith, n, h .few-edges), omega (arith, m, n, held-long))
+      let m = s ∙ states-held h in
+      let n = e ∙ edges-held h in
+      (λ i. smallestText bytes (m i) (n i)) ∙ (λ i. numbersLine (count d ∷ length (d .edges) ∷ []) ++ (marks-text h i ++ steps-text h i))

@@ -26,11 +26,9 @@ stepText bytes first j = numbersLine (threeAt bytes (first + j * 3))
 abbrev pub linesText : (ℕ → List ℕ) → ℕ → List ℕ
 linesText line n = bind line (upFrom 0 n)
 
-abbrev pub headText : List ℕ → List ℕ
-headText bytes = numbersLine (pairAt bytes 0 ∷ pairAt bytes 2 ∷ [])
-
-abbrev pub smallestText : List ℕ → List ℕ
-smallestText bytes = headText bytes ++ (linesText (stateText bytes) (pairAt bytes 0) ++ linesText (stepText bytes (4 + pairAt bytes 0)) (pairAt bytes 2))
+-- The text, if so many states and edges were read.
+abbrev pub smallestText : List ℕ → ℕ → ℕ → List ℕ
+smallestText bytes states edges = numbersLine (states ∷ edges ∷ []) ++ (linesText (stateText bytes) states ++ linesText (stepText bytes (4 + states)) edges)
 
 -- Room for lines of one width behind a place, and for one line more of any width.
 pub record LinesFit (width count at : ℕ) (out : List ℕ) : Type 0 where
