@@ -51,9 +51,11 @@ loop-again c =
     let known = turn .before .before .before in
     let a = known .before .args in
     let bytes : AreBytes (a .smallest .now) = λ k. omega (arith, known .shared-slice-known .given k) in
-    let text = ap (λ n. numbersLine (take 3 n)) (edge .three-at .ensures) in
-    (line-more (known .before .pre .1) (l .inv .0) (turn .loop-test .taken) (w .write-numbers .ensures .1 .0) (w .write-numbers .ensures .0) text
-    (step-wide (a .smallest .now) (a .first) (l .j) bytes), omega arith)
+    let text = ap (λ n. numbersLine (take 3 n)) (edge .three-at .ensures) in (
+      line-more (known .before .pre .1) (l .inv .0) (turn .loop-test .taken) (w .write-numbers .ensures .1 .0) (w .write-numbers .ensures .0) text
+          (step-wide (a .smallest .now) (a .first) (l .j) bytes),
+      omega arith,
+    )
 
 same-length : tie.Need-same-length Inv-loop μ-loop
 same-length c = pasting-length (c .before .loop .inv .0 .pasting)

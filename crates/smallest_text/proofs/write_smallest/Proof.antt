@@ -27,9 +27,10 @@ write-states-requires c κs =
     let w = c .before .before .before in
     let p = w .before .before in
     let start = p .before .before .before .before in
-    let k = counts-held (start .pre .0 .1) (p .before .pair-at .ensures .0) (p .pair-at2 .ensures .0) in
-    ((omega (arith, k .stand), omega (arith, k .few-states)),
-    record { room = omega (arith, k .few-states, k .head, start .pre .1, w .write-numbers .ensures .0, w .write-numbers .kept .1 .1 .0) })
+    let k = counts-held (start .pre .0 .1) (p .before .pair-at .ensures .0) (p .pair-at2 .ensures .0) in (
+      (omega (arith, k .stand), omega (arith, k .few-states)),
+      record { room = omega (arith, k .few-states, k .head, start .pre .1, w .write-numbers .ensures .0, w .write-numbers .kept .1 .1 .0) },
+    )
 
 add-write-edges : tie.Need-add-write-edges
 add-write-edges c = search needs
@@ -42,9 +43,10 @@ write-edges-requires c κs =
     let start = p .before .before .before .before in
     let k = counts-held (start .pre .0 .1) (p .before .pair-at .ensures .0) (p .pair-at2 .ensures .0) in
     let head = w .write-numbers in
-    let states = s .write-states in
-    (k .stand,
-    record { room = omega (arith, k .few-states, k .few-edges, k .head, start .pre .1, head .ensures .0, head .kept .1 .1 .0, states .ensures .wide, states .kept .1 .1 .0) })
+    let states = s .write-states in (
+      k .stand,
+      record { room = omega (arith, k .few-states, k .few-edges, k .head, start .pre .1, head .ensures .0, head .kept .1 .1 .0, states .ensures .wide, states .kept .1 .1 .0) },
+    )
 
 same-length : tie.Need-same-length
 same-length c = search needs

@@ -51,9 +51,11 @@ loop-again c =
     let known = turn .before .before .before in
     let a = known .before .args in
     let bytes : AreBytes (a .smallest .now) = λ k. omega (arith, known .shared-slice-known .given k) in
-    let text = ap (λ m. numbersLine (l .i ∷ m ∷ [])) (mark .wide .ensures .0) in
-    (line-more (known .before .pre .1) (l .inv .0) (turn .loop-test .taken) (w .write-numbers .ensures .1 .0) (w .write-numbers .ensures .0) text
-    (state-wide (a .smallest .now) (l .i) bytes (omega (arith, known .before .pre .0 .1))), omega arith)
+    let text = ap (λ m. numbersLine (l .i ∷ m ∷ [])) (mark .wide .ensures .0) in (
+      line-more (known .before .pre .1) (l .inv .0) (turn .loop-test .taken) (w .write-numbers .ensures .1 .0) (w .write-numbers .ensures .0) text
+          (state-wide (a .smallest .now) (l .i) bytes (omega (arith, known .before .pre .0 .1))),
+      omega arith,
+    )
 
 same-length : tie.Need-same-length Inv-loop μ-loop
 same-length c = pasting-length (c .before .loop .inv .0 .pasting)
