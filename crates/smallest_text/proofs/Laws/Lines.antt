@@ -46,6 +46,6 @@ module _ {line : ℕ → List ℕ} {width count at : ℕ} {before : List ℕ} wh
     pub line-room : end + 81 ≤ length out
     line-room = omega (arith, pasting-length (l .pasting), behind)
 
-    pub line-more : {text more : List ℕ} {next : ℕ} → more ≡ pasted out end text → next ≡ end + length text → text ≡ line i → length (line i) ≡ width
+    pub line-more : (text : List ℕ) {more : List ℕ} {next : ℕ} → more ≡ pasted out end text → next ≡ end + length text → text ≡ line i → length (line i) ≡ width
         → Lines line width before at more next (i + 1)
-    line-more {more} {next} p e t w = lines-more l more next (p ∙ ap (pasted out end) t) (e ∙ ap (λ x. end + length x) t) w (omega (arith, behind))
+    line-more text {more} {next} p e t w = lines-more l more next (p ∙ ap (pasted out end) t) (e ∙ ap (λ x. end + length x) t) w (omega (arith, behind))

@@ -1,5 +1,4 @@
 -- `write_edges` meets its contract: one line more stands there each turn.
-use borrow.Author.Needs.{needs}
 use Rattle.smallest_text.proofs.write_edges.Statement.{statement}
 use Rattle.smallest_text.proofs.write_edges.Tie as tie
 use mathlib.Core.Path.{ap}
@@ -52,8 +51,8 @@ loop-again c =
     let a = known .before .args in
     let bytes : AreBytes (a .smallest .now) = λ k. omega (arith, known .shared-slice-known .given k) in
     let text = ap (λ n. numbersLine (take 3 n)) (edge .three-at .ensures) in (
-      line-more (known .before .pre .1) (l .inv .0) (turn .loop-test .taken) (w .write-numbers .ensures .1 .0) (w .write-numbers .ensures .0) text
-          (step-wide (a .smallest .now) (a .first) (l .j) bytes),
+      line-more (known .before .pre .1) (l .inv .0) (turn .loop-test .taken) (numbersLine (take 3 (edge .three-at .result)))
+          (w .write-numbers .ensures .1 .0) (w .write-numbers .ensures .0) text (step-wide (a .smallest .now) (a .first) (l .j) bytes),
       omega arith,
     )
 

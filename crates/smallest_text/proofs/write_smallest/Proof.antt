@@ -44,7 +44,7 @@ write-edges-requires c κs =
     let k = counts-held (start .pre .0 .1) (p .before .pair-at .ensures .0) (p .pair-at2 .ensures .0) in
     let head = w .write-numbers in
     let states = s .write-states in (
-      k .stand,
+      omega (arith, k .stand),
       record { room = omega (arith, k .few-states, k .few-edges, k .head, start .pre .1, head .ensures .0, head .kept .1 .1 .0, states .ensures .wide, states .kept .1 .1 .0) },
     )
 

@@ -52,8 +52,8 @@ loop-again c =
     let a = known .before .args in
     let bytes : AreBytes (a .smallest .now) = λ k. omega (arith, known .shared-slice-known .given k) in
     let text = ap (λ m. numbersLine (l .i ∷ m ∷ [])) (mark .wide .ensures .0) in (
-      line-more (known .before .pre .1) (l .inv .0) (turn .loop-test .taken) (w .write-numbers .ensures .1 .0) (w .write-numbers .ensures .0) text
-          (state-wide (a .smallest .now) (l .i) bytes (omega (arith, known .before .pre .0 .1))),
+      line-more (known .before .pre .1) (l .inv .0) (turn .loop-test .taken) (numbersLine (l .i ∷ mark .wide .result ∷ []))
+          (w .write-numbers .ensures .1 .0) (w .write-numbers .ensures .0) text (state-wide (a .smallest .now) (l .i) bytes (omega (arith, known .before .pre .0 .1))),
       omega arith,
     )
 
