@@ -34,7 +34,7 @@ pub fn wide(letter: u8) -> usize
 }
 
 // The target places of a set of places on a label.
-fn targets_of(masks: &[u64; MASKS_LENGTH], places: u64, label: usize) -> u64
+pub fn targets_of(masks: &[u64; MASKS_LENGTH], places: u64, label: usize) -> u64
     requires { ⌜ Carried label ⌝ }
     ensures { λ r. ⌜ r ≡ targetsOf (now (masks .entry)) places label ⌝ }
 {
