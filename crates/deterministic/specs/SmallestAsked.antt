@@ -65,7 +65,7 @@ abbrev pub smallestBytes : Beside → List ℕ
 smallestBytes b = automatonBytes (b .smallest)
 
 -- 01, of a work buffer: all zero, over its length, after every call but 14.
-abbrev pub cleared : List ℕ → List ℕ
+unfoldable pub cleared : List ℕ → List ℕ
 cleared work = overwritten (replicate workLength 0) work
 
 abbrev pub workLeft : {A : Type 0} → Reply A → List ℕ → List ℕ

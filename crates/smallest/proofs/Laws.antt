@@ -2,3 +2,4 @@
 pub mod Laid
 pub mod Written
 pub mod Entry
+pub mod Zeros
