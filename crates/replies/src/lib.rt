@@ -6,6 +6,7 @@ ghost use Rattle.formula_check.specs.Inputs.{unpreparedNumber, unpreparedFigure
 ghost use Rattle.labelling.specs.Replies.{verdictReply};
 ghost use Rattle.verdicts.specs.Replies.{verdictsReply};
 ghost use Rattle.building.specs.Replies.{buildReply};
+ghost use Rattle.smallest.specs.Replies.{smallestReply};
 ghost use Rattle.words.specs.Replies.{wordReply};
 ghost use Rattle.write_formula.specs.Replies.{writeReply};
 ghost use Rattle.combine.specs.Replies.{combineReply};
@@ -14,14 +15,19 @@ ghost use Rattle.replies.specs.inner.Says.{Says};
 ghost use Rattle.replies.specs.Interface.{edgesIn};
 use building::BuildReply;
 use combine::CombineReply;
+use deterministic::sizes::SETS;
 use formula_check::inputs::Unprepared;
 use formula_text::FormulaReply;
 use labelling::VerdictReply;
+use smallest::SmallestReply;
 use table_text::TableReply;
 use verdicts::VerdictsReply;
 use words::WordReply;
 use write_formula::WriteReply;
 use write_table::TextReply;
+
+// The figure of refusal 20.
+const SETS_FIGURE: usize = SETS + 1;
 
 // What is said of a reply: the number of a refusal, or 0; and the figure.
 pub struct Answer {
@@ -117,6 +123,31 @@ pub fn build_edges(reply: BuildReply, before: u64) -> u64
         BuildReply::RowsShort(_) => before,
         BuildReply::EdgesShort(_) => before,
         BuildReply::Refused(_) => before,
+    }
+}
+
+pub fn smallest_answer(reply: SmallestReply) -> Answer
+    ensures { λ r. ⌜ Says (λ counts. counts .rows) (smallestReply reply) r ⌝ }
+{
+    match reply {
+        SmallestReply::Built(rows, _) => numbered(0, rows),
+        SmallestReply::RowsShort(needed) => numbered(11, needed),
+        SmallestReply::EdgesShort(needed) => numbered(12, needed),
+        SmallestReply::SetsMany => numbered(20, SETS_FIGURE),
+        SmallestReply::Refused(why) => unprepared_answer(why),
+    }
+}
+
+// The count of edges of a build with the smallest automaton beside it; what stood there if it was refused.
+pub fn smallest_edges(reply: SmallestReply, before: u64) -> u64
+    ensures { λ r. ⌜ r ≡ edgesIn before (smallestReply reply) ⌝ }
+{
+    match reply {
+        SmallestReply::Built(_, edges) => edges as u64,
+        SmallestReply::RowsShort(_) => before,
+        SmallestReply::EdgesShort(_) => before,
+        SmallestReply::SetsMany => before,
+        SmallestReply::Refused(_) => before,
     }
 }
 
