@@ -34,6 +34,7 @@ pub mod views;
 
 pub mod tally;
 pub mod inputs;
+pub mod openfst;
 pub mod corpus;
 
 pub mod compare;
