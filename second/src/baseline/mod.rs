@@ -35,6 +35,7 @@ pub const BASELINE: Entries = Entries {
     verdict: Some(verdict),
     verdicts: Some(verdicts),
     build: Some(build),
+    smallest: Some(smallest),
     accepts: Some(accepts),
     explain: Some(explain),
 };

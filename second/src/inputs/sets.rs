@@ -16,13 +16,17 @@ use crate::tally::Expected;
 
 const PART: &str = "sets of rows";
 
-const QUESTIONS: [Way<(), Question>; 21] = [
-    way("any, with many steps for its states", 60, &[0, 20], |rng, ()| dense(rng)),
+const QUESTIONS: [Way<(), Question>; 22] = [
+    way("any, with many steps for its states", 60, &[0], |rng, ()| small(rng)),
+    way("the same of up to 40 states", 15, &[0, 20], |rng, ()| {
+        let states = rng.between(8, 40);
+        dense(rng, states)
+    }),
     way("no words", 20, &[0], |rng, ()| {
-        drawn(rng, dense, |_, smallest| *smallest == Automaton::bare())
+        drawn(rng, small, |_, smallest| *smallest == Automaton::bare())
     }),
     way("no words, though the root steps back to itself", 15, &[0], |rng, ()| {
-        let table = dense(rng).table;
+        let table = small(rng).table;
         let never = [until(Set::all(table.labels())), next(Set::EMPTY)];
         asked(rng, table, &never)
     }),
@@ -36,12 +40,12 @@ const QUESTIONS: [Way<(), Question>; 21] = [
         let table = over(rng, states, labels, []);
         asked(rng, table, &[until(Set::all(labels))])
     }),
-    way("a final start", 20, &[0], |rng, ()| drawn(rng, dense, is_final_start)),
+    way("a final start", 20, &[0], |rng, ()| drawn(rng, small, is_final_start)),
     way("99 beside other labels in one set", 25, &[0], |rng, ()| {
         drawn(rng, idle_beside_others, has_idle_beside_others)
     }),
     way("fewer states than sets", 20, &[0], |rng, ()| {
-        drawn(rng, dense, |sets, smallest| smallest.states() < sets.states())
+        drawn(rng, small, |sets, smallest| smallest.states() < sets.states())
     }),
     way("loops, up to 128 sets", 15, &[0], |rng, ()| {
         let places = rng.between(1, 7);
@@ -76,10 +80,15 @@ const QUESTIONS: [Way<(), Question>; 21] = [
     }),
 ];
 
+fn small(rng: &mut Rng) -> Question {
+    let states = rng.between(1, 7);
+    dense(rng, states)
+}
+
 /// With many steps for its states, so that words lead to several rows.
-fn dense(rng: &mut Rng) -> Question {
+fn dense(rng: &mut Rng, states: usize) -> Question {
     let kinds = &mut Kinds::default();
-    let (states, labels) = (rng.between(1, 7), rng.below(4));
+    let labels = rng.below(4);
     let transitions = rng.between(states, 4 * states);
     let drawn = tables::with_counts(rng, kinds, states, labels, transitions);
     let table = tables::with_any_exits(rng, kinds, &drawn);
@@ -259,6 +268,22 @@ pub fn longest_listing(rng: &mut Rng) -> Question {
     Question { table, formula }
 }
 
+/// 256 states with an edge by each of 41 letters: 10,496 edges.
+pub fn of_most_states(rng: &mut Rng) -> Question {
+    loop {
+        let question = from_the_end(rng, 0, 8, MAX_LABELS);
+        let loops = question.table.transitions.len() / question.table.states;
+        if loops == MAX_LABELS + 1 {
+            return question;
+        }
+    }
+}
+
+/// 256 states, told apart one by one from the last.
+pub fn of_most_rounds(rng: &mut Rng) -> Question {
+    line(rng, MAX_SETS)
+}
+
 /// The same table with its states in any order, or as it is.
 fn renumbered(rng: &mut Rng, table: &Table) -> Table {
     let mut numbers: Vec<u8> = (0..table.states).map(|state| state as u8).collect();
@@ -380,6 +405,22 @@ mod tests {
                 assert!(!are_all || states == sets, "{name}: {states}");
             }
         }
+    }
+
+    #[test]
+    fn the_longest_have_the_most_states_edges_and_rows() {
+        let rng = &mut Rng::new(3);
+        let listing = |question: Question| Listing::of(&question.table, &question.formula);
+        let counts = |listing: &Listing| {
+            let sets = of_sets(listing, MAX_SETS).expect("at most 256 sets");
+            let smallest = sets.merged();
+            [sets.states(), smallest.states(), smallest.edges().count()]
+        };
+        assert_eq!(counts(&listing(of_most_states(rng))), [256, 256, 10_496]);
+        assert_eq!(counts(&listing(of_most_rounds(rng))), [256, 256, 255]);
+        let longest = listing(longest_listing(rng));
+        assert_eq!((longest.rows.len(), longest.edges.len()), (9_750, 786_240));
+        assert_eq!(counts(&longest), [251, 250, 1_008]);
     }
 
     #[test]
