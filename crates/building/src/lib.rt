@@ -3,7 +3,7 @@ use formula_check::inputs::Inputs;
 use formula_check::inputs::Unprepared;
 use formula_check::inputs::check_inputs;
 
-mod building;
+pub mod building;
 
 ghost use mathlib.Core.Path.{_≡_};
 ghost use Rattle.building.specs.Replies.{buildReply};

@@ -8,7 +8,7 @@ pub const SETS: usize = 256;
 // The labels of a table, the silent step 0 and the idle step among them.
 pub const LETTERS: usize = LABELS + 2;
 
-// Where those of each letter's column begin, and the last ones end.
+// Where the steps of each letter's column begin, and the last ones end.
 pub const BEGINS: usize = LETTERS + 1;
 
 pub const NEXT: usize = SETS * LETTERS;
