@@ -47,7 +47,7 @@ and-numbers P (accepted a) next h k = k a
 and-numbers P (refusal n g) next h k = h
 
 -- 11, 12 and 20 of a listing.
-in-numbers : (P : ℕ → Type 0) → ((n : ℕ) → Between 11 12 n → P n) → P 20 → (rows edges : List ℕ) (t : Table) (F : Formula) → Numbered P (besideIn rows edges t F)
+pub in-numbers : (P : ℕ → Type 0) → ((n : ℕ) → Between 11 12 n → P n) → P 20 → (rows edges : List ℕ) (t : Table) (F : Formula) → Numbered P (besideIn rows edges t F)
 in-numbers P h k rows edges t F =
     and-numbers P (fitted (listing t F) rows edges) (besideOf t) (numbered-so (Between 11 12) P h (fitted (listing t F) rows edges) (fitted-numbers (listing t F) rows edges)) (λ L.
     numbered-unless P (leb (length (sets (automatonIn L) (alphabet t) mostSets)) mostSets) 20 (suc mostSets) (accepted (record { list = L; smallest = smallestOf t L })) k tt)
