@@ -6,6 +6,7 @@ ghost use Rattle.formula_check.specs.Inputs.{unpreparedNumber, unpreparedFigure
 ghost use Rattle.labelling.specs.Replies.{verdictReply};
 ghost use Rattle.verdicts.specs.Replies.{verdictsReply};
 ghost use Rattle.building.specs.Replies.{buildReply};
+ghost use Rattle.smallest.specs.Replies.{smallestReply};
 ghost use Rattle.words.specs.Replies.{wordReply};
 ghost use Rattle.write_formula.specs.Replies.{writeReply};
 ghost use Rattle.combine.specs.Replies.{combineReply};
@@ -17,6 +18,7 @@ use combine::CombineReply;
 use formula_check::inputs::Unprepared;
 use formula_text::FormulaReply;
 use labelling::VerdictReply;
+use smallest::SmallestReply;
 use table_text::TableReply;
 use verdicts::VerdictsReply;
 use words::WordReply;
@@ -117,6 +119,18 @@ pub fn build_edges(reply: BuildReply, before: u64) -> u64
         BuildReply::RowsShort(_) => before,
         BuildReply::EdgesShort(_) => before,
         BuildReply::Refused(_) => before,
+    }
+}
+
+pub fn smallest_answer(reply: SmallestReply) -> Answer
+    ensures { λ r. ⌜ Says (λ counts. counts .rows) (smallestReply reply) r ⌝ }
+{
+    match reply {
+        SmallestReply::Built(rows, _) => numbered(0, rows),
+        SmallestReply::RowsShort(needed) => numbered(11, needed),
+        SmallestReply::EdgesShort(needed) => numbered(12, needed),
+        SmallestReply::SetsMany => numbered(20, 257),
+        SmallestReply::Refused(why) => unprepared_answer(why),
     }
 }
 
