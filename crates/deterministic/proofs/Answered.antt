@@ -44,7 +44,8 @@ use Rattle.deterministic.specs.Smallest.{SameWords, IsSmallest}
 use Rattle.deterministic.specs.Listings.{automatonIn}
 use Rattle.deterministic.specs.Bytes.{automatonBytes}
 use Rattle.deterministic.specs.SmallestAsked.{Beside, besideOf, besideIn, smallestAsked, countsBeside, rowsBeside, edgesBeside, smallestBytes, SmallestIn, SmallestAnswered}
-use Rattle.deterministic.specs.inner.Subsets.{sets, smallest}
+use Rattle.deterministic.specs.inner.Smallest.{smallestOf}
+use Rattle.deterministic.specs.inner.Subsets.{sets}
 use Rattle.deterministic.proofs.Runs.{same-trans}
 use Rattle.deterministic.proofs.Listings.{build-words, is-build}
 use Rattle.deterministic.proofs.Request.{refused-exactly, smallest-is, is-small, has-few-edges}
@@ -73,10 +74,6 @@ of-words s h = record {
   apart = h .apart;
   in-turn = h .in-turn;
 }
-
--- The smallest automaton of a listing.
-abbrev pub smallestOf : Table → Listing → Automaton
-smallestOf t L = smallest (automatonIn L) (alphabet t) mostSets
 
 module _ (table formula rows edges buffer work : List ℕ) where
   abbrev asked : Reply Beside

@@ -34,8 +34,9 @@ use Rattle.deterministic.specs.Sizes.{mostSets, smallestLength, workLeng
 use Rattle.deterministic.specs.Listings.{automatonIn}
 use Rattle.deterministic.specs.Sets.{FewSets}
 use Rattle.deterministic.specs.SmallestAsked.{Beside, besideOf, besideIn, smallestAsked, countsBeside}
-use Rattle.deterministic.specs.inner.Subsets.{sets, smallest}
-use Rattle.deterministic.proofs.Answered.{with-room, smallestOf}
+use Rattle.deterministic.specs.inner.Smallest.{smallestOf}
+use Rattle.deterministic.specs.inner.Subsets.{sets}
+use Rattle.deterministic.proofs.Answered.{with-room}
 use Rattle.deterministic.proofs.Listings.{is-build}
 use Rattle.deterministic.proofs.Request.{refused-exactly}
 

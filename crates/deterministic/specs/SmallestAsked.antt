@@ -8,7 +8,6 @@ use lib.ListN.{length, take, replicate}
 use Rattle.lts.specs.Reply.{Reply, accepted, refusal, unless, overwritten, leftIn, answers}
 use Rattle.lts.specs.Steps.{Table, labels}
 use Rattle.lts.specs.Prepared.{withTable}
-use Rattle.lts.specs.inner.Steps.{alphabet}
 use Rattle.lts.specs.inner.Prepared.{preparedTable}
 use Rattle.actl.specs.Formulas.{Formula}
 use Rattle.actl.specs.FormulaReading.{withFormula, longEnough}
@@ -24,9 +23,8 @@ use Rattle.explanations.specs.Explanation.{andThen}
 use Rattle.deterministic.specs.Sizes.{mostSets, mostLetters, smallestLength, workLength}
 use Rattle.deterministic.specs.Automata.{Automaton, count, Accepts}
 use Rattle.deterministic.specs.Smallest.{SameWords, IsSmallest}
-use Rattle.deterministic.specs.Listings.{automatonIn}
 use Rattle.deterministic.specs.Bytes.{automatonBytes}
-use Rattle.deterministic.specs.inner.Subsets.{sets, smallest}
+use Rattle.deterministic.specs.inner.Smallest.{setsOf, smallestOf}
 
 -- 02: "Beside a build's rows and edges"
 pub record Beside : Type 0 where
@@ -35,9 +33,7 @@ pub record Beside : Type 0 where
 
 -- 02: "Errors: 20 if they are more, 257 returned, after every base refusal."
 abbrev pub besideOf : Table → Listing → Reply Beside
-besideOf t L =
-    let A = automatonIn L in
-    unless (leb (length (sets A (alphabet t) mostSets)) mostSets) 20 (suc mostSets) (accepted (record { list = L; smallest = smallest A (alphabet t) mostSets }))
+besideOf t L = unless (leb (length (setsOf t L)) mostSets) 20 (suc mostSets) (accepted (record { list = L; smallest = smallestOf t L }))
 
 -- Of the table and the formula: 11 and 12 as of a build, then 20.
 abbrev pub besideIn : List ℕ → List ℕ → Table → Formula → Reply Beside
@@ -65,7 +61,7 @@ abbrev pub smallestBytes : Beside → List ℕ
 smallestBytes b = automatonBytes (b .smallest)
 
 -- 01, of a work buffer: all zero, over its length, after every call but 14.
-abbrev pub cleared : List ℕ → List ℕ
+unfoldable pub cleared : List ℕ → List ℕ
 cleared work = overwritten (replicate workLength 0) work
 
 abbrev pub workLeft : {A : Type 0} → Reply A → List ℕ → List ℕ

@@ -4,3 +4,4 @@ pub mod Blocks
 pub mod Subsets
 pub mod Arrays
 pub mod Explored
+pub mod Smallest

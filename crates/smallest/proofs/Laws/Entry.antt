@@ -75,7 +75,8 @@ module _ (table formula rows edges out work : List ℕ) where
       (subst (FromPrepared table formula (answers countsBeside asked) (leftIn rowsBeside asked rows)) (sym c) (smallest-explains table formula rows edges out work))) in
       let told = subst (λ q. SmallestAnswered table formula q x y z) (sym a) (subst (λ p. SmallestAnswered table formula (answers countsBeside asked) p y z) (sym b)
       (subst (λ p. SmallestAnswered table formula (answers countsBeside asked) (leftIn rowsBeside asked rows) p z) (sym c)
-      (subst (SmallestAnswered table formula (answers countsBeside asked) (leftIn rowsBeside asked rows) (leftIn edgesBeside asked edges)) (sym d) (smallest-answered table formula rows edges out work)))) in
+      (subst (SmallestAnswered table formula (answers countsBeside asked) (leftIn rowsBeside asked rows) (leftIn edgesBeside asked edges)) (sym d)
+          (smallest-answered table formula rows edges out work)))) in
       (a, (b, (c, (d, (e, (shown, told))))))
 
   -- A buffer that is short.
@@ -120,6 +121,7 @@ module _ (table formula rows edges out work : List ℕ) where
 
           -- What stands past the work buffer's length stays.
           zeros-past : (w : List ℕ) → WorkKept work w → cleared w ≡ cleared work
+          unfolding cleared
           zeros-past w k =
               let n = length-replicate {A = ℕ} workLength 0 in
               ap (λ l. replicate workLength 0 ++ l) (ap (λ m. drop m w) n ∙ (k .past ∙ ap (λ m. drop m work) (sym n)))
