@@ -19,7 +19,8 @@ abbrev pub Answers : List ℕ → List ℕ → Type 0
 Answers tableFile formulaFile = (d : Automaton) × SmallestOf tableFile (withoutEnd formulaFile) d × (smallestText tableFile formulaFile ≡ automatonText d)
 
 abbrev pub Refuses : List ℕ → List ℕ → Type 0
-Refuses tableFile formulaFile = (number : ℕ) × (figure : ℕ) × (lentSmallest tableFile (withoutEnd formulaFile) ≡ refusal number figure) × (smallestText tableFile formulaFile ≡ refusalLine number figure)
+Refuses tableFile formulaFile =
+    (number : ℕ) × (figure : ℕ) × (lentSmallest tableFile (withoutEnd formulaFile) ≡ refusal number figure) × (smallestText tableFile formulaFile ≡ refusalLine number figure)
 
 pub smallest-printed : (tableFile formulaFile : List ℕ) → Answers tableFile formulaFile ⊎ Refuses tableFile formulaFile
 unfolding smallestText

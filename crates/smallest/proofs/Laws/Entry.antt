@@ -76,7 +76,7 @@ module _ (table formula rows edges out work : List ℕ) where
       let told = subst (λ q. SmallestAnswered table formula q x y z) (sym a) (subst (λ p. SmallestAnswered table formula (answers countsBeside asked) p y z) (sym b)
       (subst (λ p. SmallestAnswered table formula (answers countsBeside asked) (leftIn rowsBeside asked rows) p z) (sym c)
       (subst (SmallestAnswered table formula (answers countsBeside asked) (leftIn rowsBeside asked rows) (leftIn edgesBeside asked edges)) (sym d)
-          (smallest-answered table formula rows edges out work)))) in
+      (smallest-answered table formula rows edges out work)))) in
       (a, (b, (c, (d, (e, (shown, told))))))
 
   -- A buffer that is short.

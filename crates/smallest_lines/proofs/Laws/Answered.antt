@@ -35,8 +35,7 @@ use Rattle.deterministic.specs.Listings.{automatonIn}
 use Rattle.deterministic.specs.Sizes.{mostSets, mostLetters}
 use Rattle.deterministic.specs.Smallest.{SameWords, IsSmallest}
 use Rattle.deterministic.specs.SmallestAsked.{Beside, besideOf, besideIn}
-use Rattle.deterministic.specs.inner.Subsets.{sets}
-use Rattle.deterministic.proofs.Answered.{smallestOf}
+use Rattle.deterministic.specs.inner.Smallest.{setsOf, smallestOf}
 use Rattle.deterministic.proofs.Listings.{build-words, is-build}
 use Rattle.deterministic.proofs.Request.{refused-exactly, smallest-is, is-small, has-few-edges}
 use Rattle.deterministic.proofs.Runs.{same-trans}
@@ -86,7 +85,7 @@ module _ (t : Table) (F : Formula) (w : InRange t) (c : HasClass F) where
   few-letters : length (alphabet t) ≤ mostLetters
   few-letters = omega (arith, length-append (upFrom 0 (suc (labels t))) (idleLabel ∷ []), upFrom-length 0 (suc (labels t)), w .few-labels)
 
-  module _ (few : length (sets A (alphabet t) mostSets) ≤ mostSets) where
+  module _ (few : length (setsOf t (listing t F)) ≤ mostSets) where
     abbrev d : Automaton
     d = smallestOf t (listing t F)
 
@@ -109,11 +108,11 @@ smallest-of tableText text {b} e =
     let (L, fits, told) = and-accepted (fitted (listing t F) lentRows lentEdges) (besideOf t) asked in
     let is = fitted-accepted (listing t F) lentRows lentEdges fits .2 in
     let told′ : besideOf t (listing t F) ≡ accepted b = subst (λ (K : Listing). besideOf t K ≡ accepted b) is told in
-    let (few, same) = unless-accepted (leb (length (sets (automatonIn (listing t F)) (alphabet t) mostSets)) mostSets) 20 (suc mostSets)
+    let (few, same) = unless-accepted (leb (length (setsOf t (listing t F))) mostSets) 20 (suc mostSets)
     (accepted (record { list = listing t F; smallest = smallestOf t (listing t F) })) told′ in
     let beside : record { list = listing t F; smallest = smallestOf t (listing t F) } ≡ b = same-accepted same in
     let answered = answer t F (text-of-read tableText t read-table .1) (formed-has-class (reading-leaves-form (t .names) text [] read-formula))
-    (leb-true (length (sets (automatonIn (listing t F)) (alphabet t) mostSets)) mostSets few) in
+    (leb-true (length (setsOf t (listing t F))) mostSets few) in
     subst (λ (x : Beside). SmallestOf tableText text (x .smallest)) beside
     (record {
       table = t;

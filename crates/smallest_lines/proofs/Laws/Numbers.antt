@@ -6,7 +6,6 @@ use lib.Dec.{leb}
 use lib.ListN.{length}
 use Rattle.lts.specs.Reply.{Reply, accepted, refusal}
 use Rattle.lts.specs.Steps.{Table}
-use Rattle.lts.specs.inner.Steps.{alphabet}
 use Rattle.lts.proofs.Laws.Refusals.{Numbered, Between, numbered-so, numbered-unless}
 use Rattle.actl.specs.Formulas.{Formula}
 use Rattle.automaton.specs.Build.{fitted}
@@ -15,10 +14,8 @@ use Rattle.automaton.proofs.Refusals.{fitted-numbers}
 use Rattle.explanations.specs.Explanation.{andThen}
 use Rattle.explanations.proofs.Beginnings.{NotLength, then-numbers}
 use Rattle.deterministic.specs.Sizes.{mostSets}
-use Rattle.deterministic.specs.Listings.{automatonIn}
 use Rattle.deterministic.specs.SmallestAsked.{besideOf, besideIn}
-use Rattle.deterministic.specs.inner.Subsets.{sets}
-use Rattle.deterministic.proofs.Answered.{smallestOf}
+use Rattle.deterministic.specs.inner.Smallest.{setsOf, smallestOf}
 use Rattle.smallest_lines.specs.SmallestText.{lentSmallest}
 use Rattle.smallest_lines.specs.inner.Asking.{lentRows, lentEdges}
 
@@ -29,7 +26,7 @@ and-numbers P (refusal n g) next h k = h
 beside-numbers : (P : ℕ → Type 0) → ((n : ℕ) → Between 11 12 n → P n) → P 20 → (rows edges : List ℕ) (t : Table) (F : Formula) → Numbered P (besideIn rows edges t F)
 beside-numbers P h k rows edges t F =
     and-numbers P (fitted (listing t F) rows edges) (besideOf t) (numbered-so (Between 11 12) P h (fitted (listing t F) rows edges) (fitted-numbers (listing t F) rows edges)) (λ L.
-    numbered-unless P (leb (length (sets (automatonIn L) (alphabet t) mostSets)) mostSets) 20 (suc mostSets) (accepted (record { list = L; smallest = smallestOf t L })) k tt)
+    numbered-unless P (leb (length (setsOf t L)) mostSets) 20 (suc mostSets) (accepted (record { list = L; smallest = smallestOf t L })) k tt)
 
 pub not-length : (t : Table) (F : Formula) → Numbered NotLength (besideIn lentRows lentEdges t F)
 not-length t F = beside-numbers NotLength (λ n h e. omega (arith, h .0)) (λ e. omega arith) lentRows lentEdges t F
