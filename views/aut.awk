@@ -1,4 +1,4 @@
-# The automaton in the Aldebaran format, after listing.awk: final rows have a loop (final).
+# The automaton in the Aldebaran format, after a listing: final rows have a loop (final).
 
 # CADP takes i, and mCRL2 tau, for the internal step. A label of that name is an event like any other.
 function word(label) {

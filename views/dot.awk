@@ -1,10 +1,4 @@
-# The automaton for Graphviz, after listing.awk: a point leads to row 0, final rows have a double ring, parallel edges are one arrow.
-
-function caption() {
-  if (class == 1)
-    return verdict ? "holds: all witnesses" : "does not hold: no word is a witness"
-  return verdict ? "holds: no word is a counterexample" : "does not hold: all counterexamples"
-}
+# The automaton for Graphviz, after a listing: a point leads to row 0, final rows have a double ring, parallel edges are one arrow.
 
 # Into arrow: the edges in the order of the listing, each with the names of those that are parallel to it.
 function join(    edge, ends) {
@@ -21,13 +15,14 @@ function join(    edge, ends) {
 
 END {
   printf "digraph \"%s\" {\n", formula
-  printf "  label=\"%s\";\n", caption()
+  if (caption != "")
+    printf "  label=\"%s\";\n", caption
   print "  rankdir=LR;"
   print "  node [shape=circle];"
   print "  start [shape=point];"
   print "  start -> 0;"
   for (row = 0; row < rows; row++)
-    printf "  %d [label=\"state %d\\nplace %d\"%s];\n", row, state[row], place[row], (final[row] ? ", shape=doublecircle" : "")
+    printf "  %d [label=\"%s\"%s];\n", row, shown[row], (final[row] ? ", shape=doublecircle" : "")
   join()
   for (i = 1; i <= arrows; i++)
     printf "  %s [label=\"%s\"];\n", arrow[i], names[arrow[i]]

@@ -142,6 +142,8 @@ END {
     say("the combined table has " figure " labels; at most 40 are taken")
   else if (number == 19)
     say("the combined table has " figure " transitions; at most 1024 are taken")
+  else if (number == 20)
+    say("the words lead to " figure " sets of rows or more; at most 256 are taken")
   else
     say("figure " figure)
 }

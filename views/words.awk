@@ -1,4 +1,4 @@
-# The accepted words, shortest first and by rising labels from the left, after listing.awk: as many as wanted, and a line that says whether there are more.
+# The accepted words, shortest first and by rising labels from the left, after a listing: as many as wanted, and a line that says whether there are more.
 # Each length is searched depth first. Only rows are followed from which a final one is that many steps away, so no branch is in vain.
 
 # The edges of each row: from first[row] to before first[row + 1].

@@ -1,0 +1,4 @@
+pub mod Answered
+pub mod Asking
+pub mod Numbers
+pub mod Written

@@ -1,0 +1,2 @@
+pub mod SmallestText
+pub mod inner
