@@ -5,8 +5,9 @@ use crate::interface::{interface, slice};
 use crate::listing::Listing;
 use crate::prepared::{self, FORMULA_LENGTH, TABLE_LENGTH};
 use crate::reply::{Refusal, Reply};
+use crate::smallest::{SMALLEST_LENGTH, WORK_LENGTH};
 use crate::table::{MAX_STATES, MAX_TEXT, Table};
-use crate::{combining, verdict, word, writing};
+use crate::{combining, smallest, verdict, word, writing};
 
 pub const ROW_PLACE: usize = 3;
 pub const EDGE_PLACE: usize = 5;
@@ -115,6 +116,36 @@ pub fn build(
         *edge_count = listing.edges.len() as u64;
     }
     written.map(|()| listing.rows.len() as u64).into()
+}
+
+/// The listing, and the smallest automaton of its words. The work buffer is cleared, whatever is answered
+/// behind 14, and not used.
+pub fn smallest(
+    table: &[u8],
+    formula: &[u8],
+    rows: &mut [u8],
+    edges: &mut [u8],
+    smallest: &mut [u8],
+    work: &mut [u8],
+    edge_count: &mut u64,
+) -> Reply {
+    let are_long = both_long_enough(table, formula)
+        .and_then(|()| long_enough(smallest, SMALLEST_LENGTH))
+        .and_then(|()| long_enough(work, WORK_LENGTH));
+    if let Err(refusal) = are_long {
+        return refusal.into();
+    }
+    work[..WORK_LENGTH].fill(0);
+    let outcome = question(table, formula).and_then(|(table, formula)| {
+        let listing = Listing::of(&table, &formula);
+        has_places(&listing, rows.len() / ROW_PLACE, edges.len() / EDGE_PLACE)?;
+        let bytes = smallest::smallest(&listing)?.bytes();
+        smallest[..bytes.len()].copy_from_slice(&bytes);
+        write_listing(&listing, rows, edges)?;
+        *edge_count = listing.edges.len() as u64;
+        Ok(listing.rows.len() as u64)
+    });
+    outcome.into()
 }
 
 pub fn accepts(table: &[u8], formula: &[u8], letters: &[u8]) -> Reply {

@@ -10,11 +10,12 @@ use crate::inputs::lending::{self, LENGTHS, lend};
 use crate::inputs::rng::Rng;
 use crate::inputs::tables::{expected_names, with_any_names};
 use crate::inputs::{
-    formula_texts, formulas, pairs, questions, starts, table_texts, tables, words, written,
+    formula_texts, formulas, pairs, questions, sets, starts, table_texts, tables, words, written,
 };
 use crate::interface::interface;
 use crate::listing::Listing;
 use crate::prepared::{FORMULA_LENGTH, TABLE_LENGTH};
+use crate::smallest::{SMALLEST_LENGTH, WORK_LENGTH};
 use crate::table::{MAX_STATES, MAX_TEXT};
 use crate::tally::{Expected, Kind, Tally};
 
@@ -140,6 +141,13 @@ fn expected(entry: &str) -> (&'static [u32], Vec<Expected>) {
             let edges = kinds::expected(EDGES, &PLACES);
             (&[0, 10, 11, 12, 14], questions().chain(rows).chain(edges).collect())
         }
+        "smallest" => {
+            let rows = kinds::expected(ROWS, &PLACES);
+            let edges = kinds::expected(EDGES, &PLACES);
+            let [smallest, work] = [SMALLEST, WORK].map(|part| kinds::expected(part, &LENGTHS));
+            let all = questions().chain(sets::expected()).chain(rows).chain(edges);
+            (&[0, 10, 11, 12, 14, 20], all.chain(smallest).chain(work).collect())
+        }
         "accepts" => {
             let words =
                 words::expected().into_iter().chain([questions::expected_with_long_words()]);
@@ -170,6 +178,8 @@ const WRITTEN: &str = "written buffer";
 const WRITTEN_BACK: &str = "written back";
 const TABLE_BUFFER: &str = "table's buffer";
 const FORMULA_BUFFER: &str = "formula's buffer";
+const SMALLEST: &str = "smallest automaton's buffer";
+const WORK: &str = "work buffer";
 const ROWS: &str = "places for rows";
 const EDGES: &str = "places for edges";
 
@@ -268,6 +278,26 @@ pub fn build(rng: &mut Rng) -> Input<compare::Build> {
     let listing = Listing::of(&question.table, &question.formula);
     let [rows, edges] = places(rng, &mut kinds, &listing);
     Input { case: compare::Build { table, formula, rows, edges }, kinds: kinds.0 }
+}
+
+pub fn smallest(rng: &mut Rng) -> Input<compare::Smallest> {
+    let mut kinds = Kinds::default();
+    let question = sets::question(rng, &mut kinds);
+    let table = lend(rng, &mut kinds, &lending::TABLE, &question.table);
+    let formula = lend(rng, &mut kinds, &lending::FORMULA, &question);
+    let listing = Listing::of(&question.table, &question.formula);
+    sets::note(&mut kinds, &listing);
+    let [rows, edges] = places(rng, &mut kinds, &listing);
+    let [smallest, work] =
+        [(SMALLEST, SMALLEST_LENGTH), (WORK, WORK_LENGTH)].map(|(part, needed)| {
+            let length = match rng.one_in(6) {
+                true => kinds.make(rng, part, &LENGTHS, &needed),
+                false => needed,
+            };
+            lent(rng, length)
+        });
+    let case = compare::Smallest { table, formula, rows, edges, smallest, work };
+    Input { case, kinds: kinds.0 }
 }
 
 /// What is lent for the rows and the edges of a listing.

@@ -22,6 +22,9 @@ macro_rules! interface {
                 table: read, formula: read, starts: read, answers: written) [];
             Build build explainer_build(
                 table: read, formula: read, rows: written, edges: written) [edge_count];
+            Smallest smallest explainer_smallest(
+                table: read, formula: read, rows: written, edges: written,
+                smallest: written, work: written) [edge_count];
             Accepts accepts explainer_accepts(table: read, formula: read, word: read) [];
             Explain explain explainer_explain(
                 table_text: read, formula_text: read, table: written, formula: written,

@@ -1,8 +1,8 @@
 //! The second explainer: 01 by other methods than the library's, and what holds the two together.
 //!
 //! The modules stand in layers, and each uses only those above it: replies, texts and prepared bytes;
-//! verdict, listing and words; the entries of each explainer; what is printed; inputs and their
-//! counts; comparisons and times.
+//! verdict, listing, smallest automaton and words; the entries of each explainer; what is printed;
+//! inputs and their counts; comparisons and times.
 #![deny(unsafe_code)]
 
 pub mod columns;
@@ -17,6 +17,7 @@ pub mod prepared;
 
 pub mod verdict;
 pub mod listing;
+pub mod smallest;
 pub mod word;
 pub mod enumeration;
 pub mod run;
@@ -33,6 +34,7 @@ pub mod views;
 
 pub mod tally;
 pub mod inputs;
+pub mod openfst;
 pub mod corpus;
 
 pub mod compare;

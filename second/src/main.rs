@@ -14,7 +14,8 @@ use second::reply::Reply;
 use second::tally::{self, Tally};
 use second::views::View;
 use second::{
-    bench, digests, fuzz, link, print, print_verdicts, program, read_back, script, starts, views,
+    bench, digests, fuzz, link, openfst, print, print_verdicts, program, read_back, script, starts,
+    views,
 };
 
 const USAGE: &str = "second explain FOLDER
@@ -29,6 +30,7 @@ second print_verdicts FILE --seed NUMBER --count NUMBER
 second print_combined FILE --seed NUMBER --count NUMBER
 second views SCRIPT --seed NUMBER --count NUMBER
 second combined SCRIPT --seed NUMBER --count NUMBER
+second openfst FOLDER --seed NUMBER --count NUMBER
 second fuzz --seed NUMBER --count NUMBER
 second digests FILE [--corpus NAME] [--compare STORED | --each ENTRY KIND]
 second bench [--before BUILD] [--library BUILD] [ENTRY]";
@@ -71,6 +73,9 @@ fn main() -> ExitCode {
         }
         ["views", file, ref inputs @ ..] => {
             seeded(inputs, |seed, count| in_folders(&VIEWS, file, seed, count))
+        }
+        ["openfst", folder, ref inputs @ ..] => {
+            seeded(inputs, |seed, count| wrote(openfst(Path::new(folder), seed, count)))
         }
         ["fuzz", ref inputs @ ..] => seeded(inputs, fuzz),
         ["digests", file, "--corpus", name, ref asked @ ..] => {
@@ -240,6 +245,14 @@ fn in_folders(comparison: &Comparison, file: &str, seed: u64, count: u64) -> Exi
             all_occurred(&[tally], count >= enough, missing)
         }
     }
+}
+
+/// A line for each listing: its number, and how many states and edges its smallest automaton has.
+fn openfst(folder: &Path, seed: u64, count: u64) -> io::Result<()> {
+    for (number, (states, edges)) in openfst::write(folder, seed, count)?.iter().enumerate() {
+        println!("{number} {states} {edges}");
+    }
+    Ok(())
 }
 
 fn fuzz(seed: u64, count: u64) -> ExitCode {

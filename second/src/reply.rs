@@ -40,6 +40,8 @@ pub enum Refusal {
     PairCount(usize),
     LabelCount(usize),
     TransitionCount(usize),
+    /// Sets of rows that words lead to: one more than there may be.
+    SetCount(usize),
 }
 
 impl From<Refusal> for Reply {
@@ -65,6 +67,7 @@ impl From<Refusal> for Reply {
             Refusal::PairCount(count) => (17, count),
             Refusal::LabelCount(count) => (18, count),
             Refusal::TransitionCount(count) => (19, count),
+            Refusal::SetCount(count) => (20, count),
         };
         Reply { number, figure: figure as u64 }
     }

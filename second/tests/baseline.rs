@@ -27,6 +27,7 @@ fn random_calls_agree_and_reach_every_refusal() {
         ("verdict", [0, 10, 14].into()),
         ("verdicts", [0, 10, 14, 16].into()),
         ("build", [0, 10, 11, 12, 14].into()),
+        ("smallest", [0, 10, 11, 12, 14, 20].into()),
         ("accepts", [0, 10, 13, 14].into()),
         ("explain", [0, 1, 2, 3, 4, 5, 6, 7, 8, 9, 11, 12, 14].into()),
     ]);

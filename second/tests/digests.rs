@@ -9,7 +9,7 @@ use std::path::PathBuf;
 use common::loops::with_loops;
 use second::digests::answers::Explainer;
 use second::digests::{
-    self, BASE, COMBINED, Corpus, IDLE, MARKS, NAMES, SHORT, STARTS, WRITTEN, difference,
+    self, BASE, COMBINED, Corpus, IDLE, MARKS, NAMES, SHORT, SMALLEST, STARTS, WRITTEN, difference,
 };
 use second::entries::{self, Entries, SECOND};
 use second::prepared;
@@ -17,7 +17,7 @@ use second::reply::Reply;
 use second::table::SILENT;
 
 /// Each corpus and its stored lines.
-fn stored() -> [(Corpus, Vec<&'static str>); 8] {
+fn stored() -> [(Corpus, Vec<&'static str>); 9] {
     let lines = |file: &'static str| file.lines().filter(|line| !line.starts_with('#')).collect();
     let base = lines(include_str!("../corpus/base.txt"));
     let marks = lines(include_str!("../corpus/marks.txt"));
@@ -27,6 +27,7 @@ fn stored() -> [(Corpus, Vec<&'static str>); 8] {
     let names = lines(include_str!("../corpus/names.txt"));
     let starts = lines(include_str!("../corpus/starts.txt"));
     let combined = lines(include_str!("../corpus/combined.txt"));
+    let smallest = lines(include_str!("../corpus/smallest.txt"));
     [
         (BASE, base),
         (MARKS, marks),
@@ -36,6 +37,7 @@ fn stored() -> [(Corpus, Vec<&'static str>); 8] {
         (NAMES, names),
         (STARTS, starts),
         (COMBINED, combined),
+        (SMALLEST, smallest),
     ]
 }
 
@@ -95,7 +97,7 @@ fn every_kind_has_a_stored_line_and_no_line_is_without_a_kind() {
 
 #[test]
 fn every_refusal_of_every_entry_is_among_the_answers() {
-    let [base, marks, short, idle, written, names, starts, combined] =
+    let [base, marks, short, idle, written, names, starts, combined, smallest] =
         stored().map(|(_, lines)| lines);
     all_are_among(
         &base,
@@ -140,6 +142,7 @@ fn every_refusal_of_every_entry_is_among_the_answers() {
         &combined,
         &[("combine", &[0, 10, 14, 17, 18, 19]), ("table_text", &[0, 10, 14])],
     );
+    all_are_among(&smallest, &[("smallest", &[0, 10, 11, 12, 14, 20])]);
 }
 
 fn all_are_among(lines: &[&str], expected: &[(&str, &[u32])]) {
@@ -267,6 +270,106 @@ fn tables_in_the_other_order_change_their_inputs() {
     assert!(differing_in(&COMBINED, wrong, "combine", "largest") > 30);
     assert_eq!(differing_in(&COMBINED, wrong, "combine", "any-and-itself"), 0);
     assert_eq!(differing_in(&COMBINED, wrong, "combine", "bad-41-labels"), 0);
+}
+
+/// A fault in what a call leaves of the automaton's buffer and of the work buffer.
+macro_rules! smallest {
+    (|$reply:ident, $smallest:ident, $work:ident| $fault:block) => {{
+        let wrong: entries::Smallest = |table, formula, rows, edges, $smallest, $work, edge_count| {
+            let $reply =
+                entries::smallest(table, formula, rows, edges, $smallest, $work, edge_count);
+            $fault
+            $reply
+        };
+        Entries { smallest: Some(wrong), ..SECOND }
+    }};
+}
+
+#[test]
+fn a_byte_of_the_smallest_automaton_or_behind_it_changes_its_inputs() {
+    let behind = smallest!(|reply, smallest, _work| {
+        if reply.number == 0 {
+            let [states, edges] =
+                [0, 2].map(|at| u16::from_le_bytes([smallest[at], smallest[at + 1]]));
+            let used = 4 + usize::from(states) + 3 * usize::from(edges);
+            smallest[used] ^= 1;
+        }
+    });
+    let last_mark = smallest!(|reply, smallest, _work| {
+        if reply.number == 0 && smallest[..2] == [0, 1] {
+            smallest[4 + 255] ^= 1;
+        }
+    });
+    for (wrong, name, count) in [
+        (behind, "many-steps", 400),
+        (behind, "loops-256-sets-40-labels", 5),
+        (behind, "bad-ring-257-sets", 0),
+        (last_mark, "loops-256-sets", 20),
+        (last_mark, "ring-255-sets", 0),
+    ] {
+        assert_eq!(differing_in(&SMALLEST, wrong, "smallest", name), count, "{name}");
+    }
+}
+
+#[test]
+fn a_work_buffer_that_is_not_cleared_changes_its_inputs() {
+    const WORK: usize = 524_288;
+    let last = smallest!(|reply, _smallest, work| {
+        if reply.number != 14 {
+            work[WORK - 1] = 1;
+        }
+    });
+    let past = smallest!(|reply, _smallest, work| {
+        if let (true, Some(byte)) = (reply.number != 14, work.get_mut(WORK)) {
+            *byte ^= 1;
+        }
+    });
+    let short = smallest!(|reply, _smallest, work| {
+        if reply.number == 14 {
+            work.fill(0);
+        }
+    });
+    for (wrong, name, count) in [
+        (last, "m", 150),
+        (last, "no-places", 100),
+        (last, "table-unused-damaged", 150),
+        (last, "bad-ring-257-sets", 40),
+        (last, "smallest-short", 0),
+        (past, "work-longer", 100),
+        (past, "m", 0),
+        (short, "smallest-short", 100),
+        (short, "m", 0),
+    ] {
+        assert_eq!(differing_in(&SMALLEST, wrong, "smallest", name), count, "{name}");
+    }
+}
+
+#[test]
+fn too_many_sets_are_answered_by_257_behind_other_refusals() {
+    let (_, lines) =
+        stored().into_iter().find(|(corpus, _)| corpus.name == SMALLEST.name).expect("it");
+    for line in &lines[1..] {
+        let words: Vec<&str> = line.split_whitespace().collect();
+        let [kind, count] = words[1..3] else { panic!("{line}") };
+        let number = match kind {
+            _ if kind.starts_with("bad-") => 20,
+            "257-sets-few-rows" | "no-places" => 11,
+            "257-sets-few-edges" => 12,
+            "257-sets-formula-damaged" => 10,
+            _ if kind.contains("short") || kind.contains("as-long-as-used") => 14,
+            _ if kind.contains("-sets") || kind == "most-rows" => 0,
+            _ => continue,
+        };
+        assert_eq!(words[4..], [format!("{number}:{count}")], "{line}");
+    }
+    for (name, figure) in [
+        ("bad-ring-257-sets", "257"),
+        ("bad-loops-16384-sets", "257"),
+        ("257-sets-few-rows", "257"),
+        ("most-rows", "9750"),
+    ] {
+        assert_eq!(figures(&SMALLEST, "smallest", name), [figure.to_owned()].into(), "{name}");
+    }
 }
 
 #[test]

@@ -1,15 +1,15 @@
 -- What asking for the smallest automaton refuses: 10, 11, 12, 14 and 20; 10 exactly for foreign bytes, 20 exactly for more than 256 sets of rows.
 use mathlib.Core.Path.{_≡_, refl, sym, ap, _∙_, subst}
 use mathlib.Core.Logic.{_⊎_, inl, inr, _↔_}
-use mathlib.Core.Bool.{Bool, true, false}
+use mathlib.Core.Bool.{false}
 use mathlib.Core.List.{List}
 use mathlib.Core.Option.{some}
-use Prim.Native.Nat.{ℕ, suc, _<_, _≤_}
+use Prim.Native.Nat.{ℕ, suc, _≤_}
 use native.Mathlib.Decide.{decLe}
 use native.Mathlib.Omega.{arith}
 use lib.Dec.{leb}
 use lib.ListN.{length}
-use borrow.Author.Tests.{leb-false, lt-leb, le-leb}
+use borrow.Author.Tests.{lt-leb, le-leb}
 use Rattle.lts.specs.Sizes.{tableLength}
 use Rattle.lts.specs.Reply.{Reply, accepted, refusal, unless, answers}
 use Rattle.lts.specs.Steps.{Table, labels}
@@ -23,7 +23,6 @@ use Rattle.actl.specs.inner.Prepared.{preparedFormula}
 use Rattle.actl.proofs.Laws.Foreign.{NotTen, with-formula-numbers, refuses-foreign, answers-refuse-foreign}
 use Rattle.actl.proofs.Laws.Prepared as prepared-formula
 use Rattle.actl.proofs.Laws.Replies.{refusal-is-not-accepted, on-prepared-goes}
-use Rattle.automaton.specs.Listing.{Listing}
 use Rattle.automaton.specs.Build.{fitted}
 use Rattle.automaton.specs.inner.Search.{listing}
 use Rattle.automaton.proofs.Accepted.{prepared-in-range, formed-has-class}

@@ -1,8 +1,8 @@
 -- A table of the places that a search found: the words of a place's number are those of the place.
-use mathlib.Core.Path.{_≡_, sym, ap, _∙_, refl, subst}
+use mathlib.Core.Path.{_≡_, sym, _∙_, refl, subst}
 use mathlib.Core.Bool.{Bool, true, false}
 use mathlib.Core.List.{List, [], _∷_, List·Memᴰ}
-use Prim.Native.Nat.{ℕ, _<_, _≤_}
+use Prim.Native.Nat.{ℕ, _<_}
 use native.Mathlib.Omega.{arith}
 use lib.ListN.{length}
 use borrow.Author.Tests.{ltb-true, lt-ltb}

@@ -6,6 +6,7 @@ ghost use Rattle.satisfaction.specs.VerdictAsked.{verdictReplied};
 ghost use Rattle.starts.specs.VerdictsAsked.{verdictsReplied, verdictsLeft};
 ghost use Rattle.automaton.specs.Build.{buildReplied, rowsLeft, edgesLeft};
 ghost use Rattle.automaton.specs.WordAsked.{wordReplied};
+ghost use Rattle.deterministic.specs.SmallestAsked.{smallestReplied, smallestRows, smallestEdges, smallestLeft, smallestWork};
 ghost use Rattle.written_back.specs.FormulaWriting.{formulaWritten, textLeft};
 ghost use Rattle.write_table.specs.TableWriting.{tableWritten, tableTextLeft};
 ghost use Rattle.side_by_side.specs.Combining.{combineReplied, combinedLeft};
@@ -24,12 +25,15 @@ use replies::build_answer;
 use replies::build_edges;
 use replies::combine_answer;
 use replies::formula_answer;
+use replies::smallest_answer;
+use replies::smallest_edges;
 use replies::table_answer;
 use replies::text_answer;
 use replies::verdict_answer;
 use replies::verdicts_answer;
 use replies::word_answer;
 use replies::write_answer;
+use smallest::smallest;
 use table_text::read_table;
 use verdicts::verdicts;
 use words::accepts;
@@ -157,6 +161,40 @@ pub extern "C" fn explainer_build(
     let answer = build_answer(reply);
     *figure = answer.figure;
     *count = build_edges(reply, before);
+    answer.number
+}
+
+#[no_mangle]
+pub extern "C" fn explainer_smallest(
+    table: &[u8],
+    formula: &[u8],
+    rows: &mut [u8],
+    edges: &mut [u8],
+    out: &mut [u8],
+    work: &mut [u8],
+    figure: &mut u64,
+    count: &mut u64,
+) -> u32
+    ensures { λ r. ⌜ r ≡ numberIn
+        (smallestReplied (now (table .entry)) (now (formula .entry)) (now (rows .entry)) (now (edges .entry)) (now (out .entry)) (now (work .entry))) ⌝ }
+    ensures { λ _. ⌜ now (rows .exit) ≡
+        smallestRows (now (table .entry)) (now (formula .entry)) (now (rows .entry)) (now (edges .entry)) (now (out .entry)) (now (work .entry)) ⌝ }
+    ensures { λ _. ⌜ now (edges .exit) ≡
+        smallestEdges (now (table .entry)) (now (formula .entry)) (now (rows .entry)) (now (edges .entry)) (now (out .entry)) (now (work .entry)) ⌝ }
+    ensures { λ _. ⌜ now (out .exit) ≡
+        smallestLeft (now (table .entry)) (now (formula .entry)) (now (rows .entry)) (now (edges .entry)) (now (out .entry)) (now (work .entry)) ⌝ }
+    ensures { λ _. ⌜ now (work .exit) ≡
+        smallestWork (now (table .entry)) (now (formula .entry)) (now (rows .entry)) (now (edges .entry)) (now (out .entry)) (now (work .entry)) ⌝ }
+    ensures { λ _. ⌜ now (figure .exit) ≡ figureIn (λ counts. counts .rows)
+        (smallestReplied (now (table .entry)) (now (formula .entry)) (now (rows .entry)) (now (edges .entry)) (now (out .entry)) (now (work .entry))) ⌝ }
+    ensures { λ _. ⌜ now (count .exit) ≡ edgesIn (now (count .entry))
+        (smallestReplied (now (table .entry)) (now (formula .entry)) (now (rows .entry)) (now (edges .entry)) (now (out .entry)) (now (work .entry))) ⌝ }
+{
+    let reply = smallest(table, formula, rows, edges, out, work);
+    let before = *count;
+    let answer = smallest_answer(reply);
+    *figure = answer.figure;
+    *count = smallest_edges(reply, before);
     answer.number
 }
 

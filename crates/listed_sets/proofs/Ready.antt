@@ -1,13 +1,12 @@
 -- The arrays that building's search starts from are those that a search for sets goes by.
-use mathlib.Core.Path.{_≡_, sym, _∙_}
+use mathlib.Core.Path.{sym, _∙_}
 use mathlib.Core.Bool.{Bool}
 use mathlib.Core.List.{List, [], _∷_}
 use Prim.Native.Nat.{ℕ}
 use native.Mathlib.Omega.{arith}
 use Rattle.lts.specs.Steps.{Table}
 use Rattle.actl.specs.Formulas.{Formula}
-use Rattle.automaton.specs.Positions.{Position, rootAt}
-use Rattle.automaton.specs.inner.Positions.{Inside}
+use Rattle.automaton.specs.Positions.{rootAt}
 use Rattle.breadth_first.specs.inner.Finding.{Live}
 use Rattle.breadth_first.specs.inner.Search.{frontierOf}
 use Rattle.breadth_first.specs.inner.Searched.{code, SearchReady}

@@ -15,6 +15,7 @@ ghost use Rattle.replies.specs.inner.Says.{Says};
 ghost use Rattle.replies.specs.Interface.{edgesIn};
 use building::BuildReply;
 use combine::CombineReply;
+use deterministic::sizes::SETS;
 use formula_check::inputs::Unprepared;
 use formula_text::FormulaReply;
 use labelling::VerdictReply;
@@ -24,6 +25,9 @@ use verdicts::VerdictsReply;
 use words::WordReply;
 use write_formula::WriteReply;
 use write_table::TextReply;
+
+// The figure of refusal 20.
+const SETS_FIGURE: usize = SETS + 1;
 
 // What is said of a reply: the number of a refusal, or 0; and the figure.
 pub struct Answer {
@@ -129,8 +133,21 @@ pub fn smallest_answer(reply: SmallestReply) -> Answer
         SmallestReply::Built(rows, _) => numbered(0, rows),
         SmallestReply::RowsShort(needed) => numbered(11, needed),
         SmallestReply::EdgesShort(needed) => numbered(12, needed),
-        SmallestReply::SetsMany => numbered(20, 257),
+        SmallestReply::SetsMany => numbered(20, SETS_FIGURE),
         SmallestReply::Refused(why) => unprepared_answer(why),
+    }
+}
+
+// The count of edges of a build with the smallest automaton beside it; what stood there if it was refused.
+pub fn smallest_edges(reply: SmallestReply, before: u64) -> u64
+    ensures { λ r. ⌜ r ≡ edgesIn before (smallestReply reply) ⌝ }
+{
+    match reply {
+        SmallestReply::Built(_, edges) => edges as u64,
+        SmallestReply::RowsShort(_) => before,
+        SmallestReply::EdgesShort(_) => before,
+        SmallestReply::SetsMany => before,
+        SmallestReply::Refused(_) => before,
     }
 }
 

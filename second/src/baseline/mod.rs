@@ -6,6 +6,7 @@ mod prepared;
 mod graph;
 mod labelling;
 mod automaton;
+mod smallest;
 mod read_table;
 mod table_text;
 mod combine;
@@ -19,6 +20,7 @@ pub use explain::explain;
 pub use labelling::{verdict, verdicts};
 pub use read_formula::read_formula;
 pub use read_table::read_table;
+pub use smallest::smallest;
 pub use table_text::table_text;
 pub use write_formula::write_formula;
 
@@ -33,6 +35,7 @@ pub const BASELINE: Entries = Entries {
     verdict: Some(verdict),
     verdicts: Some(verdicts),
     build: Some(build),
+    smallest: Some(smallest),
     accepts: Some(accepts),
     explain: Some(explain),
 };

@@ -1,7 +1,7 @@
 //! The corpus `base`, whose answers `corpus/base.txt` holds. This generator is left alone and uses
 //! nothing else of the crate, so that its inputs stay what they are, byte for byte; new kinds of
-//! input get a new corpus beside it, as in `marks`, `short`, `idle`, `written`, `names`, `starts` and
-//! `combined`.
+//! input get a new corpus beside it, as in `marks`, `short`, `idle`, `written`, `names`, `starts`,
+//! `combined` and `smallest`.
 
 mod calls;
 pub mod combined;
@@ -16,6 +16,7 @@ mod read_formula;
 mod read_table;
 mod rng;
 pub mod short;
+pub mod smallest;
 pub mod starts;
 mod tables;
 pub mod written;
@@ -90,6 +91,14 @@ pub enum Input {
         formula: Vec<u8>,
         rows: Lent,
         edges: Lent,
+    },
+    Smallest {
+        table: Vec<u8>,
+        formula: Vec<u8>,
+        rows: Lent,
+        edges: Lent,
+        smallest: Lent,
+        work: Lent,
     },
     Accepts {
         table: Vec<u8>,
@@ -246,5 +255,6 @@ mod tests {
         no_two_have_one_name(names::kinds());
         no_two_have_one_name(starts::kinds());
         no_two_have_one_name(combined::kinds());
+        no_two_have_one_name(smallest::kinds());
     }
 }

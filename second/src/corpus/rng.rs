@@ -41,8 +41,10 @@ impl Rng {
 /// So many bytes, by a number.
 pub fn filled(fill: u64, length: usize) -> Vec<u8> {
     let rng = Rng(Cell::new(fill));
-    let mut bytes: Vec<u8> =
-        (0..length.div_ceil(8)).flat_map(|_| rng.draw().to_le_bytes()).collect();
+    let mut bytes = Vec::with_capacity(length + 8);
+    while bytes.len() < length {
+        bytes.extend_from_slice(&rng.draw().to_le_bytes());
+    }
     bytes.truncate(length);
     bytes
 }

@@ -91,6 +91,17 @@ impl Shown {
     fn buffers(&mut self, buffers: &[&[u8]]) {
         buffers.iter().for_each(|buffer| self.0.part(buffer));
     }
+
+    /// A long buffer that is as it was before the call, or cleared behind its guard: zeros by their count.
+    fn cleared(&mut self, buffer: &[u8], before: &[u8]) {
+        let (guard, rest) = buffer.split_at(GUARD);
+        let are_zero = |part: &&[u8]| part.iter().fold(0, |any, byte| any | byte) == 0;
+        let zeros: usize = rest.chunks(64).take_while(are_zero).map(<[u8]>::len).sum();
+        match buffer == before {
+            true => self.0.part(b"as it was"),
+            false => self.buffers(&[guard, &(zeros as u64).to_le_bytes(), &rest[zeros..]]),
+        }
+    }
 }
 
 fn inside(buffer: &mut [u8]) -> &mut [u8] {
@@ -159,6 +170,13 @@ fn call(entries: &Entries, input: &Input, shown: &mut Shown) -> Option<Reply> {
             shown.buffers(&[&table, &formula]);
             reply
         }
+        Input::Smallest { table, formula, rows, edges, smallest, work } => {
+            let (table, formula) = (table.clone(), formula.clone());
+            let written = [rows, edges, smallest, work];
+            let reply = smallest_of(entries, [&table, &formula], written, shown)?;
+            shown.buffers(&[&table, &formula]);
+            reply
+        }
         Input::Accepts { table, formula, word } => {
             let (table, formula, word) = (table.clone(), formula.clone(), word.clone());
             let reply = entries.accepts?(&table, &formula, &word);
@@ -187,6 +205,31 @@ fn build(
     shown.reply("build", reply);
     shown.0.part(&edge_count.to_le_bytes());
     shown.buffers(&[&rows, &edges]);
+    Some(reply)
+}
+
+fn smallest_of(
+    entries: &Entries,
+    [table, formula]: [&[u8]; 2],
+    written: [&Lent; 4],
+    shown: &mut Shown,
+) -> Option<Reply> {
+    let mut edge_count = written[1].fill;
+    let [mut rows, mut edges, mut smallest, mut work] = written.map(Lent::buffer);
+    let before = work.clone();
+    let reply = entries.smallest?(
+        table,
+        formula,
+        inside(&mut rows),
+        inside(&mut edges),
+        inside(&mut smallest),
+        inside(&mut work),
+        &mut edge_count,
+    );
+    shown.reply("smallest", reply);
+    shown.0.part(&edge_count.to_le_bytes());
+    shown.buffers(&[&rows, &edges, &smallest]);
+    shown.cleared(&work, &before);
     Some(reply)
 }
 

@@ -51,6 +51,10 @@ impl Inputs {
                 self.bytes(&[table, formula]);
                 self.lent(&[rows, edges]);
             }
+            Input::Smallest { table, formula, rows, edges, smallest, work } => {
+                self.bytes(&[table, formula]);
+                self.lent(&[rows, edges, smallest, work]);
+            }
             Input::Accepts { table, formula, word } => self.bytes(&[table, formula, word]),
             Input::Texts { table, formula, rows, edges, word } => {
                 self.bytes(&[table, formula, word]);

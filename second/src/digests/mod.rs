@@ -68,7 +68,14 @@ pub const COMBINED: Corpus = Corpus {
     kinds: || corpus::combined::kinds().collect(),
 };
 
-pub const CORPORA: [Corpus; 8] = [BASE, MARKS, SHORT, IDLE, WRITTEN, NAMES, STARTS, COMBINED];
+pub const SMALLEST: Corpus = Corpus {
+    name: "smallest",
+    generator: "second/src/corpus/smallest.rs",
+    kinds: || corpus::smallest::kinds().collect(),
+};
+
+pub const CORPORA: [Corpus; 9] =
+    [BASE, MARKS, SHORT, IDLE, WRITTEN, NAMES, STARTS, COMBINED, SMALLEST];
 
 impl Corpus {
     pub fn kinds(&self) -> Vec<Kind> {

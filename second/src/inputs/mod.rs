@@ -11,6 +11,7 @@ pub mod short;
 pub mod table_texts;
 pub mod formula_texts;
 pub mod questions;
+pub mod sets;
 pub mod written;
 pub mod lending;
 pub mod starts;

@@ -77,7 +77,8 @@ pub fn longest_listing(rng: &mut Rng) -> Question {
     Question { table, formula: untils(Set::all(MAX_LABELS)) }
 }
 
-fn untils(set: Set) -> Formula {
+/// The most nodes, each an until of this set but the last.
+pub fn untils(set: Set) -> Formula {
     let mut nodes: Vec<Node> = (1..MAX_NODES).map(|arm| Node::Until(set, arm)).collect();
     nodes.push(Node::True);
     Formula { nodes }

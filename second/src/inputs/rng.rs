@@ -59,12 +59,18 @@ impl Rng {
     }
 }
 
-/// The bytes that stand in a lent buffer, by a number.
+/// So many bytes of a lent buffer are drawn.
+const DRAWN: usize = 1 << 14;
+
+/// The bytes that stand in a lent buffer, by a number. In a long one they come again.
 pub fn filled(fill: u64, length: usize) -> Vec<u8> {
     let mut rng = Rng::new(fill);
     let mut bytes = Vec::with_capacity(length + 8);
-    while bytes.len() < length {
+    while bytes.len() < length.min(DRAWN) {
         bytes.extend_from_slice(&rng.draw().to_le_bytes());
+    }
+    while bytes.len() < length {
+        bytes.extend_from_within(..bytes.len().min(length - bytes.len()));
     }
     bytes.truncate(length);
     bytes

@@ -1,16 +1,15 @@
 -- The promises of `smallest`: by a buffer that is short, by the refusal of the inputs, or by what is laid out; the work buffer all zero.
 use mathlib.Core.Path.{_≡_, refl, sym, ap, _∙_, subst}
-use mathlib.Core.Bool.{Bool, cond}
+use mathlib.Core.Bool.{cond}
 use mathlib.Core.List.{List, _++_}
 use mathlib.Core.Option.{some}
 use Prim.Native.Nat.{ℕ, _≤_, _<_}
 use native.Mathlib.Omega.{arith}
-use lib.Dec.{eqb}
 use lib.ListN.{length, drop, replicate, length-replicate}
 use borrow.Author.Tests.{le-leb, lt-leb, ne-eqb}
 use Rattle.lts.specs.Sizes.{tableLength}
-use Rattle.lts.specs.Reply.{Reply, accepted, refusal, overwritten, leftIn, answers}
-use Rattle.lts.specs.Steps.{Table, labels}
+use Rattle.lts.specs.Reply.{Reply, accepted, refusal, leftIn, answers}
+use Rattle.lts.specs.Steps.{labels}
 use Rattle.lts.specs.inner.Prepared.{preparedTable, tableIn}
 use Rattle.lts.proofs.Laws.Refusals.{Numbered, with-table-numbers}
 use Rattle.actl.specs.Sizes.{formulaLength}

@@ -4,8 +4,6 @@ use mathlib.Core.List.{List}
 use Prim.Native.Nat.{ℕ}
 use lib.ListN.{length, drop}
 use Rattle.lts.specs.Reply.{Reply, leftIn, answers}
-use Rattle.lts.specs.Steps.{Table}
-use Rattle.actl.specs.Formulas.{Formula}
 use Rattle.actl.specs.FormulaReading.{onPrepared}
 use Rattle.deterministic.specs.Sizes.{workLength}
 use Rattle.deterministic.specs.SmallestAsked.{Beside, besideIn, countsBeside, rowsBeside, edgesBeside, smallestBytes}
