@@ -1,4 +1,5 @@
 pub mod Answered
 pub mod Asking
 pub mod Numbers
+pub mod Told
 pub mod Written
