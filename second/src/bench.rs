@@ -11,10 +11,11 @@ use crate::formula::{Formula, MAX_BYTES, MAX_NODES};
 use crate::inputs::kinds::Kinds;
 use crate::inputs::questions::{Question, longest_listing};
 use crate::inputs::rng::Rng;
-use crate::inputs::{pairs, tables, written};
+use crate::inputs::{pairs, sets, tables, written};
 use crate::listing::Listing;
 use crate::prepared::{self, FORMULA_LENGTH, TABLE_LENGTH};
 use crate::reply::Reply;
+use crate::smallest::{SMALLEST_LENGTH, WORK_LENGTH};
 use crate::table::{MAX_LABELS, MAX_STATES, MAX_TEXT, MAX_TRANSITIONS, Table};
 use crate::word::MAX_WORD;
 
@@ -66,11 +67,12 @@ fn small() -> Input {
     read("small", table, b"EU[*;ack] T")
 }
 
+const NAMES: [&str; 8] = ["load", "unload", "clamp", "release", "frame", "drop", "retry", "ack"];
+
 fn typical() -> Input {
-    let names = ["load", "unload", "clamp", "release", "frame", "drop", "retry", "ack"];
     let formula =
         b"EU[~(drop | retry); frame] (EX[.] EU[*; ack] T | EU[clamp | load] ~AX[~release] AX[*] T)";
-    read("typical", typical_table(names), formula)
+    read("typical", typical_table(NAMES), formula)
 }
 
 fn typical_table(names: [&str; 8]) -> Table {
@@ -147,11 +149,10 @@ fn short_forms() -> [Input; 4] {
 
 /// Over the typical question's table.
 fn short() -> Input {
-    let names = ["load", "unload", "clamp", "release", "frame", "drop", "retry", "ack"];
     let formula =
         b"AG (BOX[frame] ~EX[.] EU[*; ack] T & ~EF DIA[drop | retry] T & BOX[clamp | load] \
         AX[~release] AX[*] T)";
-    read("short", typical_table(names), formula)
+    read("short", typical_table(NAMES), formula)
 }
 
 /// 39 short forms, the most that an accepted line has.
@@ -206,7 +207,7 @@ fn longest() -> Input {
     Input { number: 15, ..to_write("longest", &question) }
 }
 
-/// Without what only the other entries take.
+/// Prepared bytes alone.
 fn to_write(size: &'static str, question: &Question) -> Input {
     Input {
         size,
@@ -242,6 +243,22 @@ fn drawn([states, transitions]: [usize; 2], names: Vec<&str>) -> Table {
 fn to_combine(size: &'static str, tables: [Table; 2]) -> Input {
     let [table, second] = tables.map(|table| prepared::table_bytes(&table));
     Input { size, table, second, ..Input::default() }
+}
+
+/// What has few sets of rows, for the smallest automaton, and what it takes long for.
+fn of_sets() -> [Input; 6] {
+    // 69 rows, 119 edges, 113 sets, 102 states.
+    let formula =
+        b"EU[~(drop | retry); frame] (EX[.] EU[clamp; ack] T | EU[load] ~AX[~release] AX[*] T)";
+    let made = |size, make: fn(&mut Rng) -> Question| to_write(size, &make(&mut Rng::new(3)));
+    [
+        small(),
+        read("typical", typical_table(NAMES), formula),
+        made("largest", sets::longest_listing),
+        made("states", sets::of_most_states),
+        made("rounds", sets::of_most_rounds),
+        Input { number: 20, ..made("refused", longest_listing) },
+    ]
 }
 
 /// The longest listing; its formula's text, with long names, is another of 40 nodes and 512 bytes.
@@ -285,11 +302,13 @@ struct Buffers {
     answers: Vec<u8>,
     rows: Vec<u8>,
     edges: Vec<u8>,
+    smallest: Vec<u8>,
+    work: Vec<u8>,
 }
 
 type Call = fn(&Entries, &Input, &mut Buffers) -> Option<Reply>;
 
-const CALLS: [(&str, Call); 11] = [
+const CALLS: [(&str, Call); 12] = [
     ("read_table", read_table),
     ("table_text", table_text),
     (COMBINE, combine),
@@ -298,6 +317,7 @@ const CALLS: [(&str, Call); 11] = [
     ("verdict", verdict),
     ("verdicts", verdicts),
     ("build", build),
+    (SMALLEST, smallest),
     ("accepts", accepts),
     ("whole", whole),
     ("explain", explain),
@@ -337,6 +357,21 @@ fn build(of: &Entries, input: &Input, lent: &mut Buffers) -> Option<Reply> {
     let mut edge_count = 0;
     let (rows, edges) = (&mut lent.rows, &mut lent.edges);
     Some(of.build?(&input.table, &input.formula, rows, edges, &mut edge_count))
+}
+
+const SMALLEST: &str = "smallest";
+
+fn smallest(of: &Entries, input: &Input, lent: &mut Buffers) -> Option<Reply> {
+    let mut edge_count = 0;
+    Some(of.smallest?(
+        &input.table,
+        &input.formula,
+        &mut lent.rows,
+        &mut lent.edges,
+        &mut lent.smallest,
+        &mut lent.work,
+        &mut edge_count,
+    ))
 }
 
 fn accepts(of: &Entries, input: &Input, _: &mut Buffers) -> Option<Reply> {
@@ -387,17 +422,23 @@ pub fn run(
         answers: vec![0; MAX_STATES],
         rows: vec![0; 10_496 * ROW_PLACE],
         edges: vec![0; 1_000_000 * EDGE_PLACE],
+        smallest: vec![0; SMALLEST_LENGTH],
+        work: vec![0; WORK_LENGTH],
     };
     write_row(out, before.is_some(), ["entry", "input"], HEAD.map(str::to_owned))?;
     let (inputs, directed, alike, side_by_side) = (inputs(), directed(), alike(), side_by_side());
-    let (short_forms, many_names) = (short_forms(), many_names());
+    let (short_forms, many_names, of_sets) = (short_forms(), many_names(), of_sets());
     let explainers = [before.unwrap_or(&NONE), library, &BASELINE];
     for (entry, call) in CALLS.into_iter().filter(|(entry, _)| entry.contains(part)) {
         let directed = directed.iter().filter(|_| entry.starts_with("read_"));
         let alike = alike.iter().filter(|_| entry.starts_with("read_"));
         let short_forms = short_forms.iter().filter(|_| entry == "read_formula");
         let many_names = many_names.iter().filter(|_| entry == "write_formula");
-        let inputs = if entry == COMBINE { &side_by_side } else { &inputs };
+        let inputs: &[Input] = match entry {
+            COMBINE => &side_by_side,
+            SMALLEST => &of_sets,
+            _ => &inputs,
+        };
         let inputs = inputs.iter().chain(directed).chain(alike).chain(short_forms);
         for input in inputs.chain(many_names) {
             let times = time(explainers.map(|of| (of, call)), input, &mut lent);
