@@ -12,7 +12,7 @@ use common::found::{SEED, all_are_found};
 use common::line::{Fault, Line};
 use common::loops::{exchanged, with_loops, without_lone_loops};
 use second::baseline::{
-    BASELINE, accepts, build, read_formula, read_table, verdict, verdicts, write_formula,
+    BASELINE, accepts, build, read_formula, read_table, smallest, verdict, verdicts, write_formula,
 };
 use second::entries::{EDGE_PLACE, Entries, NONE, ROW_PLACE, SECOND};
 use second::formula::{Condition, Formula, MAX_BYTES, MAX_NODES, Node, Set};
@@ -115,6 +115,10 @@ fn ignoring_of_table<const AT: usize>() -> Entries {
         build: Some(|table, formula, rows, edges, edge_count| {
             build(&without_table_byte::<AT>(table), formula, rows, edges, edge_count)
         }),
+        smallest: Some(|table, formula, rows, edges, lent, work, edge_count| {
+            let table = without_table_byte::<AT>(table);
+            smallest(&table, formula, rows, edges, lent, work, edge_count)
+        }),
         accepts: Some(|table, formula, word| {
             accepts(&without_table_byte::<AT>(table), formula, word)
         }),
@@ -135,6 +139,10 @@ fn ignoring_of_formula<const AT: usize>() -> Entries {
         build: Some(|table, formula, rows, edges, edge_count| {
             build(table, &without_formula_byte::<AT>(formula), rows, edges, edge_count)
         }),
+        smallest: Some(|table, formula, rows, edges, lent, work, edge_count| {
+            let formula = without_formula_byte::<AT>(formula);
+            smallest(table, &formula, rows, edges, lent, work, edge_count)
+        }),
         accepts: Some(|table, formula, word| {
             accepts(table, &without_formula_byte::<AT>(formula), word)
         }),
@@ -144,13 +152,15 @@ fn ignoring_of_formula<const AT: usize>() -> Entries {
 
 /// Each of the explainer's entries alone.
 fn one_by_one(wrong: Entries) -> Vec<(&'static str, Entries)> {
-    let Entries { read_formula, write_formula, verdict, verdicts, build, accepts, .. } = wrong;
+    let Entries { read_formula, write_formula, verdict, verdicts, build, smallest, .. } = wrong;
+    let accepts = wrong.accepts;
     let entries = [
         ("read_formula", Entries { read_formula, ..NONE }, read_formula.is_some()),
         ("write_formula", Entries { write_formula, ..NONE }, write_formula.is_some()),
         ("verdict", Entries { verdict, ..NONE }, verdict.is_some()),
         ("verdicts", Entries { verdicts, ..NONE }, verdicts.is_some()),
         ("build", Entries { build, ..NONE }, build.is_some()),
+        ("smallest", Entries { smallest, ..NONE }, smallest.is_some()),
         ("accepts", Entries { accepts, ..NONE }, accepts.is_some()),
     ];
     let wrong = entries.into_iter().filter(|(.., is_there)| *is_there);
@@ -244,6 +254,32 @@ fn faults_at_all_limits_together_are_found() {
             },
         ),
         (
+            "the smallest automaton of a listing of more than 65,535 edges",
+            Entries {
+                smallest: Some(|table, formula, rows, edges, lent, work, edge_count| {
+                    let reply = smallest(table, formula, rows, edges, lent, work, edge_count);
+                    if reply.number == 0 && *edge_count > 65_535 {
+                        lent[4] ^= 1;
+                    }
+                    reply
+                }),
+                ..NONE
+            },
+        ),
+        (
+            "the smallest automaton of the most states, transitions and nodes",
+            Entries {
+                smallest: Some(|table, formula, rows, edges, lent, work, edge_count| {
+                    let reply = smallest(table, formula, rows, edges, lent, work, edge_count);
+                    if reply.number == 0 && is_largest(table, formula) {
+                        lent[4] ^= 1;
+                    }
+                    reply
+                }),
+                ..NONE
+            },
+        ),
+        (
             "the word's answer",
             Entries {
                 accepts: Some(|table, formula, word| match accepts(table, formula, word) {
@@ -328,6 +364,9 @@ fn lengths_off_by_one_are_found() {
         verdict: Some(|of, node| verdict(&table(of), node)),
         verdicts: Some(|of, node, starts, lent| verdicts(&table(of), node, starts, lent)),
         build: Some(|of, node, rows, edges, count| build(&table(of), node, rows, edges, count)),
+        smallest: Some(|of, node, rows, edges, lent, work, count| {
+            smallest(&table(of), node, rows, edges, lent, work, count)
+        }),
         accepts: Some(|of, node, word| accepts(&table(of), node, word)),
         ..NONE
     }));
@@ -337,6 +376,9 @@ fn lengths_off_by_one_are_found() {
         verdict: Some(|of, node| verdict(of, &formula(node))),
         verdicts: Some(|of, node, starts, lent| verdicts(of, &formula(node), starts, lent)),
         build: Some(|of, node, rows, edges, count| build(of, &formula(node), rows, edges, count)),
+        smallest: Some(|of, node, rows, edges, lent, work, count| {
+            smallest(of, &formula(node), rows, edges, lent, work, count)
+        }),
         accepts: Some(|of, node, word| accepts(of, &formula(node), word)),
         ..NONE
     }));
