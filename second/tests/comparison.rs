@@ -61,6 +61,17 @@ fn a_number_or_a_kind_of_input_that_dries_up_is_told() {
     let most = Kind { part: "tables", name: "1,024 transitions" };
     combine.kinds.get_mut(&most).expect("such tables").remove(&Outcome::of(0));
     assert!(told(combine).contains(&format!("combine: no {most} answered 0")));
+    let smallest = tallies.iter_mut().find(|tally| tally.of == "smallest").expect("automata");
+    for (part, name) in
+        [("sets of rows", "a ring, 256 sets"), ("smallest automaton", "99 beside other labels")]
+    {
+        let kind = Kind { part, name };
+        assert!(smallest.kinds.remove(&kind).is_some());
+        assert!(told(smallest).contains(&format!("smallest: no {kind}")));
+    }
+    let more = Kind { part: "sets of rows", name: "a ring, 257 sets" };
+    smallest.kinds.get_mut(&more).expect("such rings").remove(&Outcome::of(20));
+    assert!(told(smallest).contains(&format!("smallest: no {more} answered 20")));
 }
 
 #[test]

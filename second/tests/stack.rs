@@ -7,8 +7,8 @@ use std::process::{Command, ExitStatus};
 
 use common::header::defines;
 use second::compare::{
-    Accepts, Build, Case, Combine, Explain, Lent, ReadFormula, ReadTable, TableText, Verdict,
-    Verdicts, WriteFormula,
+    Accepts, Build, Case, Combine, Explain, Lent, ReadFormula, ReadTable, Smallest, TableText,
+    Verdict, Verdicts, WriteFormula,
 };
 use second::entries::{EDGE_PLACE, ROW_PLACE};
 use second::formula::{Formula, MAX_BYTES};
@@ -17,11 +17,12 @@ use second::inputs::questions::Question;
 use second::inputs::questions::longest_listing;
 use second::inputs::rng::Rng;
 use second::inputs::tables::longest_table;
-use second::inputs::{pairs, written};
+use second::inputs::{pairs, sets, written};
 use second::interface::INTERFACE;
 use second::link::library;
 use second::link::stack::{PAGE, Stack};
 use second::prepared::{self, FORMULA_LENGTH, TABLE_LENGTH};
+use second::smallest::{SMALLEST_LENGTH, WORK_LENGTH};
 use second::table::{MAX_STATES, MAX_TEXT, Table};
 
 /// More than any call takes.
@@ -216,6 +217,17 @@ fn calls(entry: &str) -> Vec<Call> {
             let (rows, edges) = (lent(ROWS), lent(EDGES));
             calls.extend(large.map(|(table, formula)| call(Build { table, formula, rows, edges })));
             calls.extend(random(4).map(|mut rng| call(fuzz::build(&mut rng).case)));
+        }
+        "smallest" => {
+            let rng = &mut Rng::new(7);
+            let most = [sets::longest_listing, sets::of_most_states, sets::of_most_rounds]
+                .map(|most| most(rng));
+            let (rows, edges) = (lent(ROWS), lent(EDGES));
+            let (smallest, work) = (lent(SMALLEST_LENGTH), lent(WORK_LENGTH));
+            calls.extend(most.iter().map(prepared_bytes).chain(large).map(|(table, formula)| {
+                call(Smallest { table, formula, rows, edges, smallest, work })
+            }));
+            calls.extend(random(11).map(|mut rng| call(fuzz::smallest(&mut rng).case)));
         }
         "accepts" => {
             let word = vec![1; 1_024];
