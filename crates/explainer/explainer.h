@@ -2,7 +2,8 @@
    where a build finds it). It needs memcpy and memset of the C library, and nothing else.
 
    RETURN. Each function returns 0 if it accepts, or the number of a refusal, and writes *figure: of a refusal its figure, else a value that
-   each function names. A refusal leaves every lent byte and every other value as it was. Every call returns, on every input.
+   each function names. A refusal leaves every lent byte and every other value as it was, but for a work buffer. Every call returns, on every
+   input.
    LENGTHS. Each slice is a pointer and a length in bytes. It may have any length and hold any bytes: what is not right is refused.
    NULL. A pointer whose length is 0 may be null. figure, verdict, formula_class and edge_count may not.
    OVERLAP. What a call may write (slices that are not const, *figure and the other values) overlaps nothing else that the same call is
@@ -21,11 +22,14 @@
 /* The lengths, in bytes, of a prepared table and a prepared formula, and of a place for a row and for an edge. A prepared buffer under its
    length is refused (14); past its length it is neither read nor written. n bytes lent for rows or edges are n / 3 or n / 5 places. What is
    lent for the text of a formula has EXPLAINER_LONGEST_FORMULA_TEXT bytes or more, for the answers at listed states
-   EXPLAINER_MOST_STATES or more, and for the text of a table EXPLAINER_LONGEST_TABLE_TEXT or more; with fewer it is refused (14). */
+   EXPLAINER_MOST_STATES or more, for the text of a table EXPLAINER_LONGEST_TABLE_TEXT or more, for the smallest automaton
+   EXPLAINER_SMALLEST_LENGTH or more, and for work EXPLAINER_WORK_LENGTH or more; with fewer it is refused (14). */
 #define EXPLAINER_TABLE_LENGTH 3718
 #define EXPLAINER_FORMULA_LENGTH 681
 #define EXPLAINER_ROW_LENGTH 3
 #define EXPLAINER_EDGE_LENGTH 5
+#define EXPLAINER_SMALLEST_LENGTH 32516
+#define EXPLAINER_WORK_LENGTH 524288
 
 /* At most so many of each, in what is accepted. Labels are numbered from 1; 0 is the silent step that a table writes. */
 #define EXPLAINER_MOST_STATES 256
@@ -67,6 +71,7 @@
 #define EXPLAINER_TOO_MANY_PAIRS 17         /* the count of pairs of states */
 #define EXPLAINER_TOO_MANY_LABELS 18        /* the count of labels of the combined table */
 #define EXPLAINER_TOO_MANY_TRANSITIONS 19   /* the count of its transitions, each once */
+#define EXPLAINER_TOO_MANY_SETS 20          /* 257 */
 
 /* The stack that each call takes at most, in bytes: measured on the inputs that take most, rounded up to a multiple of 16,384. */
 #define EXPLAINER_READ_TABLE_STACK 16384
@@ -121,6 +126,16 @@ uint32_t explainer_verdicts(const uint8_t *table, size_t table_len, const uint8_
 uint32_t explainer_build(const uint8_t *table, size_t table_len, const uint8_t *formula, size_t formula_len,
                          uint8_t *rows, size_t rows_len, uint8_t *edges, size_t edges_len, uint64_t *figure, uint64_t *edge_count);
 
+/* Builds as explainer_build does, and writes beside rows and edges the smallest deterministic automaton with the same words, without a trap
+   state, numbered breadth first by rising label: how many states and edges it has, two bytes each, low byte first; a final mark for each
+   state; state, label and target of each edge. What stands past them stays. Every call that is not refused by 14 leaves the first
+   EXPLAINER_WORK_LENGTH bytes of work zero, whatever they were, and the others as they are. Accepted: *figure is the count of rows and
+   *edge_count the count of edges of the build. Refused: 10, 11, 12, 14, 20 if words lead to more than 256 sets of rows, the empty one aside. */
+uint32_t explainer_smallest(const uint8_t *table, size_t table_len, const uint8_t *formula, size_t formula_len,
+                            uint8_t *rows, size_t rows_len, uint8_t *edges, size_t edges_len,
+                            uint8_t *smallest, size_t smallest_len, uint8_t *work, size_t work_len,
+                            uint64_t *figure, uint64_t *edge_count);
+
 /* Whether the automaton of a prepared table and a prepared formula accepts a word, a label number in each byte. Accepted: *figure is 1 if it
    does, else 0. Refused: 10, 13, 14. */
 uint32_t explainer_accepts(const uint8_t *table, size_t table_len, const uint8_t *formula, size_t formula_len,
@@ -152,12 +167,13 @@ static inline const char *explainer_refusal(uint32_t number)
     case EXPLAINER_ROWS_SHORT: return "there are more rows than lent places";
     case EXPLAINER_EDGES_SHORT: return "there are more edges than lent places";
     case EXPLAINER_WORD_BAD: return "a label of the word is above the label count and not 99, or the word is over 1,024";
-    case EXPLAINER_BUFFER_SHORT: return "a prepared buffer, or the one for a text or for answers, is under its length";
+    case EXPLAINER_BUFFER_SHORT: return "a prepared buffer, or one for a text, answers, an automaton or work, is under its length";
     case EXPLAINER_TEXT_TOO_LONG: return "the formula's text is over 512 bytes, and not written";
     case EXPLAINER_STARTS_BAD: return "a listed state is not above the one before, or the table lacks it";
     case EXPLAINER_TOO_MANY_PAIRS: return "the tables have over 256 pairs of states";
     case EXPLAINER_TOO_MANY_LABELS: return "the combined table is over 40 labels";
     case EXPLAINER_TOO_MANY_TRANSITIONS: return "the combined table is over 1,024 transitions";
+    case EXPLAINER_TOO_MANY_SETS: return "words lead to over 256 sets of rows";
     default: return NULL;
     }
 }

@@ -14,6 +14,7 @@ use second::inputs::tables::longest_table;
 use second::interface::{Declared, INTERFACE};
 use second::prepared::{FORMULA_LENGTH, TABLE_LENGTH};
 use second::reply::{Refusal, Reply};
+use second::smallest::{SMALLEST_LENGTH, WORK_LENGTH};
 use second::table::{IDLE, MAX_LABELS, MAX_NAME, MAX_STATES, MAX_TEXT, MAX_TRANSITIONS};
 use second::word::MAX_WORD;
 
@@ -25,6 +26,8 @@ fn constants() -> Vec<(&'static str, usize)> {
         ("FORMULA_LENGTH", FORMULA_LENGTH),
         ("ROW_LENGTH", ROW_PLACE),
         ("EDGE_LENGTH", EDGE_PLACE),
+        ("SMALLEST_LENGTH", SMALLEST_LENGTH),
+        ("WORK_LENGTH", WORK_LENGTH),
         ("MOST_STATES", MAX_STATES),
         ("MOST_LABELS", MAX_LABELS),
         ("MOST_TRANSITIONS", MAX_TRANSITIONS),
@@ -58,6 +61,7 @@ fn constants() -> Vec<(&'static str, usize)> {
         ("TOO_MANY_PAIRS", number(Refusal::PairCount(0))),
         ("TOO_MANY_LABELS", number(Refusal::LabelCount(0))),
         ("TOO_MANY_TRANSITIONS", number(Refusal::TransitionCount(0))),
+        ("TOO_MANY_SETS", number(Refusal::SetCount(0))),
     ]
 }
 
@@ -125,11 +129,11 @@ fn each_function_has_a_figure_for_its_stack_and_the_documents_have_it_too() {
 fn each_returned_number_has_words() {
     let header = header();
     let defines = defines().into_iter();
-    let returned = defines.skip_while(|(name, _)| name != "EXPLAINER_ACCEPTED").take(20);
+    let returned = defines.skip_while(|(name, _)| name != "EXPLAINER_ACCEPTED").take(21);
     for (name, _) in returned {
         let words = header.split(&format!("case {name}: return \"")).nth(1);
         let words = words.and_then(|rest| rest.split_once("\";"));
         assert!(words.is_some_and(|(words, _)| !words.is_empty()), "{name}");
     }
-    assert_eq!(header.matches("case EXPLAINER_").count(), 20);
+    assert_eq!(header.matches("case EXPLAINER_").count(), 21);
 }
