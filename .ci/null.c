@@ -7,6 +7,8 @@
 static uint8_t table[EXPLAINER_TABLE_LENGTH];
 static uint8_t formula[EXPLAINER_FORMULA_LENGTH];
 static uint8_t answers[EXPLAINER_MOST_STATES];
+static uint8_t smallest[EXPLAINER_SMALLEST_LENGTH];
+static uint8_t work[EXPLAINER_WORK_LENGTH];
 static int failed;
 
 static void expect(const char *call, uint32_t number, uint64_t figure, uint32_t expected, uint64_t of)
@@ -55,6 +57,14 @@ int main(void)
     expect("verdicts", n, f, EXPLAINER_ACCEPTED, 1);
     n = explainer_build(table, sizeof table, formula, sizeof formula, NULL, 0, NULL, 0, &f, &edges);
     expect("build", n, f, EXPLAINER_ROWS_SHORT, 3);
+    n = explainer_smallest(NULL, 0, NULL, 0, NULL, 0, NULL, 0, NULL, 0, NULL, 0, &f, &edges);
+    expect("smallest", n, f, EXPLAINER_BUFFER_SHORT, EXPLAINER_TABLE_LENGTH);
+    n = explainer_smallest(table, sizeof table, formula, sizeof formula, NULL, 0, NULL, 0, NULL, 0, NULL, 0, &f, &edges);
+    expect("smallest", n, f, EXPLAINER_BUFFER_SHORT, EXPLAINER_SMALLEST_LENGTH);
+    n = explainer_smallest(table, sizeof table, formula, sizeof formula, NULL, 0, NULL, 0, smallest, sizeof smallest, NULL, 0, &f, &edges);
+    expect("smallest", n, f, EXPLAINER_BUFFER_SHORT, EXPLAINER_WORK_LENGTH);
+    n = explainer_smallest(table, sizeof table, formula, sizeof formula, NULL, 0, NULL, 0, smallest, sizeof smallest, work, sizeof work, &f, &edges);
+    expect("smallest", n, f, EXPLAINER_ROWS_SHORT, 3);
     n = explainer_accepts(table, sizeof table, formula, sizeof formula, NULL, 0, &f);
     expect("accepts", n, f, EXPLAINER_ACCEPTED, 0);
     n = explainer_explain(NULL, 0, NULL, 0, NULL, 0, NULL, 0, NULL, 0, NULL, 0, &f, &verdict, &formula_class, &edges);
@@ -73,7 +83,7 @@ int main(void)
         printf("a refusal writes a value\n");
         failed = 1;
     }
-    if (explainer_refusal(EXPLAINER_BUFFER_SHORT) == NULL || explainer_refusal(EXPLAINER_TOO_MANY_TRANSITIONS) == NULL || explainer_refusal(20) != NULL) {
+    if (explainer_refusal(EXPLAINER_BUFFER_SHORT) == NULL || explainer_refusal(EXPLAINER_TOO_MANY_SETS) == NULL || explainer_refusal(21) != NULL) {
         printf("explainer_refusal has other words\n");
         failed = 1;
     }
