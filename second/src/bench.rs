@@ -250,14 +250,14 @@ fn of_sets() -> [Input; 6] {
     // 69 rows, 119 edges, 113 sets, 102 states.
     let formula =
         b"EU[~(drop | retry); frame] (EX[.] EU[clamp; ack] T | EU[load] ~AX[~release] AX[*] T)";
-    let rng = &mut Rng::new(3);
+    let made = |size, make: fn(&mut Rng) -> Question| to_write(size, &make(&mut Rng::new(3)));
     [
         small(),
         read("typical", typical_table(NAMES), formula),
-        to_write("largest", &sets::longest_listing(rng)),
-        to_write("states", &sets::of_most_states(rng)),
-        to_write("rounds", &sets::of_most_rounds(rng)),
-        Input { number: 20, ..to_write("refused", &longest_listing(rng)) },
+        made("largest", sets::longest_listing),
+        made("states", sets::of_most_states),
+        made("rounds", sets::of_most_rounds),
+        Input { number: 20, ..made("refused", longest_listing) },
     ]
 }
 

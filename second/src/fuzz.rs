@@ -92,11 +92,12 @@ pub fn missing(tally: &Tally) -> Vec<String> {
 }
 
 fn expected(entry: &str) -> (&'static [u32], Vec<Expected>) {
-    let questions = || {
+    let lent = || {
         let [table, formula] =
             [lending::expected(&lending::TABLE), lending::expected(&lending::FORMULA)];
-        questions::expected().into_iter().chain(table).chain(formula)
+        table.into_iter().chain(formula)
     };
+    let questions = || questions::expected().into_iter().chain(lent());
     match entry {
         "read_table" => {
             let texts = kinds::expected(TEXT, &table_texts::TEXTS);
@@ -145,7 +146,7 @@ fn expected(entry: &str) -> (&'static [u32], Vec<Expected>) {
             let rows = kinds::expected(ROWS, &PLACES);
             let edges = kinds::expected(EDGES, &PLACES);
             let [smallest, work] = [SMALLEST, WORK].map(|part| kinds::expected(part, &LENGTHS));
-            let all = questions().chain(sets::expected()).chain(rows).chain(edges);
+            let all = sets::expected().into_iter().chain(lent()).chain(rows).chain(edges);
             (&[0, 10, 11, 12, 14, 20], all.chain(smallest).chain(work).collect())
         }
         "accepts" => {

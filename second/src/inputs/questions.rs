@@ -28,7 +28,7 @@ fn of_size(rng: &mut Rng, kinds: &mut Kinds, size: Size) -> Question {
 }
 
 const PART: &str = "question";
-const LARGEST: &str = "256 states, 1,024 transitions, 40 nodes";
+pub const LARGEST: &str = "256 states, 1,024 transitions, 40 nodes";
 const LASTING: &str = "an until for long words";
 
 /// A question of any size; one in `largest_in` has the most of all.
