@@ -73,7 +73,8 @@
 #define EXPLAINER_TOO_MANY_TRANSITIONS 19   /* the count of its transitions, each once */
 #define EXPLAINER_TOO_MANY_SETS 20          /* 257 */
 
-/* The stack that each call takes at most, in bytes: measured on the inputs that take most, rounded up to a multiple of 16,384. */
+/* The stack that each call takes at most, in bytes: measured on the inputs that take most, rounded up to a multiple of 16,384, of
+   explainer_smallest to one of 8,192. */
 #define EXPLAINER_READ_TABLE_STACK 16384
 #define EXPLAINER_TABLE_TEXT_STACK 16384
 #define EXPLAINER_COMBINE_STACK 32768
@@ -82,7 +83,7 @@
 #define EXPLAINER_VERDICT_STACK 32768
 #define EXPLAINER_VERDICTS_STACK 32768
 #define EXPLAINER_BUILD_STACK 98304
-#define EXPLAINER_SMALLEST_STACK 114688
+#define EXPLAINER_SMALLEST_STACK 122880
 #define EXPLAINER_ACCEPTS_STACK 49152
 #define EXPLAINER_EXPLAIN_STACK 196608
 
