@@ -52,12 +52,13 @@ fn the_example_shows_the_changer_with_its_listing_and_words_byte_for_byte() {
     let directions = read("samples/directions/formula.txt");
     let short_forms = read("samples/short_forms/formula.txt");
     let listing = listing("samples/changer");
+    let smallest = read("samples/changer/smallest.txt");
     let written = ["short_forms", "directions"]
         .map(|sample| read(&format!("samples/{sample}/written_back.txt")));
     let [first, second] = written;
     let (command, [changer, channel, _]) = (combine_command("\n"), side_by_side());
     let ways = words_of_both(5);
-    let texts = [table, formula, listing, words, directions, short_forms, first, second];
+    let texts = [table, formula, listing, words, smallest, directions, short_forms, first, second];
     let texts = texts.into_iter().chain([changer, channel, command, ways]);
     assert_eq!(shown, Vec::from_iter(texts));
 }
