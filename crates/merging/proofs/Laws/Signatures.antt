@@ -25,24 +25,9 @@ use Rattle.deterministic.proofs.Refining.{signed-next}
 pub block-in : (l : List ℕ) (n x : ℕ) → n ≤ length l → x < n → getD l x 0 ≡ getD (take n l) x n
 block-in l n x a b = getD-any 0 n l x (omega arith) ∙ sym (getD-take n l x n b)
 
--- The block of a target, by whether it is a state.
-module _ (next old : List ℕ) (n i : ℕ) (long : n ≤ length old) (inside : i < length next) (x : ℕ) (e : x ≡ getD next i 0) where
-  same : x ≡ getD next i n
-  same = e ∙ getD-any 0 n next i inside
-
-  pub target-in : x < n → getD old x 0 ≡ getD (take n old) (getD next i n) n
-  target-in h = block-in old n x long h ∙ ap (λ y. getD (take n old) y n) same
-
-  pub target-out : n ≤ x → n ≡ getD (take n old) (getD next i n) n
-  target-out h = sym (List·getD-eq-default (take n old) n (omega (arith, length-take-le n old long, same)))
-
--- One column more.
-pub targets-more : (next c : List ℕ) (n i j k x y : ℕ) → SameTargets next c n i j k → x ≡ targetBlock next c n j i → y ≡ targetBlock next c n k i → x ≡ y → SameTargets next c n (i + 1) j k
-targets-more next c n i j k x y f a b e l h = case (eq-or-lt-of-le (omega arith))
-  where
-    case : (l ≡ i) ⊎ (l < i) → targetBlock next c n j l ≡ targetBlock next c n k l
-    case (inl z) = subst (λ (m : ℕ). targetBlock next c n j m ≡ targetBlock next c n k m) (sym z) (sym a ∙ (e ∙ b))
-    case (inr z) = f l z
+-- What is no state has the block n.
+pub block-out : (l : List ℕ) (n x : ℕ) → n ≤ length l → n ≤ x → n ≡ getD (take n l) x n
+block-out l n x a b = sym (List·getD-eq-default (take n l) n (omega (arith, length-take-le n l a)))
 
 -- Marks that a test tells apart, or does not.
 pub marks-apart : (a b : Bool) → not (Bool·beq a b) ≡ true → a ≡ b → ⊥
