@@ -7,9 +7,8 @@ use lib.ListN.{length}
 use Rattle.deterministic.specs.inner.Lists.{sameLists}
 use Rattle.deterministic.specs.Automata.{edge, Automaton, bare}
 use Rattle.deterministic.specs.inner.Search.{numberOf, movesFrom, visit, visits, expand, search, found, movesUpto, automatonOf}
-use Rattle.deterministic.specs.inner.Blocks.{signature, refine, refined, blocks}
+use Rattle.deterministic.specs.inner.Blocks.{signature, refine, refined, blocks, numbered}
 use Rattle.deterministic.specs.inner.Subsets.{setOf, startSet, stepSet, finalSet, nonempty, sets, smallest}
-use Rattle.deterministic.specs.inner.Arrays.{numbered}
 
 abbrev alphabet : List ℕ
 alphabet = 0 ∷ 1 ∷ 99 ∷ []

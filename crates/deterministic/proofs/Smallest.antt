@@ -12,8 +12,7 @@ use Rattle.automaton.specs.Listing.{Edge}
 use Rattle.deterministic.specs.Automata.{edge, Automaton, count, IsEdge, Leads, Accepts, bare}
 use Rattle.deterministic.specs.Smallest.{SameWords, CanFinish, IsSmallest}
 use Rattle.deterministic.specs.inner.Search.{System, placeAt}
-use Rattle.deterministic.specs.inner.Blocks.{Table, blocks}
-use Rattle.deterministic.specs.inner.Arrays.{numbered}
+use Rattle.deterministic.specs.inner.Blocks.{Table, blocks, numbered}
 use Rattle.deterministic.specs.inner.Explored.{Places, Tabulates}
 use Rattle.deterministic.specs.inner.Subsets.{IsBuild}
 use Rattle.deterministic.proofs.Runs.{same-sym, same-trans, bare-reads-none}

@@ -18,7 +18,8 @@ ghost use Rattle.columns.specs.inner.Write.{pasted};
 ghost use Rattle.lts.specs.Reply.{overwritten};
 ghost use Rattle.deterministic.specs.Sizes.{mostSets, mostLetters, smallestLength};
 ghost use Rattle.deterministic.specs.Bytes.{automatonBytes};
-ghost use Rattle.deterministic.specs.inner.Arrays.{arrayTable, numbered};
+ghost use Rattle.deterministic.specs.inner.Arrays.{arrayTable};
+ghost use Rattle.deterministic.specs.inner.Blocks.{numbered};
 ghost use Rattle.numbering.specs.inner.Found.{Fits, IsFound};
 
 // Arrays lent as slices have a length that is known.

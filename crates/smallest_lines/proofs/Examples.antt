@@ -16,8 +16,7 @@ use Rattle.satisfaction.specs.inner.Holds.{holds, within}
 use Rattle.automaton.specs.inner.Search.{finalOf, final, leadsOf, leads, targets, canFinish, movesToAmong, movesOnAmong, movesFromAmong}
 use Rattle.automaton.specs.inner.Search.{numberOf as numberOfRow, visit as visitRow, visits as visitRows}
 use Rattle.automaton.specs.inner.Search.{expandAmong, searchAmong, positionsAmong, movesUptoAmong, listing}
-use Rattle.deterministic.specs.inner.Arrays.{numbered}
-use Rattle.deterministic.specs.inner.Blocks.{signature, refine, refined, blocks}
+use Rattle.deterministic.specs.inner.Blocks.{signature, refine, refined, blocks, numbered}
 use Rattle.deterministic.specs.inner.Lists.{sameLists}
 use Rattle.deterministic.specs.inner.Search.{numberOf, movesFrom, visit, visits, expand, search, found, movesUpto, automatonOf}
 use Rattle.deterministic.specs.inner.Subsets.{setOf, startSet, stepSet, finalSet, nonempty, sets, smallest}

@@ -6,8 +6,9 @@ use Prim.Native.Nat.{ℕ, zero, suc}
 use lib.Dec.{eqb, ltb}
 use lib.ListN.{getD}
 use Rattle.lts.specs.inner.Lists.{upFrom}
+use Rattle.deterministic.specs.Automata.{Automaton}
 use Rattle.deterministic.specs.inner.Lists.{sameLists}
-use Rattle.deterministic.specs.inner.Search.{System, numberOf}
+use Rattle.deterministic.specs.inner.Search.{System, numberOf, found, automatonOf}
 
 pub record Table : Type 0 where
   pub size : ℕ
@@ -44,3 +45,9 @@ module _ (t : Table) where
   -- The blocks as a system.
   abbrev pub merged : List ℕ → System ℕ
   merged c = record { same = eqb; labels = t .labels; start = blockOf c 0; step = λ k l. blockOf c (t .next k l); live = λ k. ltb k (t .size) }
+
+-- The automaton of a table's blocks.
+unfoldable pub numbered : Table → List ℕ → Automaton
+numbered t c =
+    let m = merged t c in
+    automatonOf m (t .final) (found m (t .size))

@@ -1,6 +1,6 @@
 -- Going through numbers one after the other: what is left of it, and what it comes to where each number adds something.
 use mathlib.Core.Path.{_≡_, refl, sym, ap, _∙_}
-use mathlib.Core.Bool.{Bool, true, false, _||_}
+use mathlib.Core.Bool.{Bool, true, false, _||_, or-assoc}
 use Prim.Native.Nat.{ℕ, zero, suc, _+_, _-_, _≤_, _<_}
 use native.Mathlib.Decide.{decLt}
 use native.Mathlib.Numerals.{add-one}
@@ -44,10 +44,6 @@ module _ {A : Type 0} (f : ℕ → A → A) (n : ℕ) where
 
     pub left-turn : {m k r : ℕ} (a b : A) → k < n → f k a ≡ b → FirstFrom p (k + 1) m r → left k a ≡ left r b
     left-turn {m} {k} a b h e g = left-next k a h ∙ (ap (left (k + 1)) e ∙ left-skip b g)
-
-or-assoc : (a b c : Bool) → (a || b || c) ≡ (a || (b || c))
-or-assoc true b c = refl
-or-assoc false b c = refl
 
 -- A test that number k adds h k to, of what is good.
 module _ {A : Type 0} (f : ℕ → A → A) (g : A → Bool) (h : ℕ → Bool) (Good : A → Type 0) (limit : ℕ)

@@ -15,7 +15,8 @@ use Rattle.lts.proofs.Lists.{getD-mem, map-to, map-append, bind-append, upFrom-
 use Rattle.automaton.specs.Bytes.{bitOf}
 use Rattle.deterministic.specs.Sizes.{mostLetters}
 use Rattle.deterministic.specs.Bytes.{stepBytes, automatonBytes}
-use Rattle.deterministic.specs.inner.Arrays.{letters, letterOf, arrayTable, numbered}
+use Rattle.deterministic.specs.inner.Arrays.{letters, letterOf, arrayTable}
+use Rattle.deterministic.specs.inner.Blocks.{numbered}
 use Rattle.deterministic.specs.inner.Search.{System, numberOf, Move, placeAt, movesFrom, found, movesUpto, edgeOf, automatonOf}
 use Rattle.deterministic.proofs.Found.{goal-row}
 use Rattle.deterministic.proofs.Search.{Complete, found-complete}

@@ -13,7 +13,8 @@ use Rattle.lts.specs.Reply.{overwritten}
 use Rattle.lts.proofs.Laws.Pasted.{pasted-start}
 use Rattle.deterministic.specs.Sizes.{smallestLength}
 use Rattle.deterministic.specs.Bytes.{automatonBytes}
-use Rattle.deterministic.specs.inner.Arrays.{arrayTable, numbered}
+use Rattle.deterministic.specs.inner.Arrays.{arrayTable}
+use Rattle.deterministic.specs.inner.Blocks.{numbered}
 use Rattle.numbering.specs.inner.Found.{Fits, IsFound}
 use Rattle.numbering.specs.inner.Written.{markOf, marksOf, edgesIn, RowFits}
 use Rattle.numbering.proofs.Laws.Entered.{rows-length}
