@@ -44,6 +44,7 @@ pub mod trials;
 pub mod program;
 pub mod print_verdicts;
 pub mod print_combined;
+pub mod print_smallest;
 pub mod script;
 pub mod digests;
 pub mod bench;

@@ -12,22 +12,24 @@ use second::entries::SECOND;
 use second::print_combined::{self, Asked};
 use second::reply::Reply;
 use second::tally::{self, Tally};
-use second::views::View;
+use second::views::{Form, View};
 use second::{
-    bench, digests, fuzz, link, openfst, print, print_verdicts, program, read_back, script, starts,
-    views,
+    bench, digests, fuzz, link, openfst, print, print_smallest, print_verdicts, program, read_back,
+    script, starts, views,
 };
 
 const USAGE: &str = "second explain FOLDER
 second dot FOLDER
 second aut FOLDER
 second words NUMBER FOLDER
+second smallest [dot | aut | words NUMBER] FOLDER
 second formula FOLDER
 second starts LIST FOLDER
 second combine FIRST SECOND
 second program FILE --seed NUMBER --count NUMBER
 second print_verdicts FILE --seed NUMBER --count NUMBER
 second print_combined FILE --seed NUMBER --count NUMBER
+second print_smallest FILE --seed NUMBER --count NUMBER
 second views SCRIPT --seed NUMBER --count NUMBER
 second combined SCRIPT --seed NUMBER --count NUMBER
 second openfst FOLDER --seed NUMBER --count NUMBER
@@ -45,12 +47,10 @@ fn main() -> ExitCode {
         ["explain", folder] => {
             wrote(io::stdout().write_all(&print::explain_folder(Path::new(folder))))
         }
-        ["dot", folder] => view(View::Dot, folder),
-        ["aut", folder] => view(View::Aut, folder),
-        ["words", count, folder] => match count.parse::<u32>() {
-            Ok(count) => view(View::Words(count as usize), folder),
-            Err(_) => usage(),
-        },
+        ["dot" | "aut" | "words", .., folder] => {
+            automaton(View::Listing, &words[..words.len() - 1], folder)
+        }
+        ["smallest", ref form @ .., folder] => automaton(View::Smallest, form, folder),
         ["formula", folder] => view(View::Formula, folder),
         ["starts", list, folder] if starts::in_columns(list).is_some() => {
             view(View::Starts(list), folder)
@@ -67,6 +67,9 @@ fn main() -> ExitCode {
         }
         ["print_combined", file, ref inputs @ ..] => {
             seeded(inputs, |seed, count| in_folders(&PRINT_COMBINED, file, seed, count))
+        }
+        ["print_smallest", file, ref inputs @ ..] => {
+            seeded(inputs, |seed, count| in_folders(&PRINT_SMALLEST, file, seed, count))
         }
         ["combined", file, ref inputs @ ..] => {
             seeded(inputs, |seed, count| in_folders(&COMBINED, file, seed, count))
@@ -148,13 +151,26 @@ fn option<'a>(word: &str, asked: &'a [&'a str]) -> (Option<&'a str>, &'a [&'a st
     }
 }
 
+/// The text of an automaton, or the view of it that is named.
+fn automaton(of: fn(Form) -> View<'static>, form: &[&str], folder: &str) -> ExitCode {
+    let form = match form {
+        [] => Some(Form::Text),
+        ["dot"] => Some(Form::Dot),
+        ["aut"] => Some(Form::Aut),
+        ["words", count] => count.parse::<u32>().ok().map(|count| Form::Words(count as usize)),
+        _ => None,
+    };
+    form.map_or_else(usage, |form| view(of(form), folder))
+}
+
 fn view(view: View, folder: &str) -> ExitCode {
     let [table, formula] = print::files_in(Path::new(folder));
     match views::text(view, &table, &formula) {
         Ok(text) => wrote(io::stdout().write_all(text.as_bytes())),
         Err(refusal) => {
             let reply = refusal.into();
-            let is_printed = matches!(view, View::Formula | View::Starts(_));
+            let is_printed =
+                matches!(view, View::Smallest(Form::Text) | View::Formula | View::Starts(_));
             if is_printed && io::stdout().write_all(&print::refusal(reply)).is_err() {
                 return ExitCode::FAILURE;
             }
@@ -198,6 +214,15 @@ const PRINT_COMBINED: Comparison = Comparison {
     run: |file, place, seed, count| of_pairs(Asked::Program, file, place, seed, count),
     enough: print_combined::ENOUGH,
     missing: print_combined::missing,
+};
+
+const PRINT_SMALLEST: Comparison = Comparison {
+    name: "print_smallest",
+    run: |file, place, seed, count| {
+        print_smallest::run(|folder| program::output_in(file, folder), place, seed, count)
+    },
+    enough: print_smallest::ENOUGH,
+    missing: print_smallest::missing,
 };
 
 const COMBINED: Comparison = Comparison {

@@ -82,14 +82,13 @@ pub enum Asked {
 impl Asked {
     fn is_right(self, expected: &Result<Table, Refused>, output: &Output) -> Result<(), String> {
         match (expected, self) {
-            (Ok(table), _) => trials::writes(&table.text(), 0, output),
-            (Err(refused), Asked::Program) => trials::writes(&line(refused), 0, output),
+            (Ok(table), _) => trials::answers(&table.text(), output),
+            (Err(refused), Asked::Program) => trials::answers(&line(refused), output),
             (Err(refused), Asked::Script) => {
                 trials::writes(b"", 1, output)?;
-                return tells(refused, &output.stderr);
+                tells(refused, &output.stderr)
             }
-        }?;
-        trials::is_quiet(output)
+        }
     }
 
     /// The output of the program in this folder, or of the script for its files.

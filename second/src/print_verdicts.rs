@@ -61,8 +61,7 @@ pub fn run(
             Err(refusal) => Reply::from(refusal).number,
         };
         let output = print(place, &list).map_err(|error| error.to_string())?;
-        let right = trials::writes(&starts::printed(table, formula, &list), 0, &output);
-        let right = right.and_then(|()| trials::is_quiet(&output));
+        let right = trials::answers(&starts::printed(table, formula, &list), &output);
         right.map_err(|told| format!("list: {}\n{told}", shown(&list)))?;
         tally.count(&kinds.0, Outcome::of(number));
         Ok(())

@@ -1,6 +1,6 @@
-//! The script `explain`, run on random folders: its listing, its views, the formula that it writes back
-//! and its verdicts at several states are the second explainer's texts, and a refusal is told in the same
-//! words whatever was asked for.
+//! The script `explain`, run on random folders: its listing, the smallest automaton, the views of both,
+//! the formula that it writes back and its verdicts at several states are the second explainer's texts,
+//! and a refusal is told in the same words whatever was asked for.
 
 use std::io;
 use std::path::Path;
@@ -9,12 +9,12 @@ use std::process::{Command, Output, Stdio};
 use crate::inputs::folders::{Files, NUMBERS};
 use crate::inputs::kinds::{self, must};
 use crate::inputs::lists::{LIST, LISTS, typed};
-use crate::inputs::views::{LONGER, WAYS, folder, word_count};
+use crate::inputs::views::{BY_SETS, LONGER, WAYS, folder, word_count};
 use crate::print;
 use crate::reply::Reply;
 use crate::tally::{Expected, Kind, Outcome, Tally};
 use crate::trials::{self, Trials, shown};
-use crate::views::{self, View};
+use crate::views::{self, Form, View};
 
 const PART: &str = "folder";
 
@@ -23,46 +23,56 @@ pub const ENOUGH: u64 = 300;
 
 /// What a view may show, by a name.
 struct Sign {
-    view: &'static str,
+    /// The options of each view that must show it.
+    views: &'static [&'static str],
     name: &'static str,
     is_in: fn(&str) -> bool,
 }
 
+const fn caption(name: &'static str, is_in: fn(&str) -> bool) -> Sign {
+    Sign { views: &["--dot"], name, is_in }
+}
+
 const fn dot(name: &'static str, is_in: fn(&str) -> bool) -> Sign {
-    Sign { view: "--dot", name, is_in }
+    Sign { views: &["--dot", "--smallest --dot"], name, is_in }
 }
 
 const fn aut(name: &'static str, is_in: fn(&str) -> bool) -> Sign {
-    Sign { view: "--aut", name, is_in }
+    Sign { views: &["--aut", "--smallest --aut"], name, is_in }
 }
 
 const fn words(name: &'static str, is_in: fn(&str) -> bool) -> Sign {
-    Sign { view: "--words", name, is_in }
+    Sign { views: &["--words", "--smallest --words"], name, is_in }
+}
+
+const fn smallest(name: &'static str, is_in: fn(&str) -> bool) -> Sign {
+    Sign { views: &[SMALLEST], name, is_in }
 }
 
 const fn formula(name: &'static str, is_in: fn(&str) -> bool) -> Sign {
-    Sign { view: FORMULA, name, is_in }
+    Sign { views: &[FORMULA], name, is_in }
 }
 
 const fn starts(name: &'static str, is_in: fn(&str) -> bool) -> Sign {
-    Sign { view: STARTS, name, is_in }
+    Sign { views: &[STARTS], name, is_in }
 }
 
+const SMALLEST: &str = "--smallest";
 const FORMULA: &str = "--formula";
 const STARTS: &str = "--starts";
 
-/// A folder with a listing that is refused: its formula is too long when it is written back, or the list
-/// of states is refused.
+/// A folder with a listing that is refused: its formula is too long when it is written back, the list
+/// of states is refused, or words lead to too many sets of rows.
 const REFUSED: &str = "refused of a folder with a listing";
 /// A folder with too many rows or edges that is answered.
 const NOT_BUILT: &str = "written of a folder without a listing";
 
 /// Each of these must be in some text of its view.
-const SIGNS: [Sign; 29] = [
-    dot("all witnesses", |text| text.contains("\"holds: all witnesses\"")),
-    dot("all counterexamples", |text| text.contains("\"does not hold: all counterexamples\"")),
-    dot("no witness", |text| text.contains("\"does not hold: no word is a witness\"")),
-    dot("no counterexample", |text| text.contains("\"holds: no word is a counterexample\"")),
+const SIGNS: [Sign; 32] = [
+    caption("all witnesses", |text| text.contains("\"holds: all witnesses\"")),
+    caption("all counterexamples", |text| text.contains("\"does not hold: all counterexamples\"")),
+    caption("no witness", |text| text.contains("\"does not hold: no word is a witness\"")),
+    caption("no counterexample", |text| text.contains("\"holds: no word is a counterexample\"")),
     dot("two edges in one", |text| joined(text).any(|edges| edges == 2)),
     dot("more edges in one", |text| joined(text).any(|edges| edges > 2)),
     aut("(silent)", |text| text.contains("\"(silent)\"")),
@@ -82,6 +92,13 @@ const SIGNS: [Sign; 29] = [
         let words = text.lines().filter(|line| !line.starts_with('('));
         let lengths: Vec<usize> = words.map(|word| word.split(' ').count()).collect();
         lengths.windows(2).any(|pair| pair[0] == pair[1])
+    }),
+    smallest("no words", |text| text == "     1     0\n     0     0\n"),
+    smallest("one final state", |text| {
+        text.starts_with("     1") && text.contains("     0     1\n")
+    }),
+    smallest("a final start and other states", |text| {
+        !text.starts_with("     1") && text.lines().nth(1) == Some("     0     1")
     }),
     formula("round brackets", |text| text.contains('(')),
     formula("all labels", |text| text.contains("[*")),
@@ -116,12 +133,13 @@ fn joined(text: &str) -> impl Iterator<Item = usize> {
 
 /// What should have occurred among enough folders and did not.
 pub fn missing(tally: &Tally) -> Vec<String> {
-    let signs = SIGNS.iter().map(|sign| must(sign.view, sign.name, &[0]));
-    let programs = [FORMULA, STARTS];
-    let refused = programs.map(|view| must(view, REFUSED, &[0]));
-    let written = programs.map(|view| must(view, NOT_BUILT, &[11, 12]));
+    let signs =
+        SIGNS.iter().flat_map(|sign| sign.views.iter().map(|view| must(view, sign.name, &[0])));
+    let refused = [SMALLEST, FORMULA, STARTS].map(|view| must(view, REFUSED, &[0]));
+    let written = [FORMULA, STARTS].map(|view| must(view, NOT_BUILT, &[11, 12]));
     let lists = LISTS.iter().map(|way| must(LIST, way.name, &[0]));
-    let ways = kinds::expected(PART, &WAYS).into_iter().chain(kinds::expected(PART, &[LONGER]));
+    let ways = [WAYS.as_slice(), &[LONGER, BY_SETS]].into_iter();
+    let ways = ways.flat_map(|ways| kinds::expected(PART, ways));
     let expected: Vec<Expected> =
         ways.chain(signs).chain(refused).chain(written).chain(lists).collect();
     tally.missing(&NUMBERS, ENOUGH, &expected)
@@ -139,11 +157,12 @@ pub fn run(
     let folder = |index| folder(seed, index);
     Trials { place, seed, count }.each(folder, |index, name, files| {
         let mut shown = Shown { kinds: vec![Kind { part: PART, name }], ..Shown::default() };
-        let words = View::Words(word_count(seed, index));
+        let words = Form::Words(word_count(seed, index));
         let (list, states) = typed(seed, index, files.table.contents());
         shown.kinds.push(Kind { part: LIST, name: list });
-        let starts = View::Starts(&states);
-        for view in [View::Listing, View::Dot, View::Aut, words, View::Formula, starts] {
+        let forms = [Form::Text, Form::Dot, Form::Aut, words];
+        let views = forms.map(View::Listing).into_iter().chain(forms.map(View::Smallest));
+        for view in views.chain([View::Formula, View::Starts(&states)]) {
             let output = explain(view, place).map_err(|error| error.to_string())?;
             let asked = format!("explain {view}");
             let agrees = shown.agrees(view, files, output);
@@ -171,26 +190,25 @@ impl Shown {
             Ok(text) => {
                 self.kinds.extend(signs(view, &text));
                 if self.number != 0 {
-                    self.kinds.extend(program(view).map(|part| Kind { part, name: NOT_BUILT }));
+                    self.kinds.push(Kind { part: view.options(), name: NOT_BUILT });
                 }
-                trials::writes(text.as_bytes(), 0, &output)?;
-                trials::is_quiet(&output)
+                trials::answers(text.as_bytes(), &output)
             }
             Err(refusal) => self.is_refusal(view, refusal.into(), output),
         }
     }
 
-    /// Its line stands in place of a listing only; the words are the same for each view.
+    /// Its line stands in place of an automaton's text only; the words are the same for each view.
     fn is_refusal(&mut self, view: View, refusal: Reply, output: Output) -> Result<(), String> {
         let line = match view {
-            View::Listing => print::refusal(refusal),
+            View::Listing(Form::Text) | View::Smallest(Form::Text) => print::refusal(refusal),
             _ => Vec::new(),
         };
         trials::writes(&line, 1, &output)?;
-        if view == View::Listing {
+        if view == View::Listing(Form::Text) {
             self.number = refusal.number;
         } else if self.number == 0 {
-            self.kinds.extend(program(view).map(|part| Kind { part, name: REFUSED }));
+            self.kinds.push(Kind { part: view.options(), name: REFUSED });
         }
         let known = self.words.iter().find(|(known, _)| *known == refusal);
         let words = known.map_or(&output.stderr, |(_, words)| words);
@@ -203,19 +221,10 @@ impl Shown {
     }
 }
 
-/// The option of a view that has a program of its own, which builds nothing.
-fn program(view: View) -> Option<&'static str> {
-    match view {
-        View::Formula => Some(FORMULA),
-        View::Starts(_) => Some(STARTS),
-        _ => None,
-    }
-}
-
 fn signs(view: View, text: &str) -> impl Iterator<Item = Kind> {
-    let view = view.to_string();
-    let are_in = move |sign: &&Sign| view.starts_with(sign.view) && (sign.is_in)(text);
-    SIGNS.iter().filter(are_in).map(|sign| Kind { part: sign.view, name: sign.name })
+    let part = view.options();
+    let are_in = move |sign: &&Sign| sign.views.contains(&part) && (sign.is_in)(text);
+    SIGNS.iter().filter(are_in).map(move |sign| Kind { part, name: sign.name })
 }
 
 /// The output of a script for this folder.

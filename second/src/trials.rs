@@ -70,8 +70,14 @@ pub fn writes(expected: &[u8], code: i32, output: &Output) -> Result<(), String>
     }
 }
 
+/// This text on standard output, exit code 0, and nothing on standard error.
+pub fn answers(expected: &[u8], output: &Output) -> Result<(), String> {
+    writes(expected, 0, output)?;
+    is_quiet(output)
+}
+
 /// Nothing on standard error.
-pub fn is_quiet(output: &Output) -> Result<(), String> {
+fn is_quiet(output: &Output) -> Result<(), String> {
     match output.stderr.is_empty() {
         true => Ok(()),
         false => Err(format!("standard error: {}", shown(&output.stderr))),

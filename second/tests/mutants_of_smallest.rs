@@ -20,6 +20,10 @@ fn wrong(name: &'static str, entry: Smallest) -> (&'static str, Entries) {
 }
 
 type Set = BTreeSet<u16>;
+/// By letter, the rows that it leads to.
+type Sets = BTreeMap<u8, Set>;
+/// Letters, each with the block that it leads to.
+type Leading = Vec<(u8, usize)>;
 
 /// What is known when sets are too many or not.
 struct Counts<'a> {
@@ -34,7 +38,7 @@ struct Counts<'a> {
 #[derive(Clone, Copy)]
 struct Rules {
     /// The rows that a letter leads to, from those that are right.
-    after: fn(&Listing, &Set, BTreeMap<u8, Set>) -> BTreeMap<u8, Set>,
+    after: fn(&Listing, &Set, Sets) -> Sets,
     /// Sets with equal ones are taken for the same.
     key: fn(&Listing, &Set) -> Set,
     is_final: fn(&Listing, &Set) -> bool,
@@ -45,7 +49,7 @@ struct Rules {
     /// Each state's first block.
     first: fn(&Automaton) -> Vec<usize>,
     /// The blocks that letters lead to; states of one block with equal ones stay together.
-    leading: fn(&Automaton, usize, &[usize]) -> Vec<(u8, usize)>,
+    leading: fn(&Automaton, usize, &[usize]) -> Leading,
     /// The states of the result, each by one of its block, from those that are right.
     order: fn(&Automaton, &[usize], Vec<usize>) -> Vec<usize>,
     bytes: fn(&Automaton) -> Vec<u8>,
@@ -75,7 +79,7 @@ fn of_sets(rules: &Rules, listing: &Listing) -> (Automaton, usize) {
     let mut found = Automaton::default();
     while found.states() < sets.len() && sets.len() < ENOUGH {
         let set = sets[found.states()].clone();
-        let mut after: BTreeMap<u8, Set> = BTreeMap::new();
+        let mut after = Sets::new();
         for edge in set.iter().flat_map(|row| listing.edges_from(*row)) {
             after.entry(edge.label).or_default().insert(edge.target);
         }
@@ -201,16 +205,13 @@ fn with_the_right_rules_no_fault_is_found() {
 }
 
 /// Without what does not fit, and letters that then lead nowhere.
-fn kept(
-    after: BTreeMap<u8, Set>,
-    fits: impl Fn(u8, &BTreeMap<u8, Set>) -> bool,
-) -> BTreeMap<u8, Set> {
+fn kept(after: Sets, fits: impl Fn(u8, &Sets) -> bool) -> Sets {
     let kept = after.iter().filter(|(letter, _)| fits(**letter, &after));
     kept.map(|(letter, set)| (*letter, set.clone())).collect()
 }
 
 /// Each letter leads to one row.
-fn one_of_each(after: BTreeMap<u8, Set>, row: fn(&Set) -> Option<&u16>) -> BTreeMap<u8, Set> {
+fn one_of_each(after: Sets, row: fn(&Set) -> Option<&u16>) -> Sets {
     after
         .into_iter()
         .map(|(letter, set)| (letter, row(&set).into_iter().copied().collect()))
@@ -218,8 +219,8 @@ fn one_of_each(after: BTreeMap<u8, Set>, row: fn(&Set) -> Option<&u16>) -> BTree
 }
 
 /// What the edges of some rows lead to.
-fn from_rows<'a>(listing: &Listing, rows: impl Iterator<Item = &'a u16>) -> BTreeMap<u8, Set> {
-    let mut after: BTreeMap<u8, Set> = BTreeMap::new();
+fn from_rows<'a>(listing: &Listing, rows: impl Iterator<Item = &'a u16>) -> Sets {
+    let mut after = Sets::new();
     for edge in rows.flat_map(|row| listing.edges_from(*row)) {
         after.entry(edge.label).or_default().insert(edge.target);
     }
@@ -412,7 +413,7 @@ fn faults_in_how_many_sets_there_may_be_are_found() {
 }
 
 /// Where a letter leads is not looked at.
-fn but_for(letter: u8, found: &Automaton, state: usize, blocks: &[usize]) -> Vec<(u8, usize)> {
+fn but_for(letter: u8, found: &Automaton, state: usize, blocks: &[usize]) -> Leading {
     let mut leading = (RIGHT.leading)(found, state, blocks);
     leading.retain(|(known, _)| *known != letter);
     leading

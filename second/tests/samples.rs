@@ -7,10 +7,10 @@ use std::fs;
 use std::path::{Path, PathBuf};
 
 use common::{M, question};
-use second::print::explain_folder;
+use second::print::{explain_folder, files_in};
 use second::print_combined::printed;
 use second::table::IDLE;
-use second::views::{self, View};
+use second::views::{self, Form, View};
 
 fn root() -> PathBuf {
     Path::new(env!("CARGO_MANIFEST_DIR")).join("..")
@@ -22,6 +22,11 @@ fn read(path: &str) -> String {
 
 fn listing(sample: &str) -> String {
     String::from_utf8(explain_folder(&root().join(sample))).expect("ASCII")
+}
+
+fn smallest(sample: &str) -> String {
+    let [table, formula] = files_in(&root().join(sample));
+    views::text(View::Smallest(Form::Text), &table, &formula).expect(sample)
 }
 
 /// Whether a listing has a line with these numbers.
@@ -48,11 +53,12 @@ fn the_example_shows_the_changer_with_its_listing_and_words_byte_for_byte() {
     let shown = shown(&read("docs/EXAMPLE.md"));
     let table = read("samples/changer/table.txt");
     let formula = read("samples/changer/formula.txt");
-    let words = views::text(View::Words(5), table.as_bytes(), formula.as_bytes()).expect("words");
+    let words = View::Listing(Form::Words(5));
+    let words = views::text(words, table.as_bytes(), formula.as_bytes()).expect("words");
     let directions = read("samples/directions/formula.txt");
     let short_forms = read("samples/short_forms/formula.txt");
     let listing = listing("samples/changer");
-    let smallest = read("samples/changer/smallest.txt");
+    let smallest = smallest("samples/changer");
     let written = ["short_forms", "directions"]
         .map(|sample| read(&format!("samples/{sample}/written_back.txt")));
     let [first, second] = written;
@@ -71,7 +77,8 @@ fn side_by_side() -> [String; 3] {
 fn words_of_both(count: usize) -> String {
     let [_, _, table] = side_by_side();
     let formula = read("samples/side_by_side/formula.txt");
-    views::text(View::Words(count), table.as_bytes(), formula.as_bytes()).expect("words")
+    let words = View::Listing(Form::Words(count));
+    views::text(words, table.as_bytes(), formula.as_bytes()).expect("words")
 }
 
 fn combine_command(end: &str) -> String {
@@ -124,6 +131,28 @@ fn the_readme_shows_verdicts_of_the_changer_byte_for_byte() {
     let verdicts = views::text(View::Starts(list), table.as_bytes(), formula.as_bytes());
     let command = format!("bin/explain --starts \"{list}\" samples/changer\n");
     assert!(shown(&read("README.md")).contains(&(command + &verdicts.expect("verdicts"))));
+}
+
+#[test]
+fn the_readme_shows_the_smallest_automaton_of_m_byte_for_byte() {
+    let command = "bin/explain --smallest samples/m\n".to_owned();
+    assert!(shown(&read("README.md")).contains(&(command + &smallest("samples/m"))));
+}
+
+#[test]
+fn the_smallest_automaton_is_as_the_example_tells() {
+    let (example, smallest) = (read("docs/EXAMPLE.md"), smallest("samples/changer"));
+    for edge in ["4 6 2", "4 99 7"] {
+        assert!(example.contains(&format!("`{edge}`")), "{edge}");
+        assert!(has_line(&smallest, edge), "{edge}");
+    }
+}
+
+#[test]
+fn the_changer_and_the_short_forms_have_the_same_smallest_automaton() {
+    let [changer, short_forms] = ["samples/changer", "samples/short_forms"].map(smallest);
+    assert_eq!(changer, short_forms);
+    assert_ne!(listing("samples/changer"), listing("samples/short_forms"));
 }
 
 /// Each ends in the idle step of the wait.

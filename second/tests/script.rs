@@ -13,7 +13,7 @@ use second::reply::Reply;
 use second::script;
 use second::table::Table;
 use second::verdict::holds;
-use second::views::{View, text};
+use second::views::{Form, View, text};
 
 /// As in .ci/program.
 const SEED: u64 = 1;
@@ -33,7 +33,9 @@ fn right(view: View, folder: &Path) -> Output {
     let [table, formula] = files_in(folder);
     match (text(view, &table, &formula), view) {
         (Ok(text), _) => says(0, text.as_bytes(), b""),
-        (Err(refused), View::Listing) => says(1, &refusal(refused.into()), b"refused\n"),
+        (Err(refused), View::Listing(Form::Text) | View::Smallest(Form::Text)) => {
+            says(1, &refusal(refused.into()), b"refused\n")
+        }
         (Err(_), _) => says(1, b"", b"refused\n"),
     }
 }
@@ -72,7 +74,7 @@ fn are_found(view: &str, faults: &[Fault]) {
     let mut missed = Vec::new();
     for (name, change) in faults {
         let wrong = |asked: View, folder: &Path, output: Output| {
-            if !output.status.success() || !asked.to_string().starts_with(view) {
+            if !output.status.success() || asked.options() != view {
                 return output;
             }
             let text = str::from_utf8(&output.stdout).expect("ASCII");
@@ -184,12 +186,12 @@ fn faults_in_words_are_found() {
             }),
             ("`(no more)` for finitely many", |shown| shown.replace("(more)", "(no more)")),
             ("`(more)` behind exactly as many as asked for", |shown| {
-                if shown.view == View::Words(shown.lines.len() - 1) {
+                if shown.view == View::Listing(Form::Words(shown.lines.len() - 1)) {
                     shown.replace("(no more)", "(more)");
                 }
             }),
             ("`(no more)` if none is asked for", |shown| {
-                if shown.view == View::Words(0) {
+                if shown.view == View::Listing(Form::Words(0)) {
                     *shown.closing() = "(no more)".into();
                 }
             }),
@@ -366,6 +368,154 @@ fn faults_in_formulas_are_found() {
     );
 }
 
+/// In place of this view another one of the same folder.
+fn instead(shown: &mut Shown, view: View) {
+    let [table, formula] = files_in(shown.folder);
+    let text = text(view, &table, &formula).expect("a view");
+    shown.lines = text.lines().map(String::from).collect();
+}
+
+/// Where the lines of edges begin, in the text of a smallest automaton.
+fn first_edge(shown: &Shown) -> usize {
+    1 + shown.lines[0][..6].trim_start().parse::<usize>().expect("a count")
+}
+
+#[test]
+fn faults_in_smallest_automata_are_found() {
+    are_found(
+        "--smallest",
+        &[
+            ("the listing is shown", |shown| instead(shown, View::Listing(Form::Text))),
+            ("a view is shown", |shown| instead(shown, View::Smallest(Form::Aut))),
+            ("the counts are exchanged", |shown| {
+                let (states, edges) = shown.lines[0].split_at(6);
+                shown.lines[0] = [edges, states].concat();
+            }),
+            ("final marks are lost", |shown| {
+                let edges = first_edge(shown);
+                shown.lines[1..edges].iter_mut().for_each(|line| line.replace_range(6.., "     0"));
+            }),
+            ("the last edge is lost", |shown| {
+                if shown.lines.len() > first_edge(shown) {
+                    shown.lines.pop();
+                }
+            }),
+            ("the edges of a state fall", |shown| {
+                let edges = first_edge(shown);
+                let are_of_one = |line: &String, next: &String| line[..6] == next[..6];
+                let states = shown.lines[edges..].chunk_by_mut(are_of_one);
+                states.for_each(<[String]>::reverse);
+            }),
+            ("one line more", |shown| shown.lines.push(String::new())),
+        ],
+    );
+}
+
+#[test]
+fn faults_in_views_of_smallest_automata_are_found() {
+    are_found(
+        "--smallest --dot",
+        &[
+            ("the picture of the listing", |shown| instead(shown, View::Listing(Form::Dot))),
+            ("what the words are stands below", |shown| {
+                shown.lines.insert(1, "  label=\"holds: all witnesses\";".into());
+            }),
+            ("an empty line stands in its place", |shown| {
+                shown.lines.insert(1, "  label=\"\";".into());
+            }),
+            ("nodes have no label", |shown| {
+                for line in shown.lines.iter_mut().filter(|line| !line.contains(" -> ")) {
+                    *line = line.split(" [label=").next().expect("a part").into();
+                }
+            }),
+            ("final states have no ring", |shown| shown.replace(", shape=doublecircle", "")),
+            ("edges between the same states stand apart", |shown| {
+                with_edges(shown, |DotEdge { rows, names }| {
+                    let apart = |name| DotEdge { rows, names: vec![name] }.line();
+                    names.into_iter().map(apart).collect()
+                });
+            }),
+            ("the names of one edge fall", |shown| {
+                with_edges(shown, |mut edge| {
+                    edge.names.reverse();
+                    vec![edge.line()]
+                });
+            }),
+        ],
+    );
+    are_found(
+        "--smallest --aut",
+        &[
+            ("the listing", |shown| instead(shown, View::Listing(Form::Aut))),
+            ("`i` is written bare", |shown| shown.replace("\"(i)\"", "\"i\"")),
+            ("`tau` is written bare", |shown| shown.replace("\"(tau)\"", "\"tau\"")),
+            ("an idle step is a silent one", |shown| shown.replace("(idle)", "(silent)")),
+            ("final states have no loop", |shown| {
+                shown.lines.retain(|line| !line.contains("\"(final)\""));
+            }),
+        ],
+    );
+    are_found(
+        "--smallest --words",
+        &[
+            ("the last word is lost", |shown| {
+                if let Some(last) = shown.lines.len().checked_sub(2) {
+                    shown.lines.remove(last);
+                }
+            }),
+            ("words of one length fall", |shown| {
+                let tied = |word: &String, next: &String| length(word) == length(next);
+                shown.words().chunk_by_mut(tied).for_each(<[String]>::reverse);
+            }),
+            ("the empty word is lost", |shown| shown.lines.retain(|line| line != "(empty)")),
+            ("`(more)` for infinitely many", |shown| {
+                shown.replace("(infinitely many more)", "(more)");
+            }),
+            ("`(no more)` for finitely many", |shown| shown.replace("(more)", "(no more)")),
+        ],
+    );
+}
+
+#[test]
+fn too_many_sets_of_rows_are_refused_in_each_view_and_the_line_stands_in_one() {
+    let too_many = |view: View, folder: &Path| {
+        let [table, formula] = files_in(folder);
+        let refused = text(view, &table, &formula).err().map(Reply::from);
+        refused.is_some_and(|refused| refused.number == 20)
+    };
+    let is_found = |test: &str, asked: &str, wrong: &dyn Fn(View, &Output) -> Output| {
+        let told = told(test, |view, folder, output| {
+            match too_many(view, folder) && view.options() == asked {
+                true => wrong(view, &output),
+                false => output,
+            }
+        });
+        let told = told.expect(test);
+        assert!(told.contains(&format!("\nexplain {asked}")), "{told}");
+    };
+    let line = b"    20   257\n";
+    is_found("no line", "--smallest", &|_, output| says(1, b"", &output.stderr));
+    is_found("another figure", "--smallest", &|_, output| {
+        says(1, b"    20   256\n", &output.stderr)
+    });
+    is_found("other words", "--smallest --dot", &|_, _| says(1, b"", b"too many sets\n"));
+    for asked in ["--smallest --dot", "--smallest --aut", "--smallest --words"] {
+        is_found("line", asked, &|_, output| says(1, line, &output.stderr));
+        is_found("silent", asked, &|_, _| says(1, b"", b""));
+        is_found("success", asked, &|_, output| says(0, b"", &output.stderr));
+    }
+    for asked in ["--dot", "--aut", "--words"] {
+        let told = told("listing", |view, folder, output| {
+            let View::Listing(form) = view else { return output };
+            match too_many(View::Smallest(form), folder) && view.options() == asked {
+                true => says(1, b"", b"refused\n"),
+                false => output,
+            }
+        });
+        assert!(told.expect(asked).contains(&format!("\nexplain {asked}")));
+    }
+}
+
 #[test]
 fn a_formula_that_is_too_long_is_refused_and_one_without_a_listing_is_not() {
     let too_long = |view: View, folder: &Path| {
@@ -389,10 +539,12 @@ fn a_formula_that_is_too_long_is_refused_and_one_without_a_listing_is_not() {
     });
     assert!(line.expect("found").contains("\nexplain --formula: "));
     let built = told("built", |view, folder, output| match view {
-        View::Formula => match text(View::Listing, &files_in(folder)[0], &files_in(folder)[1]) {
-            Err(_) => says(1, b"", b"refused\n"),
-            Ok(_) => output,
-        },
+        View::Formula => {
+            match text(View::Listing(Form::Text), &files_in(folder)[0], &files_in(folder)[1]) {
+                Err(_) => says(1, b"", b"refused\n"),
+                Ok(_) => output,
+            }
+        }
         _ => output,
     });
     assert!(built.expect("found").contains("\nexplain --formula: "));
@@ -514,25 +666,25 @@ fn code(output: &Output) -> i32 {
 #[test]
 fn another_exit_or_other_words_of_a_refusal_are_found() {
     is_told("success", "\nexplain: exit status: 0", |view, output| match view {
-        View::Listing => says(0, &output.stdout, &output.stderr),
+        View::Listing(Form::Text) => says(0, &output.stdout, &output.stderr),
         _ => output,
     });
     is_told("quiet", "explain --words", |view, output| match view {
-        View::Words(_) => says(code(&output), &output.stdout, b""),
+        View::Listing(Form::Words(_)) => says(code(&output), &output.stdout, b""),
         _ => output,
     });
     is_told("others", "explain --aut: standard error: 8 bytes", |view, output| {
         match code(&output) {
-            1 if view == View::Aut => says(1, &output.stdout, b"no view\n"),
+            1 if view == View::Listing(Form::Aut) => says(1, &output.stdout, b"no view\n"),
             _ => output,
         }
     });
     is_told("line", "explain --dot: expected: 0 bytes", |view, output| match code(&output) {
-        1 if view == View::Dot => says(1, b"     1     1\n", &output.stderr),
+        1 if view == View::Listing(Form::Dot) => says(1, b"     1     1\n", &output.stderr),
         _ => output,
     });
     is_told("warned", "explain --dot: standard error: 7 bytes", |view, output| match view {
-        View::Dot => says(code(&output), &output.stdout, b"warned\n"),
+        View::Listing(Form::Dot) => says(code(&output), &output.stdout, b"warned\n"),
         _ => output,
     });
 }

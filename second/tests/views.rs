@@ -12,7 +12,7 @@ use second::inputs::rng::Rng;
 use second::listing::Listing;
 use second::print::files_in;
 use second::reply::Refusal;
-use second::views::{View, text};
+use second::views::{Form, View, text};
 use second::word::{has_explaining_path, is_accepted};
 
 fn view(view: View, table: &str, formula: &str) -> String {
@@ -28,7 +28,7 @@ fn of_sample(view: View, sample: &str) -> String {
 #[test]
 fn table_m_is_shown_byte_for_byte() {
     assert_eq!(
-        of_sample(View::Dot, "m"),
+        of_sample(View::Listing(Form::Dot), "m"),
         r#"digraph "EU[*;ack] T" {
   label="holds: all witnesses";
   rankdir=LR;
@@ -45,7 +45,7 @@ fn table_m_is_shown_byte_for_byte() {
 "#
     );
     assert_eq!(
-        of_sample(View::Aut, "m"),
+        of_sample(View::Listing(Form::Aut), "m"),
         r#"des (0,4,3)
 (0,"req",1)
 (1,"ack",0)
@@ -54,9 +54,112 @@ fn table_m_is_shown_byte_for_byte() {
 "#
     );
     assert_eq!(
-        of_sample(View::Words(3), "m"),
+        of_sample(View::Listing(Form::Words(3)), "m"),
         "req ack\nreq ack req ack\nreq ack req ack req ack\n(infinitely many more)\n"
     );
+}
+
+#[test]
+fn the_smallest_automaton_of_m_is_shown_byte_for_byte() {
+    assert_eq!(
+        of_sample(View::Smallest(Form::Text), "m"),
+        "     3     3
+     0     0
+     1     0
+     2     1
+     0     1     1
+     1     2     2
+     2     1     1
+"
+    );
+    assert_eq!(
+        of_sample(View::Smallest(Form::Dot), "m"),
+        r#"digraph "EU[*;ack] T" {
+  rankdir=LR;
+  node [shape=circle];
+  start [shape=point];
+  start -> 0;
+  0 [label="0"];
+  1 [label="1"];
+  2 [label="2", shape=doublecircle];
+  0 -> 1 [label="req"];
+  1 -> 2 [label="ack"];
+  2 -> 1 [label="req"];
+}
+"#
+    );
+    assert_eq!(
+        of_sample(View::Smallest(Form::Aut), "m"),
+        r#"des (0,4,3)
+(0,"req",1)
+(1,"ack",2)
+(2,"req",1)
+(2,"(final)",2)
+"#
+    );
+    let words = Form::Words(3);
+    assert_eq!(of_sample(View::Smallest(words), "m"), of_sample(View::Listing(words), "m"));
+}
+
+#[test]
+fn a_smallest_automaton_without_words_is_one_state_and_of_the_empty_word_a_final_one() {
+    let smallest = |form, formula| view(View::Smallest(form), M, formula);
+    assert_eq!(smallest(Form::Text, "EX[ack] T"), "     1     0\n     0     0\n");
+    assert_eq!(smallest(Form::Aut, "EX[ack] T"), "des (0,0,1)\n");
+    assert_eq!(smallest(Form::Words(2), "EX[ack] T"), "(no more)\n");
+    assert_eq!(smallest(Form::Text, "~T"), "     1     0\n     0     1\n");
+    assert_eq!(smallest(Form::Aut, "T"), "des (0,1,1)\n(0,\"(final)\",0)\n");
+    assert!(smallest(Form::Dot, "T").ends_with("0 [label=\"0\", shape=doublecircle];\n}\n"));
+}
+
+/// By a or silently to state 1, which has no exit; back to the start by b.
+#[test]
+fn the_edges_of_a_smallest_automaton_rise_by_label_and_an_idle_step_is_the_last() {
+    let table = "     2     2     4     0
+     1 a
+     2 b
+     0     0     1
+     0     1     0
+     0     1     1
+     0     2     0
+";
+    let smallest = |form| view(View::Smallest(form), table, "EU[*] T");
+    assert_eq!(
+        smallest(Form::Text),
+        "     3     8
+     0     1
+     1     1
+     2     1
+     0     0     1
+     0     1     2
+     0     2     0
+     1    99     1
+     2     0     1
+     2     1     2
+     2     2     0
+     2    99     1
+"
+    );
+    let dot = smallest(Form::Dot);
+    assert!(dot.contains("  2 -> 1 [label=\"(silent)\\n(idle)\"];\n  2 -> 2 [label"), "{dot}");
+}
+
+/// From each state of a ring all words lead on, so that one state has them all; with a step before
+/// them there is one set too many.
+#[test]
+fn over_256_sets_of_rows_are_refused_whatever_is_shown_of_them() {
+    let steps = (0..256).map(|from| format!("{from:>6}     1{:>6}\n", (from + 1) % 256));
+    let table = format!("   256     1   256     0\n     1 a\n{}", steps.collect::<String>());
+    for form in [Form::Text, Form::Dot, Form::Aut, Form::Words(3)] {
+        let of = |formula: &str| text(View::Smallest(form), table.as_bytes(), formula.as_bytes());
+        assert_eq!(of("EX[a] EU[*] T"), Err(Refusal::SetCount(257)), "{form:?}");
+        assert!(of("EU[*] T").is_ok(), "{form:?}");
+    }
+    assert_eq!(
+        view(View::Smallest(Form::Text), &table, "EU[*] T"),
+        "     1     1\n     0     1\n     0     1     0\n"
+    );
+    assert!(text(View::Listing(Form::Text), table.as_bytes(), b"EX[a] EU[*] T").is_ok());
 }
 
 #[test]
@@ -72,7 +175,7 @@ fn a_formula_is_shown_as_it_is_written_back() {
 #[test]
 fn the_changer_has_three_ways_into_the_wait() {
     assert_eq!(
-        of_sample(View::Words(5), "changer"),
+        of_sample(View::Listing(Form::Words(5)), "changer"),
         "req send drop (idle)
 req send clamp drop (idle)
 req send drop retry drop (idle)
@@ -81,11 +184,14 @@ req send drop retry drop retry drop (idle)
 (infinitely many more)
 "
     );
-    let dot = of_sample(View::Dot, "changer");
+    let dot = of_sample(View::Listing(Form::Dot), "changer");
     for edge in ["2 -> 5 [label=\"drop\"]", "3 -> 5 [label=\"drop\"]", "4 -> 2 [label=\"retry\"]"] {
         assert!(dot.contains(&format!("\n  {edge};\n")), "{dot}");
     }
-    assert_eq!(of_sample(View::Words(40), "short_forms"), of_sample(View::Words(40), "changer"));
+    assert_eq!(
+        of_sample(View::Listing(Form::Words(40)), "short_forms"),
+        of_sample(View::Listing(Form::Words(40)), "changer")
+    );
 }
 
 #[test]
@@ -96,23 +202,26 @@ fn the_graphs_label_tells_verdict_and_class() {
         ("EX[ack] T", "does not hold: no word is a witness"),
         ("AX[req] T", "holds: no word is a counterexample"),
     ] {
-        assert!(view(View::Dot, M, formula).contains(&format!("\n  label=\"{label}\";\n")));
+        assert!(
+            view(View::Listing(Form::Dot), M, formula)
+                .contains(&format!("\n  label=\"{label}\";\n"))
+        );
     }
 }
 
 #[test]
 fn the_graphs_name_is_the_line_as_typed_without_its_end() {
-    let dot = view(View::Dot, M, "DIA [ req|ack ]  T\n");
+    let dot = view(View::Listing(Form::Dot), M, "DIA [ req|ack ]  T\n");
     assert!(dot.starts_with("digraph \"DIA [ req|ack ]  T\" {\n"), "{dot}");
 }
 
 #[test]
 fn a_question_without_words_has_one_row() {
-    let dot = view(View::Dot, M, "EX[ack] T");
+    let dot = view(View::Listing(Form::Dot), M, "EX[ack] T");
     assert!(dot.ends_with("  start -> 0;\n  0 [label=\"state 0\\nplace 0\"];\n}\n"), "{dot}");
-    assert_eq!(view(View::Aut, M, "EX[ack] T"), "des (0,0,1)\n");
-    assert_eq!(view(View::Words(3), M, "EX[ack] T"), "(no more)\n");
-    assert_eq!(view(View::Words(0), M, "EX[ack] T"), "(no more)\n");
+    assert_eq!(view(View::Listing(Form::Aut), M, "EX[ack] T"), "des (0,0,1)\n");
+    assert_eq!(view(View::Listing(Form::Words(3)), M, "EX[ack] T"), "(no more)\n");
+    assert_eq!(view(View::Listing(Form::Words(0)), M, "EX[ack] T"), "(no more)\n");
 }
 
 #[test]
@@ -126,7 +235,7 @@ fn edges_between_the_same_rows_are_one_line_where_the_first_stands() {
      0     2     1
      0     3     0
 ";
-    let dot = view(View::Dot, table, "EU[*] EX[.] T");
+    let dot = view(View::Listing(Form::Dot), table, "EU[*] EX[.] T");
     let edges: Vec<&str> = dot.lines().filter(|line| line.starts_with("  0 ->")).collect();
     assert_eq!(
         edges,
@@ -136,7 +245,7 @@ fn edges_between_the_same_rows_are_one_line_where_the_first_stands() {
             r#"  0 -> 0 [label="a\nc"];"#
         ]
     );
-    let aut = view(View::Aut, table, "EU[*] EX[.] T");
+    let aut = view(View::Listing(Form::Aut), table, "EU[*] EX[.] T");
     let edges: Vec<&str> = aut.lines().filter(|line| line.starts_with("(0,")).collect();
     let steps = [("(silent)", 1), ("(silent)", 2), ("a", 0), ("b", 1), ("c", 0)];
     assert_eq!(edges, steps.map(|(name, target)| format!("(0,\"{name}\",{target})")));
@@ -150,16 +259,19 @@ fn the_internal_steps_of_the_aldebaran_format_are_written_in_brackets() {
     let steps: String =
         (1..=names.len()).map(|label| format!("     0{label:>6}     0\n")).collect();
     let table = format!("     1     6     6     0\n{lines}{steps}");
-    let aut = view(View::Aut, &table, "EX[*] T");
+    let aut = view(View::Listing(Form::Aut), &table, "EX[*] T");
     let written: Vec<&str> = aut.split('"').skip(1).step_by(2).collect();
     assert_eq!(written, ["(i)", "(tau)", "i!", "tau?", "ii", "taus", "(final)"]);
-    assert!(view(View::Dot, &table, "EX[*] T").contains(r#""i\ntau\ni!\ntau?\nii\ntaus""#));
-    assert!(view(View::Words(2), &table, "EX[*] T").starts_with("i\ntau\n"));
+    assert!(
+        view(View::Listing(Form::Dot), &table, "EX[*] T")
+            .contains(r#""i\ntau\ni!\ntau?\nii\ntaus""#)
+    );
+    assert!(view(View::Listing(Form::Words(2)), &table, "EX[*] T").starts_with("i\ntau\n"));
 }
 
 #[test]
 fn the_closing_line_tells_whether_words_follow() {
-    let words = |count, formula| view(View::Words(count), LOOPS, formula);
+    let words = |count, formula| view(View::Listing(Form::Words(count)), LOOPS, formula);
     assert_eq!(words(2, "EX[*] T"), "a\nb\n(more)\n");
     assert_eq!(words(3, "EX[*] T"), "a\nb\nc\n(no more)\n");
     assert_eq!(words(4, "EX[*] T"), "a\nb\nc\n(no more)\n");
@@ -169,7 +281,7 @@ fn the_closing_line_tells_whether_words_follow() {
     assert_eq!(words(1, "T"), "(empty)\n(no more)\n");
     assert_eq!(words(0, "T"), "(more)\n");
     assert_eq!(
-        view(View::Words(2), ONE_STATE, "EU[*] EX[.] T"),
+        view(View::Listing(Form::Words(2)), ONE_STATE, "EU[*] EX[.] T"),
         "(idle)\n(idle) (idle)\n(infinitely many more)\n"
     );
 }
@@ -187,7 +299,7 @@ fn words_of_one_length_rise_by_their_labels_and_each_stands_once() {
      2     2     3
 ";
     assert_eq!(
-        view(View::Words(9), table, "EU[*] EX[a] (T | EX[.] T | EX[.] EX[.] T)"),
+        view(View::Listing(Form::Words(9)), table, "EU[*] EX[a] (T | EX[.] T | EX[.] EX[.] T)"),
         "(silent) a
 z a
 (silent) a (idle)
@@ -210,14 +322,15 @@ fn a_silent_step_is_the_lowest_label_and_an_idle_step_the_highest() {
      2     1     3
 ";
     assert_eq!(
-        view(View::Words(9), table, "EX[a] (EX[a] T | EX[.] T)"),
+        view(View::Listing(Form::Words(9)), table, "EX[a] (EX[a] T | EX[.] T)"),
         "a (silent)\na a\na (idle)\n(no more)\n"
     );
 }
 
 #[test]
 fn a_refused_folder_has_no_view() {
-    for show in [View::Listing, View::Dot, View::Aut, View::Words(1)] {
+    let forms = [Form::Text, Form::Dot, Form::Aut, Form::Words(1)];
+    for show in forms.map(View::Listing).into_iter().chain(forms.map(View::Smallest)) {
         assert!(text(show, b"", b"T").is_err());
         assert!(text(show, M.as_bytes(), b"T | ~T").is_err());
     }
@@ -330,7 +443,7 @@ fn the_first_words_may_be_longer_than_the_bound_on_finitely_many() {
         (0..30).map(|from| format!("{from:>6}{:>6}{:>6}\n", 1 + from / 29, (from + 1) % 30));
     let names = "     1 a\n     2 b\n";
     let table = format!("    30     2    30     0\n{names}{}", steps.collect::<String>());
-    let words = view(View::Words(20), &table, "EU[*;b] T");
+    let words = view(View::Listing(Form::Words(20)), &table, "EU[*;b] T");
     let lengths: Vec<usize> = words.lines().map(|word| word.split(' ').count()).collect();
     assert_eq!(lengths[..20], (1..=20).map(|rounds| 30 * rounds).collect::<Vec<usize>>());
     assert!(words.ends_with(" b\n(infinitely many more)\n"));

@@ -20,5 +20,6 @@ pub mod words;
 pub mod edits;
 pub mod folders;
 pub mod lists;
+pub mod smallest;
 pub mod views;
 pub mod side_by_side;

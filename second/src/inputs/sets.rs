@@ -15,8 +15,9 @@ use crate::table::{IDLE, MAX_LABELS, MAX_STATES, MAX_TRANSITIONS, SILENT, Step, 
 use crate::tally::Expected;
 
 const PART: &str = "sets of rows";
+pub const LONG_LISTING: &str = "a chain of untils, over 65,535 edges";
 
-const QUESTIONS: [Way<(), Question>; 24] = [
+pub const QUESTIONS: [Way<(), Question>; 24] = [
     way("any, with many steps for its states", 60, &[0], |rng, ()| small(rng)),
     way("the same of up to 40 states", 15, &[0, 20], |rng, ()| {
         let states = rng.between(8, 40);
@@ -76,7 +77,7 @@ const QUESTIONS: [Way<(), Question>; 24] = [
     way("a line, 256 sets told apart by its end alone", 3, &[0], |rng, ()| line(rng, 256)),
     way("a line, 257 sets", 4, &[20], |rng, ()| line(rng, 257)),
     way("256 states, 1,024 transitions, 40 nodes, few rows", 2, &[0], |rng, ()| few_rows(rng)),
-    way("a chain of untils, over 65,535 edges", 1, &[0], |rng, ()| {
+    way(LONG_LISTING, 1, &[0], |rng, ()| {
         let states = rng.between(20, 40);
         chained(rng, states, 100)
     }),
@@ -383,13 +384,17 @@ pub fn question(rng: &mut Rng, kinds: &mut Kinds) -> Question {
     }
 }
 
+/// All that `note` must have seen.
+pub fn expected_signs() -> impl Iterator<Item = Expected> {
+    SIGNS.iter().map(|sign| must(SIGN, sign.name, &[0]))
+}
+
 /// All that `question` and `note` must have made. Most of the largest have too many sets.
 pub fn expected() -> Vec<Expected> {
-    let signs = SIGNS.iter().map(|sign| must(SIGN, sign.name, &[0]));
     let mut any = questions::expected();
     let largest = any.iter_mut().filter(|expected| expected.kind.name == questions::LARGEST);
     largest.for_each(|expected| expected.outcomes.clear());
-    any.into_iter().chain(kinds::expected(PART, &QUESTIONS)).chain(signs).collect()
+    any.into_iter().chain(kinds::expected(PART, &QUESTIONS)).chain(expected_signs()).collect()
 }
 
 #[cfg(test)]

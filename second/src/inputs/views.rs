@@ -9,7 +9,7 @@ use super::kinds::{Kinds, Way, pick, way};
 use super::questions::{Question, question, with_long_words};
 use super::rng::Rng;
 use super::tables::{Size, with_counts};
-use super::{formulas, tables, written};
+use super::{formulas, sets, tables, written};
 use crate::formula::Node;
 use crate::table::{Step, Table};
 
@@ -60,15 +60,25 @@ pub const LONGER: Way<(), Files> = way("longer when written back", 1, &[0], |rng
     Files { table: File::Holds(table.text()), formula: File::Holds(line) }
 });
 
+/// A folder by the sets of rows that its words lead to.
+pub const BY_SETS: Way<(), Files> = way("by its sets of rows", 1, &[0], |rng, ()| {
+    let way = &sets::QUESTIONS[rng.below(sets::QUESTIONS.len())];
+    let question = (way.make)(rng, &());
+    files(rng, question)
+});
+
 /// The same folder for the same seed and index, with its kind. One in five is made for a refusal,
-/// at which the numbers take turns, and one in 25 is longer when its formula is written back.
+/// at which the numbers take turns, one in 25 is longer when its formula is written back, and one in 25
+/// is made by its sets of rows.
 pub fn folder(seed: u64, index: u64) -> (&'static str, Files) {
     let rng = &mut Rng::of_input(seed, "views", index);
-    if index % 25 == 21 {
-        return (LONGER.name, (LONGER.make)(rng, &()));
-    }
-    if index % 5 < 4 {
-        let way = pick(rng, &WAYS);
+    let way = match (index % 25, index % 5) {
+        (21, _) => Some(&LONGER),
+        (12, _) => Some(&BY_SETS),
+        (_, 0..4) => Some(pick(rng, &WAYS)),
+        _ => None,
+    };
+    if let Some(way) = way {
         return (way.name, (way.make)(rng, &()));
     }
     let [_, refusals @ ..] = NUMBERS;
