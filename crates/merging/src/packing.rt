@@ -5,7 +5,7 @@ use deterministic::sizes::SETS;
 use tables::steps::wide;
 ghost use mathlib.Core.Path.{_≡_};
 ghost use mathlib.Core.Bool.{false, cond};
-ghost use Prim.Native.Nat.{ℕ, _+_, _*_, _<_, _≤_};
+ghost use Prim.Native.Nat.{_+_, _*_, _<_, _≤_};
 ghost use lib.ListN.{length, drop};
 ghost use Rattle.deterministic.specs.Sizes.{mostSets, mostLetters, workLength};
 ghost use Rattle.merging.specs.inner.Rounds.{Sized};

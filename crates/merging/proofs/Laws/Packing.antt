@@ -1,17 +1,15 @@
 -- Columns in bytes: one entry more, one column more, and the blocks that are looked up by them.
 use mathlib.Core.Path.{_≡_, refl, sym, ap, _∙_, subst}
 use mathlib.Core.Logic.{_⊎_, inl, inr}
-use mathlib.Core.Bool.{Bool, true, false, true≢false, cond}
+use mathlib.Core.Bool.{Bool, true, false, cond}
 use mathlib.Core.List.{List}
-use Prim.Native.Nat.{ℕ, suc, _+_, _*_, _/_, _%_, _<_, _≤_}
+use Prim.Native.Nat.{ℕ, _+_, _*_, _/_, _%_, _<_, _≤_}
 use native.Mathlib.Decide.{decLt}
 use native.Mathlib.Nat.{eq-or-lt-of-le}
 use native.Mathlib.Omega.{arith}
-use lib.Dec.{ltb}
-use lib.ListN.{length, take, getD, set, drop, length-set}
+use lib.ListN.{length, take, getD, set, length-set}
 use lib.Seq.{getD-set-same, getD-set-other, drop-set-lt}
 use borrow.Author.Tests.{lt-ltb, le-ltb}
-use Rattle.lts.specs.inner.Answers.{Decides}
 use Rattle.deterministic.specs.Sizes.{mostSets, mostLetters, workLength}
 use Rattle.merging.specs.inner.Rounds.{Sized, Ended, targetBlock, SameTargets}
 use Rattle.merging.specs.inner.Packed.{entryAt, EntryPut, targetIn, ColumnIs, Nowhere, ColumnTo, Packed, Ready, SameIn}
@@ -191,7 +189,8 @@ module _ (next : List ℕ) (n columns : ℕ) (b : List ℕ) (many : ℕ) (s : Si
       targets-of f i m = let (l, h, q) = p .of i m in looked-up i j l q h a ∙ (f l h ∙ sym (looked-up i k l q h d))
 
 -- One column more of two states.
-pub same-more : (b old : List ℕ) (i j k x y : ℕ) → SameIn b old i j k → x ≡ getD old (entryAt b (i * mostSets + j)) 0 → y ≡ getD old (entryAt b (i * mostSets + k)) 0 → x ≡ y → SameIn b old (i + 1) j k
+pub same-more : (b old : List ℕ) (i j k x y : ℕ) → SameIn b old i j k → x ≡ getD old (entryAt b (i * mostSets + j)) 0 → y ≡ getD old (entryAt b (i * mostSets + k)) 0
+    → x ≡ y → SameIn b old (i + 1) j k
 same-more b old i j k x y f a d e l h = case (eq-or-lt-of-le (omega arith))
   where
     case : (l ≡ i) ⊎ (l < i) → getD old (entryAt b (l * mostSets + j)) 0 ≡ getD old (entryAt b (l * mostSets + k)) 0

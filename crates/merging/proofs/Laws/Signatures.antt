@@ -5,7 +5,6 @@ use mathlib.Core.Bool.{Bool, true, false, true≢false, false≢true, Bool·beq,
 use mathlib.Core.List.{List, [], _∷_, List·Memᴰ, List·Memᴰ·head, List·Memᴰ·append-cases, List·Memᴰ·eq-of-singleton, Memᴰ·append-left, Memᴰ·append-right}
 use Prim.Native.Nat.{ℕ, _+_, _-_, _*_, _<_, _≤_}
 use native.Mathlib.Decide.{decLt}
-use native.Mathlib.Nat.{eq-or-lt-of-le}
 use native.Mathlib.Omega.{arith}
 use lib.ListN.{length, take, getD, List·getD-eq-default}
 use lib.Seq.{length-take-le, getD-take}
@@ -15,7 +14,7 @@ use Rattle.lts.specs.inner.Lists.{upFrom}
 use Rattle.deterministic.specs.Sizes.{mostLetters}
 use Rattle.deterministic.specs.inner.Blocks.{Table, blockOf, signature}
 use Rattle.deterministic.specs.inner.Arrays.{letters, columnFor, arrayTable}
-use Rattle.merging.specs.inner.Rounds.{targetBlock, SameTargets}
+use Rattle.merging.specs.inner.Rounds.{SameTargets}
 use Rattle.lts.proofs.Lists.{upFrom-of, upFrom-to}
 use Rattle.lts.proofs.Laws.Compare.{getD-any}
 use Rattle.deterministic.proofs.ListLaws.{map-same}

@@ -1,5 +1,4 @@
 -- `merge` meets its contract: the columns are packed, and the blocks settled over them.
-use borrow.Author.Needs.{needs}
 use Rattle.merging.proofs.merge.Statement.{statement}
 use Rattle.merging.proofs.merge.Tie as tie
 use native.Mathlib.Omega.{arith}
