@@ -229,6 +229,20 @@ fn with_edges(shown: &mut Shown, change: impl Fn(DotEdge) -> Vec<String>) {
     shown.lines = lines.collect();
 }
 
+fn stand_apart(shown: &mut Shown) {
+    with_edges(shown, |DotEdge { rows, names }| {
+        let apart = |name| DotEdge { rows, names: vec![name] }.line();
+        names.into_iter().map(apart).collect()
+    });
+}
+
+fn names_fall(shown: &mut Shown) {
+    with_edges(shown, |mut edge| {
+        edge.names.reverse();
+        vec![edge.line()]
+    });
+}
+
 #[test]
 fn faults_in_graphs_are_found() {
     are_found(
@@ -255,18 +269,8 @@ fn faults_in_graphs_are_found() {
                     are_joined
                 });
             }),
-            ("edges between the same rows stand apart", |shown| {
-                with_edges(shown, |DotEdge { rows, names }| {
-                    let apart = |name| DotEdge { rows, names: vec![name] }.line();
-                    names.into_iter().map(apart).collect()
-                });
-            }),
-            ("the names of one edge fall", |shown| {
-                with_edges(shown, |mut edge| {
-                    edge.names.reverse();
-                    vec![edge.line()]
-                });
-            }),
+            ("edges between the same rows stand apart", stand_apart),
+            ("the names of one edge fall", names_fall),
             ("joined edges stand behind the others of their row", |shown| {
                 let row =
                     |line: &str| DotEdge::of(line).and_then(|edge| edge.row().map(String::from));
@@ -429,18 +433,8 @@ fn faults_in_views_of_smallest_automata_are_found() {
                 }
             }),
             ("final states have no ring", |shown| shown.replace(", shape=doublecircle", "")),
-            ("edges between the same states stand apart", |shown| {
-                with_edges(shown, |DotEdge { rows, names }| {
-                    let apart = |name| DotEdge { rows, names: vec![name] }.line();
-                    names.into_iter().map(apart).collect()
-                });
-            }),
-            ("the names of one edge fall", |shown| {
-                with_edges(shown, |mut edge| {
-                    edge.names.reverse();
-                    vec![edge.line()]
-                });
-            }),
+            ("edges between the same states stand apart", stand_apart),
+            ("the names of one edge fall", names_fall),
         ],
     );
     are_found(
