@@ -16,20 +16,20 @@ bit true = 1
 bit false = 0
 
 -- A label's bit in front of the lower ones.
-cond-bit : (t : Bool) (m p : ℕ) → m + cond t p 0 ≡ bit t * p + m
-cond-bit true m p = omega arith
-cond-bit false m p = omega arith
+cond_bit : (t : Bool) (m p : ℕ) → m + cond t p 0 ≡ bit t * p + m
+cond_bit true m p = omega arith
+cond_bit false m p = omega arith
 
-bit-or : (t u : Bool) → bit (t || u) ≡ bit_or (bit t) (bit u)
-bit-or true true = refl
-bit-or true false = refl
-bit-or false true = refl
-bit-or false false = refl
+bit_or_lem : (t u : Bool) → bit (t || u) ≡ bit_or (bit t) (bit u)
+bit_or_lem true true = refl
+bit_or_lem true false = refl
+bit_or_lem false true = refl
+bit_or_lem false false = refl
 
 module _ (d : ℕ → Direction) where
   mask_step : (n : ℕ) (x : Action) → mask_of d (suc n) x ≡ bit (satisfies d (suc n) x) * 2 ^ suc n + mask_of d n x
   unfolding mask_of
-  mask_step n x = cond-bit (satisfies d (suc n) x) (mask_of d n x) (2 ^ suc n)
+  mask_step n x = cond_bit (satisfies d (suc n) x) (mask_of d n x) (2 ^ suc n)
 
   pub mask_below : (n : ℕ) (x : Action) → mask_of d n x < 2 ^ suc n
   unfolding mask_of
@@ -41,9 +41,9 @@ module _ (d : ℕ → Direction) where
       case false h = omega (arith, two-pow-succ (suc n))
 
   -- One label more.
-  pub mask-none-yet : (x : Action) → 0 ≡ mask_of d 0 x
+  pub mask-none_yet : (x : Action) → 0 ≡ mask_of d 0 x
   unfolding mask_of
-  mask-none-yet x = refl
+  mask-none_yet x = refl
 
   pub mask-more : (n : ℕ) (x : Action) → mask_of d n x + cond (satisfies d (suc n) x) (2 ^ suc n) 0 ≡ mask_of d (suc n) x
   unfolding mask_of
@@ -57,10 +57,10 @@ module _ (d : ℕ → Direction) where
   mask-any zero = refl
   mask-any (suc n) = omega (arith, mask-any n, two-pow-succ (suc n))
 
-  pub mask-complement : (n : ℕ) (x : Action) → mask_of d n (Action.not x) + mask_of d n x ≡ mask_of d n Action.any
+  pub mask_complement : (n : ℕ) (x : Action) → mask_of d n (Action.not x) + mask_of d n x ≡ mask_of d n Action.any
   unfolding mask_of
-  mask-complement zero x = refl
-  mask-complement (suc n) x = case (satisfies d (suc n) x) (mask-complement n x)
+  mask_complement zero x = refl
+  mask_complement (suc n) x = case (satisfies d (suc n) x) (mask_complement n x)
     where
       case : (t : Bool) → mask_of d n (Action.not x) + mask_of d n x ≡ mask_of d n Action.any
           → mask_of d n (Action.not x) + cond (not t) (2 ^ suc n) 0 + (mask_of d n x + cond t (2 ^ suc n) 0) ≡ mask_of d n Action.any + 2 ^ suc n
@@ -73,7 +73,7 @@ module _ (d : ℕ → Direction) where
       let t = satisfies d (suc n) x in
       let u = satisfies d (suc n) y in
       mask_step n (Action.or x y)
-      ∙ (rw (bit-or t u, mask-union n x y, mask_step n x, mask_step n y) (sym (or_block (suc n) (bit t) (bit u) (mask_of d n x) (mask_of d n y) (mask_below n x) (mask_below n y))))
+      ∙ (rw (bit_or_lem t u, mask-union n x y, mask_step n x, mask_step n y) (sym (or_block (suc n) (bit t) (bit u) (mask_of d n x) (mask_of d n y) (mask_below n x) (mask_below n y))))
 
   -- A label that is none of 1 to n, and one that is.
   pub mask-none : (n a : ℕ) → ((k : ℕ) → 1 ≤ k → k ≤ n → k ≡ a → ⊥) → mask_of d n (Action.label a) ≡ 0

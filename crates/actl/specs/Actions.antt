@@ -1,7 +1,7 @@
 -- Definition 2 of document 000: action formulas; sets of labels as masks; step conditions. d gives the direction of each label.
 use Rattle.std.specs.Prelude.{Bool, true, false, cond, not as negate, ◌&&◌, ◌||◌, ℕ, zero, suc, ◌+◌, ◌/◌, ◌%◌, ◌^◌, eqb}
 use Rattle.lts.specs.Steps.{silent as isSilent}
-use Rattle.lts.specs.Directions.{Direction, sameDirection}
+use Rattle.lts.specs.Directions.{Direction, same_direction}
 
 -- χ ::= a | ¬χ | χ ∨ χ, over label numbers. `any` is 01's `*`, Definition 2's "true". 02: "an operand `?` is all received labels and an
 -- operand `!` all sent ones".
@@ -16,7 +16,7 @@ pub data Action : Type 0 where
 abbrev pub satisfies : (ℕ → Direction) → ℕ → Action → Bool
 satisfies d a (label b) = eqb a b
 satisfies d a any = true
-satisfies d a (directed w) = sameDirection (d a) w
+satisfies d a (directed w) = same_direction (d a) w
 satisfies d a (not x) = negate (satisfies d a x)
 satisfies d a (or x y) = satisfies d a x || satisfies d a y
 

@@ -9,7 +9,7 @@ use Rattle.actl.specs.Grammatical.{Text}
 pub data BaseHead : Type 0 where
   next : Quantifier → ℕ → ℕ → Condition → ℕ → BaseHead
   until : ℕ → ℕ → Set → ℕ → BaseHead
-  untilThen : ℕ → ℕ → Set → ℕ → ℕ → Set → ℕ → BaseHead
+  until_then : ℕ → ℕ → Set → ℕ → ℕ → Set → ℕ → BaseHead
 
 mutual
   -- 01: "A formula is one or more terms joined by `|`, grouped from the left."
@@ -25,21 +25,21 @@ mutual
     paren : ℕ → Base → ℕ → BaseTerm
 
 -- The same tree among those of Grammar.antt.
-abbrev pub typedHead : BaseHead → Head
-typedHead (next q a b c d) = Head.next q a b c d
-typedHead (until a b x d) = Head.until a b x d
-typedHead (untilThen a b x c d y e) = Head.untilThen a b x c d y e
+abbrev pub typed_head : BaseHead → Head
+typed_head (next q a b c d) = Head.next q a b c d
+typed_head (until a b x d) = Head.until a b x d
+typed_head (until_then a b x c d y e) = Head.until_then a b x c d y e
 
 abbrev mutual
   pub typed : Base → Disjunction
-  typed (term t) = Disjunction.conjunction (Conjunction.term (typedTerm t))
-  typed (or f a b t) = Disjunction.or (typed f) a b (Conjunction.term (typedTerm t))
+  typed (term t) = Disjunction.conjunction (Conjunction.term (typed_term t))
+  typed (or f a b t) = Disjunction.or (typed f) a b (Conjunction.term (typed_term t))
 
-  pub typedTerm : BaseTerm → Term
-  typedTerm tru = Term.tru
-  typedTerm (not a t) = Term.not a (typedTerm t)
-  typedTerm (modal h a t) = Term.modal (typedHead h) a (typedTerm t)
-  typedTerm (paren a f b) = Term.paren a (typed f) b
+  pub typed_term : BaseTerm → Term
+  typed_term tru = Term.tru
+  typed_term (not a t) = Term.not a (typed_term t)
+  typed_term (modal h a t) = Term.modal (typed_head h) a (typed_term t)
+  typed_term (paren a f b) = Term.paren a (typed f) b
 
 -- f is the tree of the text s in the base notation.
 abbrev pub BaseText : Marks → List ℕ → Base → Type 0

@@ -2,11 +2,11 @@
 -- made of. `piecesX x l` are x's pieces with l behind them. WrittenOut.antt says what the short forms stand for.
 use Rattle.std.specs.Prelude.{◌≡◌, true, List, [], ◌∷◌, ℕ, zero, suc}
 use Rattle.lts.specs.Lists.{bind}
-use Rattle.lts.specs.Names.{isName}
+use Rattle.lts.specs.Names.{is_name}
 
 pub record Name : Type 0 where
   pub bytes : List ℕ
-  pub fits : isName bytes ≡ true
+  pub fits : is_name bytes ≡ true
 
 -- Each ℕ is a number of blanks. 01: "Blanks may stand between tokens, never inside one, before the first or after the last."
 mutual
@@ -35,7 +35,7 @@ pub data Quantifier : Type 0 where
 pub data Head : Type 0 where
   next : Quantifier → ℕ → ℕ → Condition → ℕ → Head
   until : ℕ → ℕ → Set → ℕ → Head
-  untilThen : ℕ → ℕ → Set → ℕ → ℕ → Set → ℕ → Head
+  until_then : ℕ → ℕ → Set → ℕ → ℕ → Set → ℕ → Head
   reach : Quantifier → Head
   labelled : Quantifier → ℕ → ℕ → Set → ℕ → Head
 
@@ -73,54 +73,54 @@ blanks zero l = l
 blanks (suc n) l = byte 32 ∷ blanks n l
 
 abbrev mutual
-  pub piecesS : Set → List Piece → List Piece
-  piecesS (operand o) l = piecesO o l
-  piecesS (union x a b o) l = piecesS x (blanks a (byte 124 ∷ blanks b (piecesO o l)))
+  pub pieces_s : Set → List Piece → List Piece
+  pieces_s (operand o) l = pieces_o o l
+  pieces_s (union x a b o) l = pieces_s x (blanks a (byte 124 ∷ blanks b (pieces_o o l)))
 
-  pub piecesO : Operand → List Piece → List Piece
-  piecesO (name n) l = named n ∷ l
-  piecesO any l = byte 42 ∷ l
-  piecesO received l = byte 63 ∷ l
-  piecesO sent l = byte 33 ∷ l
-  piecesO (except a o) l = byte 126 ∷ blanks a (piecesO o l)
-  piecesO (group a x b) l = byte 40 ∷ blanks a (piecesS x (blanks b (byte 41 ∷ l)))
+  pub pieces_o : Operand → List Piece → List Piece
+  pieces_o (name n) l = named n ∷ l
+  pieces_o any l = byte 42 ∷ l
+  pieces_o received l = byte 63 ∷ l
+  pieces_o sent l = byte 33 ∷ l
+  pieces_o (except a o) l = byte 126 ∷ blanks a (pieces_o o l)
+  pieces_o (group a x b) l = byte 40 ∷ blanks a (pieces_s x (blanks b (byte 41 ∷ l)))
 
-abbrev pub piecesC : Condition → List Piece → List Piece
-piecesC dot l = byte 46 ∷ l
-piecesC (set x) l = piecesS x l
+abbrev pub pieces_c : Condition → List Piece → List Piece
+pieces_c dot l = byte 46 ∷ l
+pieces_c (set x) l = pieces_s x l
 
 -- 01: "Tokens are the keywords EX, AX and EU"
-abbrev pub piecesQ : Quantifier → List Piece → List Piece
-piecesQ existential l = byte 69 ∷ byte 88 ∷ l
-piecesQ universal l = byte 65 ∷ byte 88 ∷ l
+abbrev pub pieces_q : Quantifier → List Piece → List Piece
+pieces_q existential l = byte 69 ∷ byte 88 ∷ l
+pieces_q universal l = byte 65 ∷ byte 88 ∷ l
 
 -- 02: EF and AG, DIA and BOX
-abbrev pub piecesR : Quantifier → List Piece → List Piece
-piecesR existential l = byte 69 ∷ byte 70 ∷ l
-piecesR universal l = byte 65 ∷ byte 71 ∷ l
+abbrev pub pieces_r : Quantifier → List Piece → List Piece
+pieces_r existential l = byte 69 ∷ byte 70 ∷ l
+pieces_r universal l = byte 65 ∷ byte 71 ∷ l
 
-abbrev pub piecesL : Quantifier → List Piece → List Piece
-piecesL existential l = byte 68 ∷ byte 73 ∷ byte 65 ∷ l
-piecesL universal l = byte 66 ∷ byte 79 ∷ byte 88 ∷ l
+abbrev pub pieces_l : Quantifier → List Piece → List Piece
+pieces_l existential l = byte 68 ∷ byte 73 ∷ byte 65 ∷ l
+pieces_l universal l = byte 66 ∷ byte 79 ∷ byte 88 ∷ l
 
-abbrev pub piecesH : Head → List Piece → List Piece
-piecesH (next q a b c d) l = piecesQ q (blanks a (byte 91 ∷ blanks b (piecesC c (blanks d (byte 93 ∷ l)))))
-piecesH (until a b x d) l = byte 69 ∷ byte 85 ∷ blanks a (byte 91 ∷ blanks b (piecesS x (blanks d (byte 93 ∷ l))))
-piecesH (untilThen a b x c d y e) l = byte 69 ∷ byte 85 ∷ blanks a (byte 91 ∷ blanks b (piecesS x (blanks c (byte 59 ∷ blanks d (piecesS y (blanks e (byte 93 ∷ l)))))))
-piecesH (reach q) l = piecesR q l
-piecesH (labelled q a b x d) l = piecesL q (blanks a (byte 91 ∷ blanks b (piecesS x (blanks d (byte 93 ∷ l)))))
+abbrev pub pieces_h : Head → List Piece → List Piece
+pieces_h (next q a b c d) l = pieces_q q (blanks a (byte 91 ∷ blanks b (pieces_c c (blanks d (byte 93 ∷ l)))))
+pieces_h (until a b x d) l = byte 69 ∷ byte 85 ∷ blanks a (byte 91 ∷ blanks b (pieces_s x (blanks d (byte 93 ∷ l))))
+pieces_h (until_then a b x c d y e) l = byte 69 ∷ byte 85 ∷ blanks a (byte 91 ∷ blanks b (pieces_s x (blanks c (byte 59 ∷ blanks d (pieces_s y (blanks e (byte 93 ∷ l)))))))
+pieces_h (reach q) l = pieces_r q l
+pieces_h (labelled q a b x d) l = pieces_l q (blanks a (byte 91 ∷ blanks b (pieces_s x (blanks d (byte 93 ∷ l)))))
 
 abbrev mutual
-  pub piecesF : Disjunction → List Piece → List Piece
-  piecesF (conjunction c) l = piecesA c l
-  piecesF (or f a b c) l = piecesF f (blanks a (byte 124 ∷ blanks b (piecesA c l)))
+  pub pieces_f : Disjunction → List Piece → List Piece
+  pieces_f (conjunction c) l = pieces_a c l
+  pieces_f (or f a b c) l = pieces_f f (blanks a (byte 124 ∷ blanks b (pieces_a c l)))
 
-  pub piecesA : Conjunction → List Piece → List Piece
-  piecesA (term t) l = piecesT t l
-  piecesA (and c a b t) l = piecesA c (blanks a (byte 38 ∷ blanks b (piecesT t l)))
+  pub pieces_a : Conjunction → List Piece → List Piece
+  pieces_a (term t) l = pieces_t t l
+  pieces_a (and c a b t) l = pieces_a c (blanks a (byte 38 ∷ blanks b (pieces_t t l)))
 
-  pub piecesT : Term → List Piece → List Piece
-  piecesT tru l = byte 84 ∷ l
-  piecesT (not a t) l = byte 126 ∷ blanks a (piecesT t l)
-  piecesT (modal h a t) l = piecesH h (blanks a (piecesT t l))
-  piecesT (paren a f b) l = byte 40 ∷ blanks a (piecesF f (blanks b (byte 41 ∷ l)))
+  pub pieces_t : Term → List Piece → List Piece
+  pieces_t tru l = byte 84 ∷ l
+  pieces_t (not a t) l = byte 126 ∷ blanks a (pieces_t t l)
+  pieces_t (modal h a t) l = pieces_h h (blanks a (pieces_t t l))
+  pieces_t (paren a f b) l = byte 40 ∷ blanks a (pieces_f f (blanks b (byte 41 ∷ l)))

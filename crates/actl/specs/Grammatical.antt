@@ -2,13 +2,13 @@
 use Rattle.std.specs.Prelude.{◌≡◌, true, List, [], ◌++◌, ℕ, ◌≤◌, length, take}
 use Rattle.lts.specs.Lists.{every}
 use Rattle.lts.specs.Marks.{Marks}
-use Rattle.actl.specs.Grammar.{Disjunction, piecesF, text_of}
-use Rattle.actl.specs.Marks.{fitsPiece}
+use Rattle.actl.specs.Grammar.{Disjunction, pieces_f, text_of}
+use Rattle.actl.specs.Marks.{fits_piece}
 
 -- f is the tree of the text s.
 pub record Text (m : Marks) (s : List ℕ) (f : Disjunction) : Type 0 where
-  pub fits : every (fitsPiece m) (piecesF f []) ≡ true
-  pub shows : text_of (piecesF f []) ≡ s
+  pub fits : every (fits_piece m) (pieces_f f []) ≡ true
+  pub shows : text_of (pieces_f f []) ≡ s
 
 abbrev pub Grammatical : Marks → List ℕ → Type 0
 Grammatical m s = (f : Disjunction) × Text m s f

@@ -2,15 +2,15 @@
 use Rattle.std.specs.Prelude.{ℕ, suc, ◌*◌}
 
 -- 01: "At most 512 bytes"; "there are at most 40" nodes
-abbrev pub longestText : ℕ
-longestText = 512
+abbrev pub longest_text : ℕ
+longest_text = 512
 
-abbrev pub mostNodes : ℕ
-mostNodes = 40
+abbrev pub most_nodes : ℕ
+most_nodes = 40
 
 -- A prepared formula: the count of nodes, node slots.
-abbrev pub nodeSlotLength : ℕ
-nodeSlotLength = 17
+abbrev pub node_slot_length : ℕ
+node_slot_length = 17
 
-abbrev pub formulaLength : ℕ
-formulaLength = suc (mostNodes * nodeSlotLength)
+abbrev pub formula_length : ℕ
+formula_length = suc (most_nodes * node_slot_length)

@@ -6,16 +6,16 @@ use Prim.Native.Nat.{ℕ}
 use native.Mathlib.Omega.{arith}
 use Rattle.columns.specs.Ascii.{ascii}
 use Rattle.lts.specs.Steps.{Step, Table, silent}
-use Rattle.lts.specs.inner.Steps.{stepsFrom}
+use Rattle.lts.specs.inner.Steps.{steps_from}
 use Rattle.lts.proofs.Examples.{M, step}
 use Rattle.actl.specs.Actions.{silent as silentStep, labels, in_set, meets, passes}
-use Rattle.actl.specs.Formulas.{Formula, tru, or, ex, eu, euThen, class_of}
+use Rattle.actl.specs.Formulas.{Formula, tru, or, ex, eu, eu_then, class_of}
 use Rattle.satisfaction.specs.inner.Holds.{holds, within}
-use Rattle.automaton.specs.inner.Search.{finalOf, final, leadsOf, leads, targets, canFinish, number_of, movesToAmong, movesOnAmong, movesFromAmong, visit, visits}
-use Rattle.automaton.specs.inner.Search.{expandAmong, searchAmong, positionsAmong, movesUptoAmong, listing}
+use Rattle.automaton.specs.inner.Search.{final_of, final, leads_of, leads, targets, can_finish, number_of, moves_to_among, moves_on_among, moves_from_among, visit, visits}
+use Rattle.automaton.specs.inner.Search.{expand_among, search_among, positions_among, moves_upto_among, listing}
 use Rattle.automaton.specs.Listing.{Row, Edge, Listing}
-use Rattle.automaton.specs.inner.DeadEnds.{wholeListing, dropDeadEnds, rowFinishes}
-use Rattle.automaton.specs.inner.Words.{acceptsFrom, accepts}
+use Rattle.automaton.specs.inner.DeadEnds.{whole_listing, drop_dead_ends, row_finishes}
+use Rattle.automaton.specs.inner.Words.{accepts_from, accepts}
 use Rattle.automaton.specs.AcceptsBytes.{AcceptsBytes}
 
 -- One state with loops a, b, c (labels 1, 2, 3).
@@ -31,32 +31,32 @@ loops = record {
 abbrev pub either : Formula
 either = or (or (ex (labels 4) tru) (ex (labels 8) tru)) (ex (labels 2) (ex (labels 4) tru))
 
-accepts-a-b : accepts loops either (1 ∷ 2 ∷ []) ≡ true
-unfolding acceptsFrom final finalOf targets leads leadsOf stepsFrom meets in_set silent
-accepts-a-b = refl
+accepts_a_b : accepts loops either (1 ∷ 2 ∷ []) ≡ true
+unfolding accepts_from final final_of targets leads leads_of steps_from meets in_set silent
+accepts_a_b = refl
 
-never-a-c : accepts loops either (1 ∷ 3 ∷ []) ≡ false
-unfolding acceptsFrom final finalOf targets leads leadsOf stepsFrom meets in_set silent
-never-a-c = refl
+never_a_c : accepts loops either (1 ∷ 3 ∷ []) ≡ false
+unfolding accepts_from final final_of targets leads leads_of steps_from meets in_set silent
+never_a_c = refl
 
 -- A class 1 formula that does not hold has one bare row.
 abbrev bare : Listing
 bare = record { rows = record { place = 0; state = 0; final = false } ∷ []; edges = [] }
 
-one-bare-row : listing M (euThen 6 0 tru) ≡ bare
-unfolding listing positionsAmong searchAmong expandAmong visits visit movesUptoAmong movesFromAmong movesOnAmong movesToAmong number_of canFinish targets leads leadsOf
-    final finalOf holds within stepsFrom meets passes in_set class_of silent
+one-bare-row : listing M (eu_then 6 0 tru) ≡ bare
+unfolding listing positions_among search_among expand_among visits visit moves_upto_among moves_from_among moves_on_among moves_to_among number_of can_finish targets leads leads_of
+    final final_of holds within steps_from meets passes in_set class_of silent
 one-bare-row = refl
 
 -- Two rows and one edge in lent places, as AX[ack] T leaves them on M: word 1 is accepted, and the empty word is not.
 abbrev AcceptedOnM : List ℕ → Type 0
 AcceptedOnM w = AcceptsBytes (record { rows = 2; edges = 1 }) (0 ∷ 0 ∷ 0 ∷ 2 ∷ 1 ∷ 1 ∷ []) (0 ∷ 0 ∷ 1 ∷ 1 ∷ 0 ∷ []) w
 
-word-in-bytes : AcceptedOnM (1 ∷ [])
-word-in-bytes = (omega arith, (0, 1, omega arith, refl, (omega arith, refl)))
+word_in_bytes : AcceptedOnM (1 ∷ [])
+word_in_bytes = (omega arith, (0, 1, omega arith, refl, (omega arith, refl)))
 
-empty-word-not : AcceptedOnM [] → ⊥
-empty-word-not (b, e) = omega (arith, e)
+empty_word_not : AcceptedOnM [] → ⊥
+empty_word_not (b, e) = omega (arith, e)
 
 -- From state 0 label a (1) leads to states 1 and 2, and only state 1 has a step b (2): for EX[a] EX[b] T state 2 is a dead end. Row 2 is dropped,
 -- and row 3 becomes row 2.
@@ -68,8 +68,8 @@ fork = record {
   start = 0;
 }
 
-abbrev aThenB : Formula
-aThenB = ex (labels 2) (ex (labels 4) tru)
+abbrev a_then_b : Formula
+a_then_b = ex (labels 2) (ex (labels 4) tru)
 
 abbrev pub row : ℕ → ℕ → Bool → Row
 row k s b = record { place = k; state = s; final = b }
@@ -77,13 +77,13 @@ row k s b = record { place = k; state = s; final = b }
 abbrev pub edge : ℕ → ℕ → ℕ → Edge
 edge i l j = record { row = i; label = l; target = j }
 
-abbrev forkWhole : Listing
-forkWhole = record { rows = row 0 0 false ∷ row 1 1 false ∷ row 1 2 false ∷ row 2 1 true ∷ []; edges = edge 0 1 1 ∷ edge 0 1 2 ∷ edge 1 2 3 ∷ [] }
+abbrev fork_whole : Listing
+fork_whole = record { rows = row 0 0 false ∷ row 1 1 false ∷ row 1 2 false ∷ row 2 1 true ∷ []; edges = edge 0 1 1 ∷ edge 0 1 2 ∷ edge 1 2 3 ∷ [] }
 
-fork-whole : wholeListing fork aThenB ≡ forkWhole
-unfolding positionsAmong searchAmong expandAmong visits visit movesUptoAmong movesFromAmong movesOnAmong movesToAmong number_of targets leads leadsOf final finalOf stepsFrom meets in_set silent
-fork-whole = refl
+fork_whole_lem : whole_listing fork a_then_b ≡ fork_whole
+unfolding positions_among search_among expand_among visits visit moves_upto_among moves_from_among moves_on_among moves_to_among number_of targets leads leads_of final final_of steps_from meets in_set silent
+fork_whole_lem = refl
 
-fork-dropped : dropDeadEnds (rowFinishes fork aThenB) forkWhole ≡ record { rows = row 0 0 false ∷ row 1 1 false ∷ row 2 1 true ∷ []; edges = edge 0 1 1 ∷ edge 1 2 2 ∷ [] }
-unfolding canFinish holds within stepsFrom meets in_set class_of silent
-fork-dropped = refl
+fork_dropped : drop_dead_ends (row_finishes fork a_then_b) fork_whole ≡ record { rows = row 0 0 false ∷ row 1 1 false ∷ row 2 1 true ∷ []; edges = edge 0 1 1 ∷ edge 1 2 2 ∷ [] }
+unfolding can_finish holds within steps_from meets in_set class_of silent
+fork_dropped = refl

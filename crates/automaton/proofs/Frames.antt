@@ -5,10 +5,10 @@ use mathlib.Core.Logic.{◌⊎◌, inl, inr}
 use mathlib.Core.Bool.{true, false}
 use Prim.Native.Nat.{ℕ, suc, ◌+◌}
 use Rattle.actl.specs.Actions.{Mask, in_set, Cond, meets, passes}
-use Rattle.actl.specs.Formulas.{Formula, tru, not, or, ex, ax, eu, euThen, size, isT, At, root, in-not, in_left, in_right, in-ex, in-ax, in-eu, in-euThen}
-use Rattle.actl.proofs.Nodes.{at-fun, at-end}
-use Rattle.actl.proofs.Subformulas.{at-cast}
-use Rattle.actl.proofs.Classes.{Witnessable, Refutable, arm-refutable}
+use Rattle.actl.specs.Formulas.{Formula, tru, not, or, ex, ax, eu, eu_then, size, is_t, At, root, in_not, in_left, in_right, in_ex, in_ax, in_eu, in_eu_then}
+use Rattle.actl.proofs.Nodes.{at_fun, at-end}
+use Rattle.actl.proofs.Subformulas.{at_cast}
+use Rattle.actl.proofs.Classes.{Witnessable, Refutable, arm_refutable}
 use Rattle.automaton.specs.Places.{FreeOf, StepOf, FreeMove, StepMove}
 
 pub record Frame : Type 1 where
@@ -31,16 +31,16 @@ abbrev mutual
   Shows (ex c f) M w = (x : M.Next w) × (meets c (M.lab w x) ≡ true) × Shows f M (M.to w x)
   Shows (ax c f) M w = ⊥
   Shows (eu a f) M w = Until M a (λ v. Shows f M v) w
-  Shows (euThen a b f) M w = Until M a (λ v. (x : M.Next v) × (in_set b (M.lab v x) ≡ true) × Shows f M (M.to v x)) w
+  Shows (eu_then a b f) M w = Until M a (λ v. (x : M.Next v) × (in_set b (M.lab v x) ≡ true) × Shows f M (M.to v x)) w
 
   pub Breaks : Formula → (M : Frame) → M.World → Type 0
   Breaks tru M w = ⊥
   Breaks (not f) M w = Shows f M w
   Breaks (or f g) M w = ⊥
   Breaks (ex c f) M w = ⊥
-  Breaks (ax c f) M w = ((x : M.Next w) × (meets c (M.lab w x) ≡ false) × M.Done (M.to w x)) ⊎ ((x : M.Next w) × (isT f ≡ false) × (meets c (M.lab w x) ≡ true) × Breaks f M (M.to w x))
+  Breaks (ax c f) M w = ((x : M.Next w) × (meets c (M.lab w x) ≡ false) × M.Done (M.to w x)) ⊎ ((x : M.Next w) × (is_t f ≡ false) × (meets c (M.lab w x) ≡ true) × Breaks f M (M.to w x))
   Breaks (eu a f) M w = ⊥
-  Breaks (euThen a b f) M w = ⊥
+  Breaks (eu_then a b f) M w = ⊥
 
 -- The automaton along a frame, a move at a time.
 pub data Finishes (M : Frame) (F : Formula) : ℕ → M.World → Type 0 where
@@ -53,27 +53,27 @@ abbrev pub Means : (M : Frame) → Formula → M.World → Type 0
 Means M f w = (Witnessable f → Shows f M w) × (Refutable f → Breaks f M w)
 
 module _ {M : Frame} {F : Formula} where
-  free-sound : (f : Formula) {k q : ℕ} (w : M.World) → At F k f → FreeOf f k q → ((g : Formula) → At F q g → Means M g w) → Means M f w
-  free-sound tru w h z ih = absurd z
-  free-sound (not f) w h e ih = let g = ih f (at-cast e (in-not h)) in (g.1, g.0)
-  free-sound (or f g) w h (inl e) ih = (λ o. inl ((ih f (at-cast e (in_left h))).0 o.0), λ z. absurd z)
-  free-sound (or f g) w h (inr e) ih = (λ o. inr ((ih g (at-cast e (in_right h))).0 o.1), λ z. absurd z)
-  free-sound (ex c f) w h z ih = absurd z
-  free-sound (ax c f) w h z ih = absurd z
-  free-sound (eu a f) w h e ih = (λ o. now ((ih f (at-cast e (in-eu h))).0 o), λ z. absurd z)
-  free-sound (euThen a b f) w h z ih = absurd z
+  free_sound : (f : Formula) {k q : ℕ} (w : M.World) → At F k f → FreeOf f k q → ((g : Formula) → At F q g → Means M g w) → Means M f w
+  free_sound tru w h z ih = absurd z
+  free_sound (not f) w h e ih = let g = ih f (at_cast e (in_not h)) in (g.1, g.0)
+  free_sound (or f g) w h (inl e) ih = (λ o. inl ((ih f (at_cast e (in_left h))).0 o.0), λ z. absurd z)
+  free_sound (or f g) w h (inr e) ih = (λ o. inr ((ih g (at_cast e (in_right h))).0 o.1), λ z. absurd z)
+  free_sound (ex c f) w h z ih = absurd z
+  free_sound (ax c f) w h z ih = absurd z
+  free_sound (eu a f) w h e ih = (λ o. now ((ih f (at_cast e (in_eu h))).0 o), λ z. absurd z)
+  free_sound (eu_then a b f) w h z ih = absurd z
 
-  step-sound : (f : Formula) {k q : ℕ} (w : M.World) (x : M.Next w) → At F k f → StepOf f (size F) k (M.lab w x) q
+  step_sound : (f : Formula) {k q : ℕ} (w : M.World) (x : M.Next w) → At F k f → StepOf f (size F) k (M.lab w x) q
       → (q ≡ size F → M.Done (M.to w x)) → ((g : Formula) → At F q g → Means M g (M.to w x)) → Means M f w
-  step-sound tru w x h z en ih = absurd z
-  step-sound (not f) w x h z en ih = absurd z
-  step-sound (or f g) w x h z en ih = absurd z
-  step-sound (ex c f) w x h m en ih = (λ o. (x, m.0, (ih f (at-cast m.1 (in-ex h))).0 o), λ z. absurd z)
-  step-sound (ax c f) w x h (inl m) en ih = (λ z. absurd z, λ o. inl (x, m.0, en m.1))
-  step-sound (ax c f) w x h (inr m) en ih = (λ z. absurd z, λ o. inr (x, m.1, m.0, (ih f (at-cast m.2 (in-ax h))).1 (arm-refutable f m.1 o)))
-  step-sound (eu a f) w x h m en ih = (λ o. later x m.0 ((ih (eu a f) (at-cast m.1 h)).0 o), λ z. absurd z)
-  step-sound (euThen a b f) w x h (inl m) en ih = (λ o. later x m.0 ((ih (euThen a b f) (at-cast m.1 h)).0 o), λ z. absurd z)
-  step-sound (euThen a b f) w x h (inr m) en ih = (λ o. now (x, m.0, (ih f (at-cast m.1 (in-euThen h))).0 o), λ z. absurd z)
+  step_sound tru w x h z en ih = absurd z
+  step_sound (not f) w x h z en ih = absurd z
+  step_sound (or f g) w x h z en ih = absurd z
+  step_sound (ex c f) w x h m en ih = (λ o. (x, m.0, (ih f (at_cast m.1 (in_ex h))).0 o), λ z. absurd z)
+  step_sound (ax c f) w x h (inl m) en ih = (λ z. absurd z, λ o. inl (x, m.0, en m.1))
+  step_sound (ax c f) w x h (inr m) en ih = (λ z. absurd z, λ o. inr (x, m.1, m.0, (ih f (at_cast m.2 (in_ax h))).1 (arm_refutable f m.1 o)))
+  step_sound (eu a f) w x h m en ih = (λ o. later x m.0 ((ih (eu a f) (at_cast m.1 h)).0 o), λ z. absurd z)
+  step_sound (eu_then a b f) w x h (inl m) en ih = (λ o. later x m.0 ((ih (eu_then a b f) (at_cast m.1 h)).0 o), λ z. absurd z)
+  step_sound (eu_then a b f) w x h (inr m) en ih = (λ o. now (x, m.0, (ih f (at_cast m.1 (in_eu_then h))).0 o), λ z. absurd z)
 
   -- At END the world is done: END has no moves.
   at_done : {k : ℕ} {w : M.World} → Finishes M F k w → k ≡ size F → M.Done w
@@ -82,36 +82,36 @@ module _ {M : Frame} {F : Formula} where
   at_done (free m h) z = absurd (at-end m.1 z)
   at_done (step x m h) z = absurd (at-end m.1 z)
 
-  pub finishes-sound : {k : ℕ} {w : M.World} → Finishes M F k w → (f : Formula) → At F k f → Means M f w
-  finishes-sound (end e d) f h = absurd (at-end h e)
-  finishes-sound {w} (top t d) f h = subst (λ (g : Formula). Means M g w) (at-fun t h) (λ o. d, λ z. absurd z)
-  finishes-sound {w} (free {k} {q} m u) f h = free-sound f w h (subst (λ (g : Formula). FreeOf g k q) (at-fun m.1 h) m.2) (finishes-sound u)
-  finishes-sound {w} (step {k} {q} x m u) f h = step-sound f w x h (subst (λ (g : Formula). StepOf g (size F) k (M.lab w x) q) (at-fun m.1 h) m.2) (at_done u) (finishes-sound u)
+  pub finishes_sound : {k : ℕ} {w : M.World} → Finishes M F k w → (f : Formula) → At F k f → Means M f w
+  finishes_sound (end e d) f h = absurd (at-end h e)
+  finishes_sound {w} (top t d) f h = subst (λ (g : Formula). Means M g w) (at_fun t h) (λ o. d, λ z. absurd z)
+  finishes_sound {w} (free {k} {q} m u) f h = free_sound f w h (subst (λ (g : Formula). FreeOf g k q) (at_fun m.1 h) m.2) (finishes_sound u)
+  finishes_sound {w} (step {k} {q} x m u) f h = step_sound f w x h (subst (λ (g : Formula). StepOf g (size F) k (M.lab w x) q) (at_fun m.1 h) m.2) (at_done u) (finishes_sound u)
 
-  until-finishes : {k : ℕ} (a : Mask) (P : M.World → Type 0) → ((v : M.World) (x : M.Next v) → passes a (M.lab v x) ≡ true → StepMove F k (M.lab v x) k)
+  until_finishes : {k : ℕ} (a : Mask) (P : M.World → Type 0) → ((v : M.World) (x : M.Next v) → passes a (M.lab v x) ≡ true → StepMove F k (M.lab v x) k)
       → ((v : M.World) → P v → Finishes M F k v) → {w : M.World} → Until M a P w → Finishes M F k w
-  until-finishes a P loop win (now p) = win _ p
-  until-finishes a P loop win (later x e u) = step x (loop _ x e) (until-finishes a P loop win u)
+  until_finishes a P loop win (now p) = win _ p
+  until_finishes a P loop win (later x e u) = step x (loop _ x e) (until_finishes a P loop win u)
 
-  pub finishes-complete : (f : Formula) (k : ℕ) → At F k f → (w : M.World) → (Witnessable f → Shows f M w → Finishes M F k w) × (Refutable f → Breaks f M w → Finishes M F k w)
-  finishes-complete tru k h w = (λ o d. top h d, λ z. absurd z)
-  finishes-complete (not f) k h w = let i = finishes-complete f (suc k) (in-not h) w in
+  pub finishes_complete : (f : Formula) (k : ℕ) → At F k f → (w : M.World) → (Witnessable f → Shows f M w → Finishes M F k w) × (Refutable f → Breaks f M w → Finishes M F k w)
+  finishes_complete tru k h w = (λ o d. top h d, λ z. absurd z)
+  finishes_complete (not f) k h w = let i = finishes_complete f (suc k) (in_not h) w in
       (λ o d. free (not f, h, refl) (i.1 o d), λ o d. free (not f, h, refl) (i.0 o d))
-  finishes-complete (or f g) k h w = (λ o d. pick ((finishes-complete f _ (in_left h) w).0 o.0) ((finishes-complete g _ (in_right h) w).0 o.1) d, λ z. absurd z)
+  finishes_complete (or f g) k h w = (λ o d. pick ((finishes_complete f _ (in_left h) w).0 o.0) ((finishes_complete g _ (in_right h) w).0 o.1) d, λ z. absurd z)
     where
       pick : (Shows f M w → Finishes M F (suc k) w) → (Shows g M w → Finishes M F (suc (k + size f)) w) → Shows f M w ⊎ Shows g M w → Finishes M F k w
       pick l r (inl d) = free (or f g, h, inl refl) (l d)
       pick l r (inr d) = free (or f g, h, inr refl) (r d)
-  finishes-complete (ex c f) k h w = (λ o d. step d.0 (ex c f, h, (d.1, refl)) ((finishes-complete f _ (in-ex h) (M.to w d.0)).0 o d.2), λ z. absurd z)
-  finishes-complete (ax c f) k h w = (λ z. absurd z, λ o d. pick (λ v t. (finishes-complete f _ (in-ax h) v).1 t) o d)
+  finishes_complete (ex c f) k h w = (λ o d. step d.0 (ex c f, h, (d.1, refl)) ((finishes_complete f _ (in_ex h) (M.to w d.0)).0 o d.2), λ z. absurd z)
+  finishes_complete (ax c f) k h w = (λ z. absurd z, λ o d. pick (λ v t. (finishes_complete f _ (in_ax h) v).1 t) o d)
     where
-      pick : ((v : M.World) → Refutable f → Breaks f M v → Finishes M F (suc k) v) → (isT f ≡ true) ⊎ Refutable f → Breaks (ax c f) M w → Finishes M F k w
+      pick : ((v : M.World) → Refutable f → Breaks f M v → Finishes M F (suc k) v) → (is_t f ≡ true) ⊎ Refutable f → Breaks (ax c f) M w → Finishes M F k w
       pick i o (inl d) = step d.0 (ax c f, h, inl (d.1, refl)) (end refl d.2)
-      pick i o (inr d) = step d.0 (ax c f, h, inr (d.2, d.1, refl)) (i (M.to w d.0) (arm-refutable f d.1 o) d.3)
-  finishes-complete (eu a f) k h w =
-      (λ o d. until-finishes a _ (λ v x e. (eu a f, h, (e, refl))) (λ v p. free (eu a f, h, refl) ((finishes-complete f _ (in-eu h) v).0 o p)) d, λ z. absurd z)
-  finishes-complete (euThen a b f) k h w = (
-    λ o d. until-finishes a _ (λ v x e. (euThen a b f, h, inl (e, refl)))
-        (λ v p. step p.0 (euThen a b f, h, inr (p.1, refl)) ((finishes-complete f _ (in-euThen h) (M.to v p.0)).0 o p.2)) d,
+      pick i o (inr d) = step d.0 (ax c f, h, inr (d.2, d.1, refl)) (i (M.to w d.0) (arm_refutable f d.1 o) d.3)
+  finishes_complete (eu a f) k h w =
+      (λ o d. until_finishes a _ (λ v x e. (eu a f, h, (e, refl))) (λ v p. free (eu a f, h, refl) ((finishes_complete f _ (in_eu h) v).0 o p)) d, λ z. absurd z)
+  finishes_complete (eu_then a b f) k h w = (
+    λ o d. until_finishes a _ (λ v x e. (eu_then a b f, h, inl (e, refl)))
+        (λ v p. step p.0 (eu_then a b f, h, inr (p.1, refl)) ((finishes_complete f _ (in_eu_then h) (M.to v p.0)).0 o p.2)) d,
     λ z. absurd z,
   )

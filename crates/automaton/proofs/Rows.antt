@@ -8,80 +8,80 @@ use lib.ListN.{length}
 use Rattle.lts.specs.Lists.{Rising}
 use Rattle.lts.specs.Steps.{Table}
 use Rattle.lts.specs.inner.Range.{InRange}
-use Rattle.lts.proofs.Lists.{map_of, map-to, map-rising, getD-mem}
+use Rattle.lts.proofs.Lists.{map_of, map-to, map-rising, get_d_mem}
 use Rattle.actl.specs.Formulas.{Formula}
 use Rattle.actl.proofs.Classes.{HasClass}
-use Rattle.automaton.specs.Positions.{Position, at, rootAt, Joins, Reached, begin, onward, CanFinish}
-use Rattle.automaton.specs.inner.Search.{canFinish, number_of, Move, positionAt, movesUpto, edge_of}
+use Rattle.automaton.specs.Positions.{Position, at, root_at, Joins, Reached, begin, onward, CanFinish}
+use Rattle.automaton.specs.inner.Search.{can_finish, number_of, Move, position_at, moves_upto, edge_of}
 use Rattle.automaton.specs.Listing.{Edge}
 use Rattle.automaton.specs.Listed.{PositionBelow}
 use Rattle.automaton.proofs.Tests.{leads-inside}
-use Rattle.automaton.proofs.Finishing.{step-finishes, canFinish-is}
-use Rattle.automaton.proofs.Numbers.{number-mem, number-found}
-use Rattle.automaton.proofs.Moves.{IsMove, Sooner, moves-to, upto-of, upto-to, upto-rising}
+use Rattle.automaton.proofs.Finishing.{step_finishes, can_finish-is}
+use Rattle.automaton.proofs.Numbers.{number_mem, number-found}
+use Rattle.automaton.proofs.Moves.{IsMove, Sooner, moves-to, upto_of, upto_to, upto_rising}
 
-pub reached-finishes : {t : Table} {F : Formula} {p : Position} → Reached t F p → CanFinish t F p → CanFinish t F (rootAt t)
-reached-finishes begin u = u
-reached-finishes (onward h j) u = reached-finishes h (step-finishes j u)
+pub reached_finishes : {t : Table} {F : Formula} {p : Position} → Reached t F p → CanFinish t F p → CanFinish t F (root_at t)
+reached_finishes begin u = u
+reached_finishes (onward h j) u = reached_finishes h (step_finishes j u)
 
 pub record ClosedRows (t : Table) (F : Formula) (R : List Position) : Type 0 where
-  pub in_row : (i : ℕ) → i < length R → number_of R (positionAt R i) ≡ i
+  pub in_row : (i : ℕ) → i < length R → number_of R (position_at R i) ≡ i
   pub reached : (p : Position) → Memᴰ p R → Reached t F p
-  pub root-or-finishing : (p : Position) → Memᴰ p R → (p ≡ rootAt t) ⊎ CanFinish t F p
-  pub goals : (m : Move) → Memᴰ m (movesUpto t F R (length R)) → Memᴰ m.goal R
+  pub root-or_finishing : (p : Position) → Memᴰ p R → (p ≡ root_at t) ⊎ CanFinish t F p
+  pub goals : (m : Move) → Memᴰ m (moves_upto t F R (length R)) → Memᴰ m.goal R
 
-abbrev pub edgesOf : Table → Formula → List Position → List Edge
-edgesOf t F R = map (edge_of R) (movesUpto t F R (length R))
+abbrev pub edges_of : Table → Formula → List Position → List Edge
+edges_of t F R = map (edge_of R) (moves_upto t F R (length R))
 
 -- The order of edges, over positions.
 abbrev pub BeforeIn : List Position → Edge → Edge → Type 0
-BeforeIn R a b = (a.row < b.row) ⊎ ((a.row ≡ b.row) × ((a.label < b.label) ⊎ ((a.label ≡ b.label) × PositionBelow (positionAt R a.target) (positionAt R b.target))))
+BeforeIn R a b = (a.row < b.row) ⊎ ((a.row ≡ b.row) × ((a.label < b.label) ⊎ ((a.label ≡ b.label) × PositionBelow (position_at R a.target) (position_at R b.target))))
 
 -- What an edge has to be.
 pub record IsEdge (t : Table) (F : Formula) (R : List Position) (e : Edge) : Type 0 where
   pub leaves-row : e.row < length R
   pub enters-row : e.target < length R
-  pub joins : Joins t F (positionAt R e.row) e.label (positionAt R e.target)
-  pub root-finishes : CanFinish t F (rootAt t)
+  pub joins : Joins t F (position_at R e.row) e.label (position_at R e.target)
+  pub root_finishes : CanFinish t F (root_at t)
 
 module _ (t : Table) (F : Formula) (w : InRange t) (c : HasClass F) where
-  pub move-finishes : {i : ℕ} {p : Position} {m : Move} → IsMove (canFinish t F) t F i p m → CanFinish t F m.goal
-  move-finishes {m} h = (canFinish-is t F c m.goal (leads-inside h.joins.1)).0 h.entered
+  pub move_finishes : {i : ℕ} {p : Position} {m : Move} → IsMove (can_finish t F) t F i p m → CanFinish t F m.goal
+  move_finishes {m} h = (can_finish-is t F c m.goal (leads-inside h.joins.1)).0 h.entered
 
-  pub move-listed : (R : List Position) (i l : ℕ) (g : Position) → i < length R → Joins t F (positionAt R i) l g → CanFinish t F g
-      → Memᴰ (record { row = i; label = l; goal = g }) (movesUpto t F R (length R))
-  move-listed R i l g b j u = upto-to (canFinish t F) t F R (length R) i b (moves-to (canFinish t F) t F w i (positionAt R i) l g j ((canFinish-is t F c g (leads-inside j.1)).1 u))
+  pub move-listed : (R : List Position) (i l : ℕ) (g : Position) → i < length R → Joins t F (position_at R i) l g → CanFinish t F g
+      → Memᴰ (record { row = i; label = l; goal = g }) (moves_upto t F R (length R))
+  move-listed R i l g b j u = upto_to (can_finish t F) t F R (length R) i b (moves-to (can_finish t F) t F w i (position_at R i) l g j ((can_finish-is t F c g (leads-inside j.1)).1 u))
 
   module _ (R : List Position) (h : ClosedRows t F R) where
     abbrev M : List Move
-    M = movesUpto t F R (length R)
+    M = moves_upto t F R (length R)
 
-    found : {m : Move} → Memᴰ m M → positionAt R (number_of R m.goal) ≡ m.goal
-    found {m} n = number-found R m.goal (at 0 0) (number-mem (h.goals m n))
+    found : {m : Move} → Memᴰ m M → position_at R (number_of R m.goal) ≡ m.goal
+    found {m} n = number-found R m.goal (at 0 0) (number_mem (h.goals m n))
 
-    row-finishes : CanFinish t F (rootAt t) → (p : Position) → (p ≡ rootAt t) ⊎ CanFinish t F p → CanFinish t F p
-    row-finishes u p (inl e) = subst (CanFinish t F) (sym e) u
-    row-finishes u p (inr d) = d
+    row_finishes_lem : CanFinish t F (root_at t) → (p : Position) → (p ≡ root_at t) ⊎ CanFinish t F p → CanFinish t F p
+    row_finishes_lem u p (inl e) = subst (CanFinish t F) (sym e) u
+    row_finishes_lem u p (inr d) = d
 
     edge-of-move : (m : Move) → Memᴰ m M → IsEdge t F R (edge_of R m)
     edge-of-move m n =
-        let (b, k) = upto-of (canFinish t F) t F R (length R) n in
-        let x = positionAt R m.row in
+        let (b, k) = upto_of (can_finish t F) t F R (length R) n in
+        let x = position_at R m.row in
         record {
           leaves-row = b;
-          enters-row = number-mem (h.goals m n);
+          enters-row = number_mem (h.goals m n);
           joins = subst (Joins t F x m.label) (sym (found n)) k.joins;
-          root-finishes = reached-finishes (h.reached x (getD-mem R m.row (at 0 0) b)) (step-finishes k.joins (move-finishes k));
+          root_finishes = reached_finishes (h.reached x (get_d_mem R m.row (at 0 0) b)) (step_finishes k.joins (move_finishes k));
         }
 
-    pub edges-of : (e : Edge) → Memᴰ e (edgesOf t F R) → IsEdge t F R e
+    pub edges-of : (e : Edge) → Memᴰ e (edges_of t F R) → IsEdge t F R e
     edges-of e n = let (m, k, z) = map_of (edge_of R) M n in subst (IsEdge t F R) (sym z) (edge-of-move m k)
 
-    pub edges-to : (e : Edge) → IsEdge t F R e → Memᴰ e (edgesOf t F R)
+    pub edges-to : (e : Edge) → IsEdge t F R e → Memᴰ e (edges_of t F R)
     edges-to e k =
-        let g = positionAt R e.target in
+        let g = position_at R e.target in
         let z = h.in_row e.target k.enters-row in
-        let u = row-finishes k.root-finishes g (h.root-or-finishing g (getD-mem R e.target (at 0 0) k.enters-row)) in
+        let u = row_finishes_lem k.root_finishes g (h.root-or_finishing g (get_d_mem R e.target (at 0 0) k.enters-row)) in
         Memᴰ.cast (λ i. record { row = e.row; label = e.label; target = sym z i })
         (map-to (edge_of R) (move-listed R e.row e.label g k.leaves-row k.joins u))
 
@@ -90,5 +90,5 @@ module _ (t : Table) (F : Formula) (w : InRange t) (c : HasClass F) where
     before x y m n (inr (e, inl z)) = inr (e, inl z)
     before x y m n (inr (e, inr (d, b))) = inr (e, inr (d, subst₂ PositionBelow (sym (found m)) (sym (found n)) b))
 
-    pub edges-rising : Rising (BeforeIn R) (edgesOf t F R)
-    edges-rising = map-rising (edge_of R) Sooner (BeforeIn R) M before (upto-rising (canFinish t F) t F w R (length R))
+    pub edges-rising : Rising (BeforeIn R) (edges_of t F R)
+    edges-rising = map-rising (edge_of R) Sooner (BeforeIn R) M before (upto_rising (can_finish t F) t F w R (length R))

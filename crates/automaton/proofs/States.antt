@@ -6,12 +6,12 @@ use mathlib.Core.List.{List, [], ◌∷◌, Memᴰ}
 use Prim.Native.Nat.{ℕ}
 use Rattle.lts.specs.Lists.{every}
 use Rattle.lts.specs.Steps.{Step, Table}
-use Rattle.lts.specs.inner.Steps.{stepsFrom}
+use Rattle.lts.specs.inner.Steps.{steps_from}
 use Rattle.lts.proofs.Booleans.{or-true-of, or-true-left, or_true_right, not-true, not-false, is_false}
-use Rattle.lts.proofs.StepsFrom.{From, steps-are}
+use Rattle.lts.proofs.StepsFrom.{From, steps_are}
 use Rattle.actl.specs.Actions.{Mask, in_set, Cond, meets}
-use Rattle.actl.specs.Formulas.{Formula, tru, not, or, ex, ax, eu, euThen, isT}
-use Rattle.actl.proofs.Classes.{Witnessable, Refutable, arm-refutable}
+use Rattle.actl.specs.Formulas.{Formula, tru, not, or, ex, ax, eu, eu_then, is_t}
+use Rattle.actl.proofs.Classes.{Witnessable, Refutable, arm_refutable}
 use Rattle.satisfaction.specs.inner.Holds.{enters, holds}
 use Rattle.satisfaction.proofs.Leads.{within-is-leads}
 use Rattle.satisfaction.proofs.Leads as by
@@ -43,88 +43,88 @@ every-false p (x ∷ l) e = step (and-false (p x) (every p l) e) (every-false p 
     step (inl d) h = (x, Memᴰ.head refl, d)
     step (inr (d, c)) h = let (y, m, z) = h c in (y, Memᴰ.tail m, z)
 
-negated-true : (b : Bool) → negate b ≡ false → b ≡ true
-negated-true true e = refl
-negated-true false e = absurd (true≢false e)
+negated_true : (b : Bool) → negate b ≡ false → b ≡ true
+negated_true true e = refl
+negated_true false e = absurd (true≢false e)
 
-negated-false : (b : Bool) → b ≡ true → negate b ≡ false
-negated-false true e = refl
-negated-false false e = absurd (false≢true e)
+negated_false : (b : Bool) → b ≡ true → negate b ≡ false
+negated_false true e = refl
+negated_false false e = absurd (false≢true e)
 
 module _ (t : Table) where
   abbrev Agrees : Formula → ℕ → Type 0
   Agrees f s = (Witnessable f → Shows f (States t) s ↔ (holds t f s ≡ true)) × (Refutable f → Breaks f (States t) s ↔ (holds t f s ≡ false))
 
-  T-holds : (f : Formula) (s : ℕ) → isT f ≡ true → holds t f s ≡ true
+  T_holds : (f : Formula) (s : ℕ) → is_t f ≡ true → holds t f s ≡ true
   unfolding holds
-  T-holds tru s e = refl
-  T-holds (not f) s e = absurd (false≢true e)
-  T-holds (or f g) s e = absurd (false≢true e)
-  T-holds (ex c f) s e = absurd (false≢true e)
-  T-holds (ax c f) s e = absurd (false≢true e)
-  T-holds (eu a f) s e = absurd (false≢true e)
-  T-holds (euThen a b f) s e = absurd (false≢true e)
+  T_holds tru s e = refl
+  T_holds (not f) s e = absurd (false≢true e)
+  T_holds (or f g) s e = absurd (false≢true e)
+  T_holds (ex c f) s e = absurd (false≢true e)
+  T_holds (ax c f) s e = absurd (false≢true e)
+  T_holds (eu a f) s e = absurd (false≢true e)
+  T_holds (eu_then a b f) s e = absurd (false≢true e)
 
-  module _ (c : Cond) (f : Formula) (s : ℕ) (h : (v : ℕ) → Agrees f v) (o : (isT f ≡ true) ⊎ Refutable f) where
+  module _ (c : Cond) (f : Formula) (s : ℕ) (h : (v : ℕ) → Agrees f v) (o : (is_t f ≡ true) ⊎ Refutable f) where
     abbrev arrives : Step → Bool
     arrives st = meets c st.label && holds t f st.to
 
-    all-fails : Breaks (ax c f) (States t) s → every arrives (stepsFrom t s) ≡ true → ⊥
-    all-fails (inl (x, e, d)) n = true≢false (sym ((every-step t (meets c) (holds t f) s).0 n x).0 ∙ e)
-    all-fails (inr (x, z, m, d)) n = true≢false (sym ((every-step t (meets c) (holds t f) s).0 n x).1 ∙ ((h x.0.to).1 (arm-refutable f z o)).0 d)
+    all_fails : Breaks (ax c f) (States t) s → every arrives (steps_from t s) ≡ true → ⊥
+    all_fails (inl (x, e, d)) n = true≢false (sym ((every-step t (meets c) (holds t f) s).0 n x).0 ∙ e)
+    all_fails (inr (x, z, m, d)) n = true≢false (sym ((every-step t (meets c) (holds t f) s).0 n x).1 ∙ ((h x.0.to).1 (arm_refutable f z o)).0 d)
 
-    arm-broken : (x : From t s) → meets c x.0.label ≡ true → holds t f x.0.to ≡ false → (b : Bool) → isT f ≡ b → Breaks (ax c f) (States t) s
-    arm-broken x m e true z = absurd (true≢false (sym (T-holds f x.0.to z) ∙ e))
-    arm-broken x m e false z = inr (x, z, m, ((h x.0.to).1 (arm-refutable f z o)).1 e)
+    arm_broken : (x : From t s) → meets c x.0.label ≡ true → holds t f x.0.to ≡ false → (b : Bool) → is_t f ≡ b → Breaks (ax c f) (States t) s
+    arm_broken x m e true z = absurd (true≢false (sym (T_holds f x.0.to z) ∙ e))
+    arm_broken x m e false z = inr (x, z, m, ((h x.0.to).1 (arm_refutable f z o)).1 e)
 
-    all-broken : every arrives (stepsFrom t s) ≡ false → Breaks (ax c f) (States t) s
-    all-broken e =
-        let (st, m, d) = every-false arrives (stepsFrom t s) e in
-        let (b, i) = (steps-are t s st).0 m in
+    all_broken : every arrives (steps_from t s) ≡ false → Breaks (ax c f) (States t) s
+    all_broken e =
+        let (st, m, d) = every-false arrives (steps_from t s) e in
+        let (b, i) = (steps_are t s st).0 m in
         step (st, b, i) (and-false (meets c st.label) (holds t f st.to) d)
       where
         step : (x : From t s) → (meets c x.0.label ≡ false) ⊎ ((meets c x.0.label ≡ true) × (holds t f x.0.to ≡ false)) → Breaks (ax c f) (States t) s
         step x (inl e) = inl (x, e, tt)
-        step x (inr (m, e)) = arm-broken x m e (isT f) refl
+        step x (inr (m, e)) = arm_broken x m e (is_t f) refl
 
-    all-agrees : Breaks (ax c f) (States t) s ↔ (every arrives (stepsFrom t s) ≡ false)
-    all-agrees = (λ d. is_false (every arrives (stepsFrom t s)) (all-fails d), all-broken)
+    all_agrees : Breaks (ax c f) (States t) s ↔ (every arrives (steps_from t s) ≡ false)
+    all_agrees = (λ d. is_false (every arrives (steps_from t s)) (all_fails d), all_broken)
 
-  pub states-agree : (f : Formula) (s : ℕ) → Agrees f s
+  pub states_agree : (f : Formula) (s : ℕ) → Agrees f s
   unfolding holds
-  states-agree tru s = (λ o. (λ d. refl, λ e. tt), λ z. absurd z)
-  states-agree (not f) s = let h = states-agree f s in (
+  states_agree tru s = (λ o. (λ d. refl, λ e. tt), λ z. absurd z)
+  states_agree (not f) s = let h = states_agree f s in (
     λ o. (λ d. not-true (holds t f s) ((h.1 o).0 d), λ e. (h.1 o).1 (not-false (holds t f s) e)),
-    λ o. (λ d. negated-false (holds t f s) ((h.0 o).0 d), λ e. (h.0 o).1 (negated-true (holds t f s) e)),
+    λ o. (λ d. negated_false (holds t f s) ((h.0 o).0 d), λ e. (h.0 o).1 (negated_true (holds t f s) e)),
   )
-  states-agree (or f g) s = let h = (states-agree f s).0 in let k = (states-agree g s).0 in (
+  states_agree (or f g) s = let h = (states_agree f s).0 in let k = (states_agree g s).0 in (
     λ o. (
       λ d. elim d [ inl x ↦ or-true-left (holds t f s) (holds t g s) ((h o.0).0 x) | inr x ↦ or_true_right (holds t f s) (holds t g s) ((k o.1).0 x) ],
       λ e. elim (or-true-of (holds t f s) (holds t g s) e) [ inl x ↦ inl ((h o.0).1 x) | inr x ↦ inr ((k o.1).1 x) ],
     ),
     λ z. absurd z,
   )
-  states-agree (ex c f) s = let k = some-step t (meets c) (holds t f) s in (
+  states_agree (ex c f) s = let k = some-step t (meets c) (holds t f) s in (
     λ o. (
-      λ (x, e, d). k.1 (x, e, ((states-agree f x.0.to).0 o).0 d),
-      λ e. let (x, m, d) = k.0 e in (x, m, ((states-agree f x.0.to).0 o).1 d),
+      λ (x, e, d). k.1 (x, e, ((states_agree f x.0.to).0 o).0 d),
+      λ e. let (x, m, d) = k.0 e in (x, m, ((states_agree f x.0.to).0 o).1 d),
     ),
     λ z. absurd z,
   )
-  states-agree (ax c f) s = (λ z. absurd z, λ o. all-agrees c f s (states-agree f) o)
-  states-agree (eu a f) s = let k = within-is-leads t a (holds t f) s in (
+  states_agree (ax c f) s = (λ z. absurd z, λ o. all_agrees c f s (states_agree f) o)
+  states_agree (eu a f) s = let k = within-is-leads t a (holds t f) s in (
     λ o. (
-      λ u. k.1 (until-leads t a (λ v d. ((states-agree f v).0 o).0 d) u),
-      λ e. leads-until t a (λ v d. ((states-agree f v).0 o).1 d) (k.0 e),
+      λ u. k.1 (until-leads t a (λ v d. ((states_agree f v).0 o).0 d) u),
+      λ e. leads-until t a (λ v d. ((states_agree f v).0 o).1 d) (k.0 e),
     ),
     λ z. absurd z,
   )
-  states-agree (euThen a b f) s =
+  states_agree (eu_then a b f) s =
       let k = within-is-leads t a (enters t b (holds t f)) s in
       let g = some-step t (in_set b) (holds t f) in (
         λ o. (
-          λ u. k.1 (until-leads t a (λ v (x, e, d). (g v).1 (x, e, ((states-agree f x.0.to).0 o).0 d)) u),
-          λ e. leads-until t a (λ v d. let (x, m, z) = (g v).0 d in (x, m, ((states-agree f x.0.to).0 o).1 z)) (k.0 e),
+          λ u. k.1 (until-leads t a (λ v (x, e, d). (g v).1 (x, e, ((states_agree f x.0.to).0 o).0 d)) u),
+          λ e. leads-until t a (λ v d. let (x, m, z) = (g v).0 d in (x, m, ((states_agree f x.0.to).0 o).1 z)) (k.0 e),
         ),
         λ z. absurd z,
       )

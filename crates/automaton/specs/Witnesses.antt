@@ -3,7 +3,7 @@
 use Rattle.std.specs.Prelude.{◌≡◌, ◌⊎◌, true, false, List, [], ◌∷◌, ◌++◌}
 use Rattle.lts.specs.Steps.{Step}
 use Rattle.actl.specs.Actions.{Mask, in_set, meets, passes}
-use Rattle.actl.specs.Formulas.{Formula, tru, not, or, ex, ax, eu, euThen, isT}
+use Rattle.actl.specs.Formulas.{Formula, tru, not, or, ex, ax, eu, eu_then, is_t}
 
 -- Each step is silent or in the set.
 abbrev pub AllPass : Mask → List Step → Type 0
@@ -18,7 +18,7 @@ abbrev mutual
   Witness (ex c f) p = (st : Step) × (rest : List Step) × (p ≡ st ∷ rest) × (meets c st.label ≡ true) × Witness f rest  -- (f), (g)
   Witness (ax c f) p = ⊥
   Witness (eu a f) p = (before : List Step) × (rest : List Step) × (p ≡ before ++ rest) × AllPass a before × Witness f rest  -- (d)
-  Witness (euThen a b f) p = (before : List Step) × (st : Step) × (rest : List Step) × (p ≡ before ++ (st ∷ rest)) × AllPass a before × (in_set b st.label ≡ true) × Witness f rest  -- (e)
+  Witness (eu_then a b f) p = (before : List Step) × (st : Step) × (rest : List Step) × (p ≡ before ++ (st ∷ rest)) × AllPass a before × (in_set b st.label ≡ true) × Witness f rest  -- (e)
 
   pub Counterexample : Formula → List Step → Type 0
   Counterexample tru p = ⊥
@@ -27,6 +27,6 @@ abbrev mutual
   Counterexample (ex c f) p = ⊥
   -- (i), (k): the first part, alone where the arm is T; (j), (l): both
   Counterexample (ax c f) p = ((st : Step) × (p ≡ st ∷ []) × (meets c st.label ≡ false))
-      ⊎ ((st : Step) × (rest : List Step) × (isT f ≡ false) × (p ≡ st ∷ rest) × (meets c st.label ≡ true) × Counterexample f rest)
+      ⊎ ((st : Step) × (rest : List Step) × (is_t f ≡ false) × (p ≡ st ∷ rest) × (meets c st.label ≡ true) × Counterexample f rest)
   Counterexample (eu a f) p = ⊥
-  Counterexample (euThen a b f) p = ⊥
+  Counterexample (eu_then a b f) p = ⊥

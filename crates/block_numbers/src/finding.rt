@@ -1,7 +1,7 @@
 // The first pass: the blocks in the order found, the number of each, and the count of edges.
 ghost use Rattle.std.specs.Prelude.{◌≡◌, cond, ◌+◌, ◌*◌, ◌<◌, ◌≤◌, length, get_or, take};
-ghost use Rattle.deterministic.specs.Sizes.{mostSets, mostLetters};
-ghost use Rattle.block_numbers.specs.inner.Found.{Inside, Fits, added, Rows, Within, leads, taken, takenFrom, countFrom, IsFound};
+ghost use Rattle.deterministic.specs.Sizes.{most_sets, most_letters};
+ghost use Rattle.block_numbers.specs.inner.Found.{Inside, Fits, added, Rows, Within, leads, taken, taken_from, count_from, IsFound};
 
 use deterministic::sizes::{LETTERS, NEXT, SETS};
 use table_steps::wide;
@@ -15,9 +15,9 @@ pub struct Totals {
 
 // A block becomes the last row, if it is none yet.
 fn enter(rows: &mut [u16; SETS], numbers: &mut [u16; SETS], block: usize, count: usize) -> usize
-    requires block_lt_most_sets { block < mostSets }
+    requires block_lt_most_sets { block < most_sets }
     requires rows { Rows rows.old numbers.old count }
-    requires block_len_bound { length (added (take count rows.old) block) ≤ mostSets }
+    requires block_len_bound { length (added (take count rows.old) block) ≤ most_sets }
     ensures rows_2 { Rows rows.new numbers.new result }
     ensures rows_after { take result rows.new ≡ added (take count rows.old) block }
 {
@@ -40,8 +40,8 @@ fn find_step(
     at: usize,
     t: Totals,
 ) -> Totals
-    requires n_le_most_sets { (n ≤ mostSets) × Inside blocks.now n }
-    requires at_bound { (at < mostSets * mostLetters) × (t.edges ≤ mostSets * mostLetters) }
+    requires n_le_most_sets { (n ≤ most_sets) × Inside blocks.now n }
+    requires at_bound { (at < most_sets * most_letters) × (t.edges ≤ most_sets * most_letters) }
     requires rows { Rows rows.old numbers.old t.rows × Within n (take t.rows rows.old) }
     ensures rows_2 { Rows rows.new numbers.new result.rows × Within n (take result.rows rows.new) }
     ensures rows_after { take result.rows rows.new ≡ taken next.now blocks.now n at (take t.rows rows.old) }
@@ -70,13 +70,13 @@ fn find_row(
     i: usize,
     t: Totals,
 ) -> Totals
-    requires n_le_most_sets { (n ≤ mostSets) × Inside blocks.now n }
-    requires columns_le_most_letters { (columns ≤ mostLetters) × ((i < t.rows) × (t.edges ≤ i * mostLetters)) }
+    requires n_le_most_sets { (n ≤ most_sets) × Inside blocks.now n }
+    requires columns_le_most_letters { (columns ≤ most_letters) × ((i < t.rows) × (t.edges ≤ i * most_letters)) }
     requires rows { Rows rows.old numbers.old t.rows × Within n (take t.rows rows.old) }
     ensures rows_2 { Rows rows.new numbers.new result.rows × Within n (take result.rows rows.new) }
     ensures rows_after { take result.rows rows.new
-        ≡ takenFrom next.now blocks.now n (get_or rows.old i 0 * mostLetters) columns (take t.rows rows.old) }
-    ensures edges_value { result.edges ≡ t.edges + countFrom next.now blocks.now n (get_or rows.old i 0 * mostLetters) columns }
+        ≡ taken_from next.now blocks.now n (get_or rows.old i 0 * most_letters) columns (take t.rows rows.old) }
+    ensures edges_value { result.edges ≡ t.edges + count_from next.now blocks.now n (get_or rows.old i 0 * most_letters) columns }
 {
     let block = wide(rows[i]);
     let mut at = block * LETTERS;

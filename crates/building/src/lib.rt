@@ -5,8 +5,8 @@ pub mod building;
 pub mod ready;
 
 ghost use Rattle.std.specs.Prelude.{◌≡◌};
-ghost use Rattle.building.specs.Replies.{buildReply};
-ghost use Rattle.automaton.specs.Build.{buildReplied, rowsLeft, edgesLeft};
+ghost use Rattle.building.specs.Replies.{build_reply};
+ghost use Rattle.automaton.specs.Build.{build_replied, rows_left, edges_left};
 ghost use Rattle.explanations.specs.Demands.{FromPrepared};
 
 // What `build` answers: the counts of rows and edges, or a refusal. specs/Replies.antt lists the number and the figure of each case.
@@ -20,10 +20,10 @@ pub enum BuildReply {
 
 // 01: rows and edges of the automaton, in the lent places; 14, 10, 11, 12 in this order. Demands 2 and 3 hold of what is left there.
 pub fn build(table: &[u8], formula: &[u8], rows: &mut [u8], edges: &mut [u8]) -> BuildReply
-    ensures result_value { buildReply result ≡ buildReplied table.now formula.now rows.old edges.old }
-    ensures rows_after { rows.new ≡ rowsLeft table.now formula.now rows.old edges.old }
-    ensures edges_after { edges.new ≡ edgesLeft table.now formula.now rows.old edges.old }
-    ensures from_prepared { FromPrepared table.now formula.now (buildReply result) rows.new edges.new }
+    ensures result_value { build_reply result ≡ build_replied table.now formula.now rows.old edges.old }
+    ensures rows_after { rows.new ≡ rows_left table.now formula.now rows.old edges.old }
+    ensures edges_after { edges.new ≡ edges_left table.now formula.now rows.old edges.old }
+    ensures from_prepared { FromPrepared table.now formula.now (build_reply result) rows.new edges.new }
 {
     if let Inputs::Refused(why) = check_inputs(table, formula) {
         return BuildReply::Refused(why);

@@ -1,6 +1,6 @@
 // Eight bytes as a number of 64 bits, the low one first.
 ghost use Rattle.std.specs.Prelude.{◌≡◌, ◌+◌, ◌<◌, ◌≤◌, length, drop};
-ghost use Rattle.byte_words.specs.inner.Words.{number, fourBytes};
+ghost use Rattle.byte_words.specs.inner.Words.{number, four_bytes};
 
 // The number in the eight bytes at `at`.
 pub fn word(bytes: &[u8], at: usize) -> u64
@@ -13,7 +13,7 @@ pub fn word(bytes: &[u8], at: usize) -> u64
 // Four bytes.
 fn half(bytes: &[u8], at: usize) -> u64
     requires { at + 4 ≤ length bytes.now }
-    ensures value { result ≡ fourBytes bytes.now at }
+    ensures value { result ≡ four_bytes bytes.now at }
     ensures upper_bound { result < 4294967296 }
 {
     let low = wide(bytes[at]) + wide(bytes[at + 1]) * 256;

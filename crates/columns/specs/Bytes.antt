@@ -2,11 +2,11 @@
 use Rattle.std.specs.Prelude.{Bool, true, false, ◌&&◌, List, [], ◌∷◌, ◌++◌, ℕ, zero, suc, ◌-◌, ◌/◌, ◌%◌, eqb, length, replicate}
 
 -- Whether two lists of bytes are equal.
-abbrev pub sameBytes : List ℕ → List ℕ → Bool
-sameBytes [] [] = true
-sameBytes [] (b ∷ m) = false
-sameBytes (a ∷ l) [] = false
-sameBytes (a ∷ l) (b ∷ m) = eqb a b && sameBytes l m
+abbrev pub same_bytes : List ℕ → List ℕ → Bool
+same_bytes [] [] = true
+same_bytes [] (b ∷ m) = false
+same_bytes (a ∷ l) [] = false
+same_bytes (a ∷ l) (b ∷ m) = eqb a b && same_bytes l m
 
 -- A list with zeros behind it, n bytes in all.
 abbrev pub padded : ℕ → List ℕ → List ℕ

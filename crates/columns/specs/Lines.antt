@@ -3,6 +3,6 @@ use Rattle.std.specs.Prelude.{List, [], ◌∷◌, ◌++◌, ℕ}
 use Rattle.columns.specs.Columns.{column}
 
 -- A line of numbers, with its LF.
-abbrev pub numbersLine : List ℕ → List ℕ
-numbersLine [] = 10 ∷ []
-numbersLine (n ∷ l) = column n ++ numbersLine l
+abbrev pub numbers_line : List ℕ → List ℕ
+numbers_line [] = 10 ∷ []
+numbers_line (n ∷ l) = column n ++ numbers_line l

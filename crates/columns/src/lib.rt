@@ -4,9 +4,9 @@ pub mod small;
 pub mod write;
 
 ghost use Rattle.std.specs.Prelude.{◌≡◌, ◌+◌, ◌-◌, ◌<◌, ◌≤◌, length, take, drop};
-ghost use Rattle.columns.specs.Bytes.{sameBytes};
+ghost use Rattle.columns.specs.Bytes.{same_bytes};
 ghost use Rattle.columns.specs.Columns.{column, value_at};
-ghost use Rattle.columns.specs.inner.Read.{columnAt, lead};
+ghost use Rattle.columns.specs.inner.Read.{column_at, lead};
 
 use crate::small::small_at;
 
@@ -47,7 +47,7 @@ fn leading(n: usize) -> usize
 // Whether the six bytes at `at` are the column of v, compared from the last one.
 fn is_column(text: &[u8], at: usize, v: usize) -> bool
     requires { (at + 6 ≤ length text.now) × (v < 1000000) }
-    ensures { result ≡ sameBytes (take 6 (drop at text.now)) (column v) }
+    ensures { result ≡ same_bytes (take 6 (drop at text.now)) (column v) }
 {
     if text[at + 5] as usize != 48 + v % 10 {
         return false;
@@ -66,7 +66,7 @@ fn is_column(text: &[u8], at: usize, v: usize) -> bool
 
 // The number in the six columns at `at`.
 pub fn read_column(text: &[u8], at: usize) -> Column
-    ensures { result ≡ columnAt text.now at }
+    ensures { result ≡ column_at text.now at }
 {
     if text.len() < 6 {
         return Column::Bad;

@@ -1,6 +1,6 @@
 // Numbers below 1,000 in six columns, as most are. No test goes another way for another count of digits, so that none is mispredicted where counts vary.
 ghost use Rattle.std.specs.Prelude.{◌≡◌, ◌+◌, ◌*◌, ◌<◌, ◌≤◌, length, get_or};
-ghost use Rattle.columns.specs.inner.Small.{fourOf, leastSmall, DigitsOf, SmallIn, SmallAt};
+ghost use Rattle.columns.specs.inner.Small.{four_of, least_small, DigitsOf, SmallIn, SmallAt};
 
 fn wide(byte: u8) -> usize
     ensures value { result ≡ byte }
@@ -20,7 +20,7 @@ fn first_two(text: &[u8], at: usize) -> usize
 // The last four. Each byte is put behind those before it: this becomes one load.
 fn last_four(text: &[u8], at: usize) -> usize
     requires { at + 6 ≤ length text.now }
-    ensures { result ≡ fourOf (get_or text.now (at + 2) 0) (get_or text.now (at + 3) 0) (get_or text.now (at + 4) 0)
+    ensures { result ≡ four_of (get_or text.now (at + 2) 0) (get_or text.now (at + 3) 0) (get_or text.now (at + 4) 0)
         (get_or text.now (at + 5) 0) }
 {
     let two = wide(text[at + 2]) * 256 + wide(text[at + 3]);
@@ -37,7 +37,7 @@ struct Digits {
 
 // Of the last four bytes of a column: one digit below "  10", two below " 100", else three.
 fn digits_of(four: usize) -> Digits
-    requires { leastSmall ≤ four }
+    requires { least_small ≤ four }
     ensures { DigitsOf four result.zeros result.most }
 {
     if four < 0x20203130 {

@@ -1,7 +1,7 @@
 // Writing numbers in six columns.
 ghost use Rattle.std.specs.Prelude.{◌≡◌, ◌+◌, ◌≤◌, ◌<◌, length, take};
 ghost use Rattle.columns.specs.Columns.{column};
-ghost use Rattle.columns.specs.Lines.{numbersLine};
+ghost use Rattle.columns.specs.Lines.{numbers_line};
 ghost use Rattle.columns.specs.inner.Read.{lead};
 ghost use Rattle.columns.specs.inner.Write.{Spread, pasted};
 
@@ -54,8 +54,8 @@ fn write_column(n: u64, out: &mut [u8], at: usize) -> usize
 // Writes the first `count` of the values as a line of numbers at `at`, and answers where the line ends.
 pub fn write_numbers(values: [u64; 4], count: usize, out: &mut [u8], at: usize) -> usize
     requires { (count ≤ 4) × (at + 81 ≤ length out.old) }
-    ensures value { result ≡ at + length (numbersLine (take count values)) }
-    ensures out_after { out.new ≡ pasted out.old at (numbersLine (take count values)) }
+    ensures value { result ≡ at + length (numbers_line (take count values)) }
+    ensures out_after { out.new ≡ pasted out.old at (numbers_line (take count values)) }
     ensures upper_bound { result ≤ at + 81 }
 {
     let mut end = at;

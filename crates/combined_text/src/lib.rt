@@ -2,15 +2,15 @@
 ghost use Rattle.std.specs.Prelude.{◌≡◌, ◌≤◌, length};
 ghost use Rattle.explanations.specs.inner.Printed.{TextWritten};
 ghost use Rattle.files.specs.inner.Writing.{PrefixLength};
-ghost use Rattle.lts.specs.Sizes.{tableLength, longestTableText};
-ghost use Rattle.combined_text.specs.CombinedText.{refusedLine, combinedText};
+ghost use Rattle.lts.specs.Sizes.{table_length, longest_table_text};
+ghost use Rattle.combined_text.specs.CombinedText.{refused_line, combined_text};
 ghost use Rattle.combined_text.specs.inner.Reading.{FileRead, BothHeld, BothWritten};
 
 use columns::write::write_numbers;
 use combine::combine;
 use lts::sizes::{LONGEST_TABLE_TEXT, TABLE_LENGTH};
 use replies::{Answer, table_answer};
-use table_text::read_table;
+use table_text::read_table_lem;
 use writing_replies::{combine_answer, text_answer};
 
 // The longest text of a table.
@@ -19,22 +19,22 @@ pub const COMBINED_LENGTH: usize = LONGEST_TABLE_TEXT;
 // A refusal's line, about one of the files or about both together.
 fn write_refused(file: u64, number: u32, figure: u64, out: &mut [u8]) -> usize
     requires { 81 ≤ length out.old }
-    ensures { TextWritten (refusedLine file number figure) out.old out.new result }
+    ensures { TextWritten (refused_line file number figure) out.old out.new result }
 {
     write_numbers([number as u64, figure, file, 0], 3, out, 0)
 }
 
 // Reads a file's table.
 fn read_file(file: &[u8], table: &mut [u8]) -> Answer
-    requires { length table.old ≡ tableLength }
+    requires { length table.old ≡ table_length }
     ensures { FileRead file.now table.new result }
 {
-    table_answer(read_table(file, table))
+    table_answer(read_table_lem(file, table))
 }
 
 // Two prepared tables, combined and written.
 fn write_both(first: &[u8], second: &[u8], out: &mut [u8]) -> usize
-    requires { BothHeld first.now second.now × (longestTableText ≤ length out.old) }
+    requires { BothHeld first.now second.now × (longest_table_text ≤ length out.old) }
     ensures { BothWritten first.now second.now out.old out.new result }
 {
     let mut combined = [0u8; TABLE_LENGTH];
@@ -48,8 +48,8 @@ fn write_both(first: &[u8], second: &[u8], out: &mut [u8]) -> usize
 
 // Writes what the program writes for two files at the start of `out`, and answers its length.
 fn write_files(firstfile: &[u8], secondfile: &[u8], out: &mut [u8]) -> usize
-    requires { length out.old ≡ longestTableText }
-    ensures text_written { TextWritten (combinedText firstfile.now secondfile.now) out.old out.new result }
+    requires { length out.old ≡ longest_table_text }
+    ensures text_written { TextWritten (combined_text firstfile.now secondfile.now) out.old out.new result }
     ensures prefix_length { PrefixLength result out.new }
 {
     let mut first = [0u8; TABLE_LENGTH];
@@ -71,7 +71,7 @@ pub fn write_combined_of(
     secondfile: &[u8],
     out: &mut [u8; COMBINED_LENGTH],
 ) -> usize
-    ensures text_written { TextWritten (combinedText firstfile.now secondfile.now) out.old out.new result }
+    ensures text_written { TextWritten (combined_text firstfile.now secondfile.now) out.old out.new result }
     ensures prefix_length { PrefixLength result out.new }
 {
     write_files(firstfile, secondfile, out)

@@ -17,13 +17,13 @@ use Rattle.automaton.specs.Bytes.{bit_of}
 use Rattle.deterministic.specs.Automata.{Automaton, count}
 use Rattle.deterministic.specs.Smallest.{SameWords}
 use Rattle.deterministic.specs.SmallestAsked.{SmallestIn}
-use Rattle.deterministic.specs.Bytes.{stepBytes, automatonBytes, pair_at, usedLength, used}
+use Rattle.deterministic.specs.Bytes.{step_bytes, automaton_bytes, pair_at, used_length, used}
 use Rattle.deterministic.proofs.Unique.{unique, equal_words}
 
 -- Counts that two bytes hold.
 pub record Small (d : Automaton) : Type 0 where
-  pub few-states : count d < 65536
-  pub few-edges : length d.edges < 65536
+  pub few_states : count d < 65536
+  pub few_edges : length d.edges < 65536
 
 cut : {A : Type 0} (a b x y : List A) → length a ≡ length b → a ++ x ≡ b ++ y → (a ≡ b) × (x ≡ y)
 cut a b x y l e = (
@@ -46,7 +46,7 @@ marks-same (a ∷ l) (b ∷ m) e =
     one false true e = absurd (omega arith)
     one false false e = refl
 
-edges-same : (l m : List Edge) → bind stepBytes l ≡ bind stepBytes m → l ≡ m
+edges-same : (l m : List Edge) → bind step_bytes l ≡ bind step_bytes m → l ≡ m
 edges-same [] [] e = refl
 edges-same [] (b ∷ m) e = absurd (omega (arith, ap length e))
 edges-same (a ∷ l) [] e = absurd (omega (arith, ap length e))
@@ -57,53 +57,53 @@ edges-same (a ∷ l) (b ∷ m) e =
     let r = edges-same l m (ap (drop 3) e) in
     λ i. record { row = x i; label = y i; target = z i } ∷ r i
 
-edges-long : (l : List Edge) → length (bind stepBytes l) ≡ 3 * length l
+edges-long : (l : List Edge) → length (bind step_bytes l) ≡ 3 * length l
 edges-long [] = refl
 edges-long (a ∷ l) = let e = edges-long l in omega arith
 
 module _ (d : Automaton) (s : Small d) where
-  pub states-read : pair_at 0 (automatonBytes d) ≡ count d
-  unfolding automatonBytes
-  states-read = let h = s.few-states in omega arith
+  pub states-read : pair_at 0 (automaton_bytes d) ≡ count d
+  unfolding automaton_bytes
+  states-read = let h = s.few_states in omega arith
 
-  pub edges-read : pair_at 2 (automatonBytes d) ≡ length d.edges
-  unfolding automatonBytes
-  edges-read = let h = s.few-edges in omega arith
+  pub edges-read : pair_at 2 (automaton_bytes d) ≡ length d.edges
+  unfolding automaton_bytes
+  edges-read = let h = s.few_edges in omega arith
 
-  pub bytes-long : length (automatonBytes d) ≡ 4 + count d + 3 * length d.edges
-  unfolding automatonBytes
-  bytes-long = omega (arith, length-append (map bit_of d.final) (bind stepBytes d.edges), length-map d.final bit_of, edges-long d.edges)
+  pub bytes-long : length (automaton_bytes d) ≡ 4 + count d + 3 * length d.edges
+  unfolding automaton_bytes
+  bytes-long = omega (arith, length-append (map bit_of d.final) (bind step_bytes d.edges), length-map d.final bit_of, edges-long d.edges)
 
-pub bytes_same : (d e : Automaton) → Small d → Small e → automatonBytes d ≡ automatonBytes e → d ≡ e
-unfolding automatonBytes
+pub bytes_same : (d e : Automaton) → Small d → Small e → automaton_bytes d ≡ automaton_bytes e → d ≡ e
+unfolding automaton_bytes
 bytes_same d e s r h =
     let n : count d ≡ count e = sym (states-read d s) ∙ (ap (pair_at 0) h ∙ states-read e r) in
     let l : length (map bit_of d.final) ≡ length (map bit_of e.final) = length-map d.final bit_of ∙ (n ∙ sym (length-map e.final bit_of)) in
-    let (a, b) = cut (map bit_of d.final) (map bit_of e.final) (bind stepBytes d.edges) (bind stepBytes e.edges) l (ap (drop 4) h) in
+    let (a, b) = cut (map bit_of d.final) (map bit_of e.final) (bind step_bytes d.edges) (bind step_bytes e.edges) l (ap (drop 4) h) in
     let x = marks-same d.final e.final a in
     let y = edges-same d.edges e.edges b in
     λ i. record { final = x i; edges = y i }
 
 -- What a buffer that begins with an automaton's bytes uses.
-pub used-is : (d : Automaton) → Small d → (left : List ℕ) → take (length (automatonBytes d)) left ≡ automatonBytes d → used left ≡ automatonBytes d
-unfolding automatonBytes
+pub used-is : (d : Automaton) → Small d → (left : List ℕ) → take (length (automaton_bytes d)) left ≡ automaton_bytes d → used left ≡ automaton_bytes d
+unfolding automaton_bytes
 used-is d s left e =
-    let z : left ≡ automatonBytes d ++ drop (length (automatonBytes d)) left = sym (take-append-drop (length (automatonBytes d)) left) ∙ ap (λ l. l ++ drop (length (automatonBytes d)) left) e in
-    let n : usedLength left ≡ length (automatonBytes d) = ap usedLength z ∙ (front (drop (length (automatonBytes d)) left) ∙ sym (bytes-long d s)) in
+    let z : left ≡ automaton_bytes d ++ drop (length (automaton_bytes d)) left = sym (take-append-drop (length (automaton_bytes d)) left) ∙ ap (λ l. l ++ drop (length (automaton_bytes d)) left) e in
+    let n : used_length left ≡ length (automaton_bytes d) = ap used_length z ∙ (front (drop (length (automaton_bytes d)) left) ∙ sym (bytes-long d s)) in
     ap (λ k. take k left) n ∙ e
   where
-    front : (x : List ℕ) → usedLength (automatonBytes d ++ x) ≡ 4 + count d + 3 * length d.edges
-    front x = let h = s.few-states in let k = s.few-edges in omega arith
+    front : (x : List ℕ) → used_length (automaton_bytes d ++ x) ≡ 4 + count d + 3 * length d.edges
+    front x = let h = s.few_states in let k = s.few_edges in omega arith
 
 -- 02: "Two questions over the same label numbers, neither refused, have equal listings exactly when they have equal words."
 module _ {t u : Table} {F G : Formula} {c k : Counts} {rows edges left more others right : List ℕ} (a : SmallestIn t F c rows edges left) (b : SmallestIn u G k more others right) where
   small : {v : Table} {H : Formula} {n : Counts} {x y z : List ℕ} (s : SmallestIn v H n x y z) → Small s.d
-  small s = record { few-states = omega (arith, s.few-states); few-edges = omega (arith, s.few-edges) }
+  small s = record { few_states = omega (arith, s.few_states); few_edges = omega (arith, s.few_edges) }
 
-  pub equal-questions : (used left ≡ used right) ↔ SameWords (Explains t F) (Explains u G)
-  equal-questions =
+  pub equal_questions : (used left ≡ used right) ↔ SameWords (Explains t F) (Explains u G)
+  equal_questions =
       let x = used-is a.d (small a) left a.says in
       let y = used-is b.d (small b) right b.says in (
-        λ e. equal_words a.is-smallest b.is-smallest (bytes_same a.d b.d (small a) (small b) (sym x ∙ (e ∙ y))),
-        λ w. x ∙ (ap automatonBytes (unique a.is-smallest b.is-smallest w) ∙ sym y),
+        λ e. equal_words a.is_smallest b.is_smallest (bytes_same a.d b.d (small a) (small b) (sym x ∙ (e ∙ y))),
+        λ w. x ∙ (ap automaton_bytes (unique a.is_smallest b.is_smallest w) ∙ sym y),
       )

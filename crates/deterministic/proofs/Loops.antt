@@ -8,8 +8,8 @@ use native.Mathlib.Decide.{dec_lt}
 use native.Mathlib.Omega.{arith}
 use lib.Dec.{ltb}
 use lib.ListN.{length, get_or}
-use Rattle.lts.specs.inner.Lists.{consIf, keep}
-use Rattle.deterministic.specs.inner.Search.{System, number_of, seen, Move, movesFrom, placeAt, visit, visits, expand, search}
+use Rattle.lts.specs.inner.Lists.{cons_if, keep}
+use Rattle.deterministic.specs.inner.Search.{System, number_of, seen, Move, moves_from, place_at, visit, visits, expand, search}
 use Rattle.deterministic.specs.inner.Blocks.{Table, refine, refined, blocks}
 use Rattle.deterministic.proofs.Numbers.{Tests, number_append, number-first, number-found}
 use Rattle.deterministic.proofs.Visits.{visits-more}
@@ -24,12 +24,12 @@ module _ {A : Type 0} (S : System A) where
   turns p rows [] = rows
   turns p rows (l ∷ ls) = turns p (turn rows (S.step p l)) ls
 
-  pub expand-turns : (rows : List A) (i : ℕ) → expand S rows i ≡ turns (placeAt S rows i) rows S.labels
-  unfolding expand movesFrom visits visit
-  expand-turns rows i = go S.labels rows
+  pub expand_turns : (rows : List A) (i : ℕ) → expand S rows i ≡ turns (place_at S rows i) rows S.labels
+  unfolding expand moves_from visits visit
+  expand_turns rows i = go S.labels rows
     where
       p : A
-      p = placeAt S rows i
+      p = place_at S rows i
 
       moves : List ℕ → List (Move A)
       moves ls = map (λ l. record { row = i; label = l; goal = S.step p l }) (keep (λ l. S.live (S.step p l)) ls)
@@ -42,7 +42,7 @@ module _ {A : Type 0} (S : System A) where
           q = S.step p l
 
           case : (b : Bool) → ((r : List A) → visits S r (moves ls) ≡ turns p r ls)
-              → visits S done (map (λ l. record { row = i; label = l; goal = S.step p l }) (consIf b l (keep (λ l. S.live (S.step p l)) ls)))
+              → visits S done (map (λ l. record { row = i; label = l; goal = S.step p l }) (cons_if b l (keep (λ l. S.live (S.step p l)) ls)))
               ≡ turns p (cond b (cond (seen S.same done q) done (done ++ (q ∷ []))) done) ls
           case true h = h (cond (seen S.same done q) done (done ++ (q ∷ [])))
           case false h = h done
@@ -56,7 +56,7 @@ module _ {A : Type 0} (S : System A) where
         case : (b : Bool) → (extra : List A) × (search S n (suc i) (expand S rows i) ≡ expand S rows i ++ extra)
             → (extra : List A) × (cond b (search S n (suc i) (expand S rows i)) rows ≡ rows ++ extra)
         case true (x, e) =
-            let (y, d) = visits-more S t rows (movesFrom S i (placeAt S rows i)) in
+            let (y, d) = visits-more S t rows (moves_from S i (place_at S rows i)) in
             (y ++ x, e ∙ (ap (λ l. l ++ x) d ∙ append_assoc rows y x))
         case false h = ([], sym (append-nil rows))
 
@@ -82,6 +82,6 @@ module _ (t : Table) (r : ℕ) (s : Stable t (refined t r)) where
   later zero = ap (refined t) (zero-add r)
   later (suc k) = ap (refined t) (suc-add k r) ∙ (ap (refine t) (later k) ∙ s)
 
-  pub stops-early : r ≤ t.size → blocks t ≡ refined t r
+  pub stops_early : r ≤ t.size → blocks t ≡ refined t r
   unfolding blocks
-  stops-early b = let e : t.size ≡ t.size - r + r = omega arith in ap (refined t) e ∙ later (t.size - r)
+  stops_early b = let e : t.size ≡ t.size - r + r = omega arith in ap (refined t) e ∙ later (t.size - r)

@@ -14,7 +14,7 @@ use Rattle.deterministic.specs.inner.Blocks.{Table, block_of, signature, refined
 use Rattle.deterministic.proofs.ListLaws.{same_flag, map_same}
 use Rattle.deterministic.proofs.Runs.{same-sym}
 use Rattle.deterministic.proofs.Found.{Speaks}
-use Rattle.deterministic.proofs.Refining.{Partition, signed-final, signed-next, refine-to, refine-of, Stable, one_block, refined-partition}
+use Rattle.deterministic.proofs.Refining.{Partition, signed-final, signed-next, refine-to, refine-of, Stable, one_block, refined_partition}
 
 -- A table as a system.
 abbrev pub tabled : Table → System ℕ
@@ -102,4 +102,4 @@ module _ (t : Table) where
             case l m (yes x) (yes y) = h (t.next j l) (t.next k l) x y (λ w. (next-words j k a b s l m x y w, next-words k j b a (same-sym s) l m y x w))
             case l m (yes x) (no y) = absurd (y (follows j k a b s l m x))
             case l m (no x) (yes y) = absurd (x (follows k j b a (same-sym s) l m y))
-            case l m (no x) (no y) = outside c (refined-partition t r) (t.next j l) (omega (arith, x)) ∙ sym (outside c (refined-partition t r) (t.next k l) (omega (arith, y)))
+            case l m (no x) (no y) = outside c (refined_partition t r) (t.next j l) (omega (arith, x)) ∙ sym (outside c (refined_partition t r) (t.next k l) (omega (arith, y)))

@@ -14,20 +14,20 @@ use Rattle.lts.specs.inner.Lists.{up_from}
 use Rattle.lts.specs.Lists.{any_of as some}
 use Rattle.deterministic.specs.Automata.{edge, Automaton, count, IsFinal, IsEdge, WellFormed}
 use Rattle.deterministic.specs.inner.Lists.{Distinct}
-use Rattle.deterministic.specs.inner.Search.{System, number_of, placeAt, found, movesUpto}
+use Rattle.deterministic.specs.inner.Search.{System, number_of, place_at, found, moves_upto}
 use Rattle.deterministic.specs.inner.Explored.{Places, Tabulates, Explored}
-use Rattle.deterministic.specs.inner.Subsets.{sameFlags, setOf, start_set, joins, stepSet, finalSet, nonempty, subsets, table_of, sets, IsBuild}
+use Rattle.deterministic.specs.inner.Subsets.{same_flags, set_of, start_set, joins, step_set, final_set, nonempty, subsets, table_of, sets, IsBuild}
 use Rattle.lts.proofs.Booleans.{and-true-of, and-true-to}
-use Rattle.lts.proofs.Lists.{upFrom-to, upFrom-length, upFrom-at, getD-mem, mem_index, some_of, some_to}
+use Rattle.lts.proofs.Lists.{up_from-to, up_from-length, up_from-at, get_d_mem, mem_index, some_of, some_to}
 use Rattle.deterministic.proofs.ListLaws.{same_flag, get_d_map}
-use Rattle.deterministic.proofs.Numbers.{Tests, lists-tests, number-mem-of}
+use Rattle.deterministic.proofs.Numbers.{Tests, lists_tests, number_mem_of}
 use Rattle.deterministic.proofs.Visits.{all_first, all-distinct}
-use Rattle.deterministic.proofs.Search.{Expanded, Complete, passes_on, found-expanded, found-complete}
+use Rattle.deterministic.proofs.Search.{Expanded, Complete, passes_on, found_expanded, found_complete}
 use Rattle.deterministic.proofs.Found.{goal-row}
 use Rattle.deterministic.proofs.SetSystem.{IsSets}
 
-pub flags-tests : Tests sameFlags
-flags-tests = lists-tests (record { of = equal; to = λ x y e. subst (λ (z : Bool). cond x z (not z) ≡ true) e (itself x) })
+pub flags_tests : Tests same_flags
+flags_tests = lists_tests (record { of = equal; to = λ x y e. subst (λ (z : Bool). cond x z (not z) ≡ true) e (itself x) })
   where
     equal : (a b : Bool) → cond a b (not b) ≡ true → a ≡ b
     equal true b e = sym e
@@ -41,8 +41,8 @@ flags-tests = lists-tests (record { of = equal; to = λ x y e. subst (λ (z : Bo
 abbrev pub In : List Bool → ℕ → Type 0
 In s q = get_or s q false ≡ true
 
-pub in-length : (s : List Bool) (q : ℕ) → In s q → q < length s
-in-length s q h = case (dec_lt q (length s))
+pub in_length : (s : List Bool) (q : ℕ) → In s q → q < length s
+in_length s q h = case (dec_lt q (length s))
   where
     case : Dec (q < length s) → q < length s
     case (yes x) = x
@@ -57,31 +57,31 @@ nonempty-of s e =
 
 pub nonempty-to : (s : List Bool) (q : ℕ) → In s q → nonempty s ≡ true
 unfolding nonempty
-nonempty-to s q h = some_to (λ b. b) s (getD-mem s q false (in-length s q h)) h
+nonempty-to s q h = some_to (λ b. b) s (get_d_mem s q false (in_length s q h)) h
 
 module _ (A : Automaton) where
-  pub set_at : (f : ℕ → Bool) (q : ℕ) → q < count A → get_or (setOf A f) q false ≡ f q
-  unfolding setOf
-  set_at f q h = get_d_map f (up_from 0 (count A)) q false 0 (omega (arith, upFrom-length 0 (count A))) ∙ ap f (upFrom-at 0 (count A) q 0 h ∙ zero-add q)
+  pub set_at : (f : ℕ → Bool) (q : ℕ) → q < count A → get_or (set_of A f) q false ≡ f q
+  unfolding set_of
+  set_at f q h = get_d_map f (up_from 0 (count A)) q false 0 (omega (arith, up_from-length 0 (count A))) ∙ ap f (up_from-at 0 (count A) q 0 h ∙ zero-add q)
 
-  pub set-length : (f : ℕ → Bool) → length (setOf A f) ≡ count A
-  unfolding setOf
-  set-length f = length-map (up_from 0 (count A)) f ∙ upFrom-length 0 (count A)
+  pub set-length : (f : ℕ → Bool) → length (set_of A f) ≡ count A
+  unfolding set_of
+  set-length f = length-map (up_from 0 (count A)) f ∙ up_from-length 0 (count A)
 
-  pub set-of : (f : ℕ → Bool) (q : ℕ) → In (setOf A f) q → (q < count A) × (f q ≡ true)
+  pub set-of : (f : ℕ → Bool) (q : ℕ) → In (set_of A f) q → (q < count A) × (f q ≡ true)
   set-of f q h =
-      let b : q < count A = omega (arith, in-length (setOf A f) q h, set-length f) in
+      let b : q < count A = omega (arith, in_length (set_of A f) q h, set-length f) in
       (b, sym (set_at f q b) ∙ h)
 
-  pub set_to : (f : ℕ → Bool) (q : ℕ) → q < count A → f q ≡ true → In (setOf A f) q
+  pub set_to : (f : ℕ → Bool) (q : ℕ) → q < count A → f q ≡ true → In (set_of A f) q
   set_to f q b e = set_at f q b ∙ e
 
-  pub step-at : (s : List Bool) (l q : ℕ) → q < count A → get_or (stepSet A s l) q false ≡ some (joins A s l q) A.edges
-  unfolding stepSet
+  pub step-at : (s : List Bool) (l q : ℕ) → q < count A → get_or (step_set A s l) q false ≡ some (joins A s l q) A.edges
+  unfolding step_set
   step-at s l q h = set_at (λ q. some (joins A s l q) A.edges) q h
 
-  pub step-of : (s : List Bool) (l q : ℕ) → In (stepSet A s l) q → (p : ℕ) × In s p × IsEdge A (edge p l q)
-  unfolding stepSet
+  pub step-of : (s : List Bool) (l q : ℕ) → In (step_set A s l) q → (p : ℕ) × In s p × IsEdge A (edge p l q)
+  unfolding step_set
   step-of s l q h =
       let (b, x) = set-of (λ q. some (joins A s l q) A.edges) q h in
       let (e, m, y) = some_of (joins A s l q) A.edges x in
@@ -93,9 +93,9 @@ module _ (A : Automaton) where
       (e.row, v, subst (IsEdge A) z m)
 
   module _ (f : WellFormed A) where
-    pub step-to : (s : List Bool) (l p q : ℕ) → In s p → IsEdge A (edge p l q) → In (stepSet A s l) q
-    unfolding stepSet
-    step-to s l p q h m = set_to (λ q. some (joins A s l q) A.edges) q (f.in-range (edge p l q) m).1
+    pub step-to : (s : List Bool) (l p q : ℕ) → In s p → IsEdge A (edge p l q) → In (step_set A s l) q
+    unfolding step_set
+    step-to s l p q h m = set_to (λ q. some (joins A s l q) A.edges) q (f.in_range (edge p l q) m).1
         (some_to (joins A s l q) A.edges m (and-true-to (eqb l l && eqb q q) (get_or s p false) (and-true-to (eqb l l) (eqb q q) (eq-eqb l l refl) (eq-eqb q q refl)) h))
 
     pub start_of : (q : ℕ) → In (start_set A) q → q ≡ 0
@@ -104,18 +104,18 @@ module _ (A : Automaton) where
 
     pub start-to : In (start_set A) 0
     unfolding start_set
-    start-to = set_to (λ q. eqb q 0) 0 f.some-state refl
+    start-to = set_to (λ q. eqb q 0) 0 f.some_state refl
 
-    final-of : (s : List Bool) → finalSet A s ≡ true → (q : ℕ) × In s q × IsFinal A q
-    unfolding finalSet
+    final-of : (s : List Bool) → final_set A s ≡ true → (q : ℕ) × In s q × IsFinal A q
+    unfolding final_set
     final-of s e =
         let (q, m, x) = some_of (λ q. get_or s q false && get_or A.final q false) (up_from 0 (count A)) e in
         let (y, z) = and-true-of (get_or s q false) (get_or A.final q false) x in
         (q, y, z)
 
-    final-to : (s : List Bool) (q : ℕ) → In s q → IsFinal A q → finalSet A s ≡ true
-    unfolding finalSet
-    final-to s q h r = some_to (λ q. get_or s q false && get_or A.final q false) (up_from 0 (count A)) (upFrom-to 0 (count A) q (omega arith) (omega (arith, in-length A.final q r)))
+    final-to : (s : List Bool) (q : ℕ) → In s q → IsFinal A q → final_set A s ≡ true
+    unfolding final_set
+    final-to s q h r = some_to (λ q. get_or s q false && get_or A.final q false) (up_from 0 (count A)) (up_from-to 0 (count A) q (omega arith) (omega (arith, in_length A.final q r)))
         (and-true-to (get_or s q false) (get_or A.final q false) h r)
 
   -- A flag for each state.
@@ -129,56 +129,56 @@ module _ (alphabet : List ℕ) (A : Automaton) (b : IsBuild alphabet A) where
   abbrev S : System (List Bool)
   S = subsets A alphabet
 
-  pub subsets-sets : IsSets A S (finalSet A) In (Sized A)
-  unfolding start_set stepSet
+  pub subsets-sets : IsSets A S (final_set A) In (Sized A)
+  unfolding start_set step_set
   subsets-sets = record {
     labelled = b.labelled;
-    tests = flags-tests;
+    tests = flags_tests;
     good_start = set-length A (λ q. eqb q 0);
-    good-step = λ p l g. set-length A (λ q. some (joins A p l q) A.edges);
-    in-range = λ p q g i. omega (arith, in-length p q i);
-    start_of = start_of A b.well-formed;
-    start-to = start-to A b.well-formed;
+    good_step = λ p l g. set-length A (λ q. some (joins A p l q) A.edges);
+    in_range = λ p q g i. omega (arith, in_length p q i);
+    start_of = start_of A b.well_formed;
+    start-to = start-to A b.well_formed;
     step-of = λ p l q g i. step-of A p l q i;
-    step-to = λ p l r q g i e. step-to A b.well-formed p l r q i e;
+    step-to = λ p l r q g i e. step-to A b.well_formed p l r q i e;
     live_of = λ p g e. nonempty-of p e;
     live_to = λ p q g i. nonempty-to p q i;
-    final-of = λ p g e. final-of A b.well-formed p e;
-    final-to = λ p q g i e. final-to A b.well-formed p q i e;
+    final-of = λ p g e. final-of A b.well_formed p e;
+    final-to = λ p q g i e. final-to A b.well_formed p q i e;
     same_set = same_set A;
   }
 
   places : (rows : List (List Bool)) (i : ℕ) → Expanded S i rows → Places S rows
   places rows i x = record {
-    first = subst (λ (l : List (List Bool)). (0 < length l) × (placeAt S l 0 ≡ S.start)) (sym x.built) (all_first S flags-tests S.start (movesUpto S rows i));
+    first = subst (λ (l : List (List Bool)). (0 < length l) × (place_at S l 0 ≡ S.start)) (sym x.built) (all_first S flags_tests S.start (moves_upto S rows i));
     reached = x.reached;
-    distinct = subst (λ (l : List (List Bool)). Distinct l) (sym x.built) (all-distinct S flags-tests S.start (movesUpto S rows i));
+    distinct = subst (λ (l : List (List Bool)). Distinct l) (sym x.built) (all-distinct S flags_tests S.start (moves_upto S rows i));
   }
 
-  tabulates : (rows : List (List Bool)) → Complete S rows → Tabulates S (finalSet A) rows (table_of A alphabet rows)
+  tabulates : (rows : List (List Bool)) → Complete S rows → Tabulates S (final_set A) rows (table_of A alphabet rows)
   tabulates rows c = record {
     size_is = refl;
-    labels-are = refl;
+    labels_are = refl;
     marked = λ k h. refl;
     leading = λ k l h m. record {
-      lives = goal-row S flags-tests rows c k l h m;
-      ends = λ e. dead k l h e (dec_lt (number_of sameFlags rows (stepSet A (placeAt S rows k) l)) (length rows));
+      lives = goal-row S flags_tests rows c k l h m;
+      ends = λ e. dead k l h e (dec_lt (number_of same_flags rows (step_set A (place_at S rows k) l)) (length rows));
     };
   }
     where
       -- Rows live, so what does not live is none.
-      dead : (k l : ℕ) → k < length rows → nonempty (stepSet A (placeAt S rows k) l) ≡ false → Dec (number_of sameFlags rows (stepSet A (placeAt S rows k) l) < length rows)
-          → length rows ≤ number_of sameFlags rows (stepSet A (placeAt S rows k) l)
+      dead : (k l : ℕ) → k < length rows → nonempty (step_set A (place_at S rows k) l) ≡ false → Dec (number_of same_flags rows (step_set A (place_at S rows k) l) < length rows)
+          → length rows ≤ number_of same_flags rows (step_set A (place_at S rows k) l)
       dead k l h e (no x) = omega (arith, x)
       dead k l h e (yes x) =
-          let q = stepSet A (placeAt S rows k) l in
-          let (w, r) = c.reached q (number-mem-of flags-tests rows q S.start x) in
-          let y = passes_on S (λ p. nonempty p ≡ true) (λ p l g m z. z) S.start q w (nonempty-to S.start 0 (start-to A b.well-formed)) r in
+          let q = step_set A (place_at S rows k) l in
+          let (w, r) = c.reached q (number_mem_of flags_tests rows q S.start x) in
+          let y = passes_on S (λ p. nonempty p ≡ true) (λ p l g m z. z) S.start q w (nonempty-to S.start 0 (start-to A b.well_formed)) r in
           absurd (false≢true (sym e ∙ y))
 
-  pub subsets-explored : (limit : ℕ) → Explored S (finalSet A) limit (length (sets A alphabet limit)) (table_of A alphabet (sets A alphabet limit))
+  pub subsets_explored : (limit : ℕ) → Explored S (final_set A) limit (length (sets A alphabet limit)) (table_of A alphabet (sets A alphabet limit))
   unfolding sets
-  subsets-explored limit = record {
-    few = λ h. let c = found-complete S flags-tests limit h in (found S limit, refl, places (found S limit) (length (found S limit)) c, tabulates (found S limit) c);
-    many = λ h. let (j, x) = found-expanded S flags-tests limit in (found S limit, h, places (found S limit) j x);
+  subsets_explored limit = record {
+    few = λ h. let c = found_complete S flags_tests limit h in (found S limit, refl, places (found S limit) (length (found S limit)) c, tabulates (found S limit) c);
+    many = λ h. let (j, x) = found_expanded S flags_tests limit in (found S limit, h, places (found S limit) j x);
   }

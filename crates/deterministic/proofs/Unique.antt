@@ -12,9 +12,9 @@ use Rattle.lts.specs.Lists.{Rising}
 use Rattle.automaton.specs.Listing.{Edge}
 use Rattle.deterministic.specs.Automata.{edge, Automaton, count, IsEdge, Leads, Reads, Accepts, bare}
 use Rattle.deterministic.specs.Smallest.{Before, SameWords, CanFinish, IsSmallest}
-use Rattle.lts.proofs.Lists.{rising-unique}
-use Rattle.deterministic.proofs.ListLaws.{same_flag, mem-split}
-use Rattle.deterministic.proofs.Runs.{same-sym, same-trans, after-edge, before-never, before-trans, sorted-deterministic, bare-reads-none}
+use Rattle.lts.proofs.Lists.{rising_unique}
+use Rattle.deterministic.proofs.ListLaws.{same_flag, mem_split}
+use Rattle.deterministic.proofs.Runs.{same-sym, same_trans, after_edge, before_never, before_trans, sorted_deterministic, bare-reads-none}
 
 -- The first edge of a list that leads to n.
 pub record FirstTo (n : ℕ) (l : List Edge) : Type 0 where
@@ -48,7 +48,7 @@ stands-before (y ∷ pre) post x a s m =
     elim (Memᴰ.cases_cons m) [ inl e ↦ subst (λ u. Before u x) (sym e) (s.0 x (Memᴰ.append_right pre (Memᴰ.head refl))) | inr n ↦ stands-before pre post x a s.1 n ]
 
 pub before_stands : (pre post : List Edge) (x a : Edge) → Rising Before (pre ++ (x ∷ post)) → Memᴰ a (pre ++ (x ∷ post)) → Before a x → Memᴰ a pre
-before_stands [] post x a s m b = elim (Memᴰ.cases_cons m) [ inl e ↦ let z = subst (λ u. Before u x) e b in absurd (before-never x x z z) | inr n ↦ absurd (before-never x a (s.0 a n) b) ]
+before_stands [] post x a s m b = elim (Memᴰ.cases_cons m) [ inl e ↦ let z = subst (λ u. Before u x) e b in absurd (before_never x x z z) | inr n ↦ absurd (before_never x a (s.0 a n) b) ]
 before_stands (y ∷ pre) post x a s m b = elim (Memᴰ.cases_cons m) [ inl e ↦ Memᴰ.head e | inr n ↦ Memᴰ.tail (before_stands pre post x a s.1 n b) ]
 
 -- A run from below n to n has an edge from below n to n or beyond.
@@ -68,22 +68,22 @@ pub record Entry (d : Automaton) (n : ℕ) : Type 0 where
 
 module _ {P : List ℕ → Type 0} {d : Automaton} (h : IsSmallest P d) where
   -- An edge to n or beyond is not before the first edge to n.
-  not-early : (n : ℕ) (f : FirstTo n d.edges) (e : Edge) → 1 ≤ n → IsEdge d e → n ≤ e.target → Before e f.first → ⊥
-  not-early n f e c m b t = case (ℕ_discrete e.target n)
+  not_early : (n : ℕ) (f : FirstTo n d.edges) (e : Edge) → 1 ≤ n → IsEdge d e → n ≤ e.target → Before e f.first → ⊥
+  not_early n f e c m b t = case (ℕ_discrete e.target n)
     where
-      sorted-split : Rising Before (f.before ++ (f.first ∷ f.after))
-      sorted-split = subst (Rising Before) f.split h.sorted
+      sorted_split : Rising Before (f.before ++ (f.first ∷ f.after))
+      sorted_split = subst (Rising Before) f.split h.sorted
 
       stands : (a : Edge) → IsEdge d a → Before a f.first → Memᴰ a f.before
-      stands a k z = before_stands f.before f.after f.first a sorted-split (subst (Memᴰ a) f.split k) z
+      stands a k z = before_stands f.before f.after f.first a sorted_split (subst (Memᴰ a) f.split k) z
 
       case : Dec (e.target ≡ n) → ⊥
       case (yes z) = f.none e (stands e m t) z
       case (no z) =
-          let (pre, post, q) = mem-split m in
-          let (a, k, y) = h.in-turn pre post e q n c (omega (arith, z)) in
+          let (pre, post, q) = mem_split m in
+          let (a, k, y) = h.in_turn pre post e q n c (omega (arith, z)) in
           let u = stands-before pre post e a (subst (Rising Before) q h.sorted) k in
-          f.none a (stands a (subst (Memᴰ a) (sym q) (Memᴰ.append_left (e ∷ post) k)) (before-trans a e f.first u t)) y
+          f.none a (stands a (subst (Memᴰ a) (sym q) (Memᴰ.append_left (e ∷ post) k)) (before_trans a e f.first u t)) y
 
   edge_to : (n : ℕ) → 1 ≤ n → (e : Edge) → IsEdge d e → n ≤ e.target → FirstTo n d.edges
   edge_to n c e m b = case (ℕ_discrete e.target n)
@@ -91,8 +91,8 @@ module _ {P : List ℕ → Type 0} {d : Automaton} (h : IsSmallest P d) where
       case : Dec (e.target ≡ n) → FirstTo n d.edges
       case (yes z) = first_to n d.edges e m z
       case (no z) =
-          let (pre, post, q) = mem-split m in
-          let (a, k, y) = h.in-turn pre post e q n c (omega (arith, z)) in
+          let (pre, post, q) = mem_split m in
+          let (a, k, y) = h.in_turn pre post e q n c (omega (arith, z)) in
           first_to n d.edges a (subst (Memᴰ a) (sym q) (Memᴰ.append_left (e ∷ post) k)) y
 
   pub entry : (n : ℕ) → 1 ≤ n → n < count d → Entry d n
@@ -110,36 +110,36 @@ module _ {P : List ℕ → Type 0} {d : Automaton} (h : IsSmallest P d) where
       stands f = subst (Memᴰ f.first) (sym f.split) (Memᴰ.append_right f.before (Memᴰ.head refl))
 
       case : (f : FirstTo n d.edges) (e : Edge) → IsEdge d e → e.row < n → n ≤ e.target → Dec (e.row < f.first.row) → f.first.row < n
-      case f e m x y (yes z) = absurd (not-early n f e c m y (inl z))
+      case f e m x y (yes z) = absurd (not_early n f e c m y (inl z))
       case f e m x y (no z) = omega (arith, z)
 
 -- State i of one automaton and state j of another have the same residual.
 abbrev pub Match : Automaton → Automaton → ℕ → ℕ → Type 0
 Match d e i j = (i < count d) × (j < count e) × SameWords (Reads d i) (Reads e j)
 
-match-sym : {d e : Automaton} {i j : ℕ} → Match d e i j → Match e d j i
-match-sym (a, b, s) = (b, a, same-sym s)
+match_sym : {d e : Automaton} {i j : ℕ} → Match d e i j → Match e d j i
+match_sym (a, b, s) = (b, a, same-sym s)
 
 module _ {P Q : List ℕ → Type 0} {d e : Automaton} (h : IsSmallest P d) (k : IsSmallest Q e) where
   -- A match goes along an edge, if every state can finish.
   along : CanFinish d → (i j l i' : ℕ) → Match d e i j → IsEdge d (edge i l i') → (j' : ℕ) × IsEdge e (edge j l j') × Match d e i' j'
   along fd i j l i' (a, b, s) m =
-      let c = (h.well-formed.in-range (edge i l i') m).1 in
+      let c = (h.well_formed.in_range (edge i l i') m).1 in
       let (w, r) = fd i' c in
       let (j', n, u) = (s (l ∷ w)).0 (i', m, r) in
-      let det-d = sorted-deterministic d h.sorted in
-      let det-e = sorted-deterministic e k.sorted in (
+      let det-d = sorted_deterministic d h.sorted in
+      let det-e = sorted_deterministic e k.sorted in (
         j',
         n,
         (
           c,
-          (k.well-formed.in-range (edge j l j') n).1,
-          λ v. (λ x. after-edge e det-e j l j' n v ((s (l ∷ v)).0 (i', m, x)), λ x. after-edge d det-d i l i' m v ((s (l ∷ v)).1 (j', n, x))),
+          (k.well_formed.in_range (edge j l j') n).1,
+          λ v. (λ x. after_edge e det-e j l j' n v ((s (l ∷ v)).0 (i', m, x)), λ x. after_edge d det-d i l i' m v ((s (l ∷ v)).1 (j', n, x))),
         ),
       )
 
   one_left : (i i' j : ℕ) → Match d e i j → Match d e i' j → i ≡ i'
-  one_left i i' j (a, b, s) (a', b', s') = h.apart i i' a a' (same-trans s (same-sym s'))
+  one_left i i' j (a, b, s) (a', b', s') = h.apart i i' a a' (same_trans s (same-sym s'))
 
 -- Two smallest automata of the same words, in which every state can finish: state i of one has the residual of state i of the other.
 module _ {P Q : List ℕ → Type 0} {d e : Automaton} (h : IsSmallest P d) (k : IsSmallest Q e) (fd : CanFinish d) (fe : CanFinish e) where
@@ -153,8 +153,8 @@ module _ {P Q : List ℕ → Type 0} {d e : Automaton} (h : IsSmallest P d) (k :
   not_beyond : (n m i l : ℕ) → 1 ≤ n → Same n → (f : FirstTo n d.edges) → f.first.row ≡ i → f.first.label ≡ l → i < n → n < count d
       → IsEdge e (edge i l m) → n < m → ⊥
   not_beyond n m i l c g f x y b o t u =
-      let (pre, post, q) = mem-split t in
-      let (a, p, z) = k.in-turn pre post (edge i l m) q n c u in
+      let (pre, post, q) = mem_split t in
+      let (a, p, z) = k.in_turn pre post (edge i l m) q n c u in
       let r = stands-before pre post (edge i l m) a (subst (Rising Before) q k.sorted) p in
       let a-edge = subst (Memᴰ a) (sym q) (Memᴰ.append_left (edge i l m ∷ post) p) in
       case a z a-edge r
@@ -168,13 +168,13 @@ module _ {P Q : List ℕ → Type 0} {d e : Automaton} (h : IsSmallest P d) (k :
       early a (inr v) j = inr (v.0 ∙ sym x, omega (arith, v.1))
 
       side : (a : Edge) → a.target ≡ n → Before a (edge i l m) → (j : ℕ) → IsEdge d (edge a.row a.label j) → Match e d a.target j → Dec (j < n) → ⊥
-      side a z r j s v (yes w) = let y : a.target ≡ j = one_left k h a.target j j v (match-sym (g j w (omega arith))) in omega arith
-      side a z r j s v (no w) = not-early h n f (edge a.row a.label j) c s (omega (arith, w)) (early a r j)
+      side a z r j s v (yes w) = let y : a.target ≡ j = one_left k h a.target j j v (match_sym (g j w (omega arith))) in omega arith
+      side a z r j s v (no w) = not_early h n f (edge a.row a.label j) c s (omega (arith, w)) (early a r j)
 
       case : (a : Edge) → a.target ≡ n → IsEdge e a → Before a (edge i l m) → ⊥
       case a z s r =
           let w = low a r in
-          let (j, v, y) = along k h fe a.row a.row a.label a.target (match-sym (g a.row w (omega arith))) s in
+          let (j, v, y) = along k h fe a.row a.row a.label a.target (match_sym (g a.row w (omega arith))) s in
           side a z r j v y (dec_lt j n)
 
   next : (n : ℕ) → 1 ≤ n → Same n → n < count d → Match d e n n
@@ -199,28 +199,28 @@ module _ {P Q : List ℕ → Type 0} {d e : Automaton} (h : IsSmallest P d) (k :
       where
         case : Dec (i < n) → (m : ℕ) → m ≡ n → Same n → Match d e i i
         case (yes x) m z g = g i x c
-        case (no x) zero z g = let y : 0 ≡ i = omega arith in subst (λ (j : ℕ). Match d e j j) y (h.well-formed.some-state, k.well-formed.some-state, same)
+        case (no x) zero z g = let y : 0 ≡ i = omega arith in subst (λ (j : ℕ). Match d e j j) y (h.well_formed.some_state, k.well_formed.some_state, same)
         case (no x) (suc m) z g = let y : n ≡ i = omega arith in subst (λ (j : ℕ). Match d e j j) y (next n (omega arith) g (omega arith))
 
-    pub match-at : (i : ℕ) → i < count d → Match d e i i
-    match-at i b = matched (suc i) i (omega arith) b
+    pub match_at : (i : ℕ) → i < count d → Match d e i i
+    match_at i b = matched (suc i) i (omega arith) b
 
     -- So an edge of one is an edge of the other.
     pub shared : (a : Edge) → IsEdge d a → IsEdge e a
     shared a m =
-        let r = h.well-formed.in-range a m in
-        let (j, n, t) = along h k fd a.row a.row a.label a.target (match-at a.row r.0) m in
-        let z : j ≡ a.target = one_left k h j a.target a.target (match-sym t) (match-sym (match-at a.target r.1)) in
+        let r = h.well_formed.in_range a m in
+        let (j, n, t) = along h k fd a.row a.row a.label a.target (match_at a.row r.0) m in
+        let z : j ≡ a.target = one_left k h j a.target a.target (match_sym t) (match_sym (match_at a.target r.1)) in
         subst (λ (y : ℕ). IsEdge e (edge a.row a.label y)) z n
 
 finishing : {P Q : List ℕ → Type 0} {d e : Automaton} (h : IsSmallest P d) (k : IsSmallest Q e) → CanFinish d → CanFinish e → SameWords (Accepts d) (Accepts e) → d ≡ e
 finishing {P} {Q} {d} {e} h k fd fe same = λ i. record { final = finals i; edges = edges i }
   where
     up : (i : ℕ) → i < count d → Match d e i i
-    up = match-at h k fd fe same
+    up = match_at h k fd fe same
 
     down : (i : ℕ) → i < count e → Match e d i i
-    down = match-at k h fe fd (same-sym same)
+    down = match_at k h fe fd (same-sym same)
 
     sized : (n m : ℕ) → ((i : ℕ) → i < n → i < m) → n ≤ m
     sized zero m f = omega arith
@@ -233,23 +233,23 @@ finishing {P} {Q} {d} {e} h k fd fe same = λ i. record { final = finals i; edge
         ext_get_or false d.final e.final (omega arith) (λ i b. same_flag _ _ ((up i b).2 []))
 
     edges : d.edges ≡ e.edges
-    edges = rising-unique Before before-never d.edges e.edges h.sorted k.sorted (shared h k fd fe same) (shared k h fe fd (same-sym same))
+    edges = rising_unique Before before_never d.edges e.edges h.sorted k.sorted (shared h k fd fe same) (shared k h fe fd (same-sym same))
 
-never-bare : {P : List ℕ → Type 0} {d e : Automaton} (h : IsSmallest P d) → CanFinish d → SameWords (Accepts d) (Accepts e) → e ≡ bare → ⊥
-never-bare h f same z = let (w, r) = f 0 h.well-formed.some-state in bare-reads-none w (subst (λ (a : Automaton). Accepts a w) z ((same w).0 r))
+never_bare : {P : List ℕ → Type 0} {d e : Automaton} (h : IsSmallest P d) → CanFinish d → SameWords (Accepts d) (Accepts e) → e ≡ bare → ⊥
+never_bare h f same z = let (w, r) = f 0 h.well_formed.some_state in bare-reads-none w (subst (λ (a : Automaton). Accepts a w) z ((same w).0 r))
 
 -- "Two questions over the same label numbers have equal listings exactly when they have equal words."
 pub unique : {P Q : List ℕ → Type 0} {d e : Automaton} → IsSmallest P d → IsSmallest Q e → SameWords P Q → d ≡ e
-unique {P} {Q} {d} {e} h k same = case h.no-trap k.no-trap
+unique {P} {Q} {d} {e} h k same = case h.no_trap k.no_trap
   where
     words : SameWords (Accepts d) (Accepts e)
-    words = same-trans (same-sym h.exact) (same-trans same k.exact)
+    words = same_trans (same-sym h.exact) (same_trans same k.exact)
 
     case : CanFinish d ⊎ (d ≡ bare) → CanFinish e ⊎ (e ≡ bare) → d ≡ e
     case (inl a) (inl b) = finishing h k a b words
-    case (inl a) (inr b) = absurd (never-bare h a words b)
-    case (inr a) (inl b) = absurd (never-bare k b (same-sym words) a)
+    case (inl a) (inr b) = absurd (never_bare h a words b)
+    case (inr a) (inl b) = absurd (never_bare k b (same-sym words) a)
     case (inr a) (inr b) = a ∙ sym b
 
 pub equal_words : {P Q : List ℕ → Type 0} {d e : Automaton} → IsSmallest P d → IsSmallest Q e → d ≡ e → SameWords P Q
-equal_words {P} {Q} {d} {e} h k z = same-trans h.exact (subst (λ (a : Automaton). SameWords (Accepts a) Q) (sym z) (same-sym k.exact))
+equal_words {P} {Q} {d} {e} h k z = same_trans h.exact (subst (λ (a : Automaton). SameWords (Accepts a) Q) (sym z) (same-sym k.exact))

@@ -9,9 +9,9 @@ use Prim.Native.Nat.{ℕ, ◌<◌, ◌≤◌}
 use native.Mathlib.Omega.{arith}
 use lib.ListN.{length, length-append, get_or-append}
 use Rattle.deterministic.specs.inner.Lists.{Distinct}
-use Rattle.deterministic.specs.inner.Search.{System, number_of, seen, Move, placeAt, visit, visits}
-use Rattle.lts.proofs.Lists.{rising-append, getD-mem}
-use Rattle.deterministic.proofs.Numbers.{Tests, number_append, number-new, number-mem, seen_of, unseen, numbered}
+use Rattle.deterministic.specs.inner.Search.{System, number_of, seen, Move, place_at, visit, visits}
+use Rattle.lts.proofs.Lists.{rising_append, get_d_mem}
+use Rattle.deterministic.proofs.Numbers.{Tests, number_append, number_new, number_mem, seen_of, unseen, numbered}
 
 module _ {A : Type 0} (S : System A) (t : Tests S.same) where
   abbrev number : List A → A → ℕ
@@ -39,7 +39,7 @@ module _ {A : Type 0} (S : System A) (t : Tests S.same) where
       where
         case : (b : Bool) → known rows m.goal ≡ b → Distinct (visited b)
         case true e = r
-        case false e = rising-append (λ (x y : A). x ≡ y → ⊥) rows (m.goal ∷ []) r (λ y n. absurd (Memᴰ.not-nil n), tt)
+        case false e = rising_append (λ (x y : A). x ≡ y → ⊥) rows (m.goal ∷ []) r (λ y n. absurd (Memᴰ.not-nil n), tt)
             (λ x y a b z. (unseen t rows m.goal e).1 (Memᴰ.cast (sym (z ∙ Memᴰ.eq_of_singleton b)) a))
 
     visit-of : {p : A} → Memᴰ p (visit S rows m) → Memᴰ p rows ⊎ (p ≡ m.goal)
@@ -68,8 +68,8 @@ module _ {A : Type 0} (S : System A) (t : Tests S.same) where
     visit-number = case (known rows m.goal) refl
       where
         case : (b : Bool) → known rows m.goal ≡ b → number (visited b) m.goal ≤ length rows
-        case true e = omega (arith, number-mem t (seen_of t rows m.goal e))
-        case false e = omega (arith, number-new t rows m.goal (unseen t rows m.goal e).0)
+        case true e = omega (arith, number_mem t (seen_of t rows m.goal e))
+        case false e = omega (arith, number_new t rows m.goal (unseen t rows m.goal e).0)
 
   -- Many visits.
   pub visits-more : (rows : List A) (ms : List (Move A)) → (extra : List A) × (visits S rows ms ≡ rows ++ extra)
@@ -110,10 +110,10 @@ module _ {A : Type 0} (S : System A) (t : Tests S.same) where
       case h (inl e) = visits-keep (visit S rows x) ms (Memᴰ.cast (ap (λ (y : Move A). y.goal) e) (visit-to rows x))
       case h (inr a) = h a
 
-  pub visits-append : (rows : List A) (a b : List (Move A)) → visits S rows (a ++ b) ≡ visits S (visits S rows a) b
+  pub visits_append : (rows : List A) (a b : List (Move A)) → visits S rows (a ++ b) ≡ visits S (visits S rows a) b
   unfolding visits
-  visits-append rows [] b = refl
-  visits-append rows (m ∷ a) b = visits-append (visit S rows m) a b
+  visits_append rows [] b = refl
+  visits_append rows (m ∷ a) b = visits_append (visit S rows m) a b
 
   -- From one row on, a row is the goal of a move before it is the goal of a move with a greater number.
   module _ (r : A) (ms : List (Move A)) where
@@ -123,30 +123,30 @@ module _ {A : Type 0} (S : System A) (t : Tests S.same) where
     pub all-distinct : Distinct all
     all-distinct = visits-distinct (r ∷ []) ms (λ y n. absurd (Memᴰ.not-nil n), tt)
 
-    pub all_first : (0 < length all) × (placeAt S all 0 ≡ r)
-    all_first = let (a, e) = visits-more (r ∷ []) ms in (subst (λ (l : List A). 0 < length l) (sym e) (omega arith), ap (λ l. placeAt S l 0) e)
+    pub all_first : (0 < length all) × (place_at S all 0 ≡ r)
+    all_first = let (a, e) = visits-more (r ∷ []) ms in (subst (λ (l : List A). 0 < length l) (sym e) (omega arith), ap (λ l. place_at S l 0) e)
 
-    pub all-numbered : (i : ℕ) → i < length all → number all (placeAt S all i) ≡ i
+    pub all-numbered : (i : ℕ) → i < length all → number all (place_at S all i) ≡ i
     all-numbered i h = numbered t all all-distinct i S.start h
 
-    goal-or : (i : ℕ) → 1 ≤ i → i < length all → (l : List (Move A)) → Memᴰ (placeAt S all i) (r ∷ []) ⊎ ((m : Move A) × Memᴰ m l × (placeAt S all i ≡ m.goal))
+    goal-or : (i : ℕ) → 1 ≤ i → i < length all → (l : List (Move A)) → Memᴰ (place_at S all i) (r ∷ []) ⊎ ((m : Move A) × Memᴰ m l × (place_at S all i ≡ m.goal))
         → (m : Move A) × Memᴰ m l × (number all m.goal ≡ i)
     goal-or i h b l (inl n) =
-        let e : placeAt S all i ≡ placeAt S all 0 = Memᴰ.eq_of_singleton n ∙ sym all_first.1 in
+        let e : place_at S all i ≡ place_at S all 0 = Memᴰ.eq_of_singleton n ∙ sym all_first.1 in
         let z : i ≡ 0 = sym (all-numbered i b) ∙ (ap (number all) e ∙ all-numbered 0 (omega (arith, all_first.0))) in
         absurd (omega arith)
     goal-or i h b l (inr (m, n, e)) = (m, n, ap (number all) (sym e) ∙ all-numbered i b)
 
-    pub all-in-turn : (pre : List (Move A)) (x : Move A) (post : List (Move A)) → ms ≡ pre ++ (x ∷ post) → (i : ℕ) → 1 ≤ i → i < number all x.goal
+    pub all_in_turn : (pre : List (Move A)) (x : Move A) (post : List (Move A)) → ms ≡ pre ++ (x ∷ post) → (i : ℕ) → 1 ≤ i → i < number all x.goal
         → (m : Move A) × Memᴰ m pre × (number all m.goal ≡ i)
     unfolding visits
-    all-in-turn pre x post e i h b =
+    all_in_turn pre x post e i h b =
         let B = visits S (r ∷ []) pre in
         let (u, a) = visits-more B (x ∷ post) in
         let (v, c) = visits-more (visit S B x) post in
-        let g : all ≡ visits S B (x ∷ post) = ap (visits S (r ∷ [])) e ∙ visits-append (r ∷ []) pre (x ∷ post) in
-        let n : number all x.goal ≡ number (visit S B x) x.goal = ap (λ l. number l x.goal) (g ∙ c) ∙ number_append t (visit S B x) v x.goal (number-mem t (visit-to B x)) in
+        let g : all ≡ visits S B (x ∷ post) = ap (visits S (r ∷ [])) e ∙ visits_append (r ∷ []) pre (x ∷ post) in
+        let n : number all x.goal ≡ number (visit S B x) x.goal = ap (λ l. number l x.goal) (g ∙ c) ∙ number_append t (visit S B x) v x.goal (number_mem t (visit-to B x)) in
         let k : i < length B = omega (arith, visit-number B x) in
-        let z : placeAt S all i ≡ placeAt S B i = ap (λ l. placeAt S l i) (g ∙ a) ∙ get_or-append B u S.start i k in
+        let z : place_at S all i ≡ place_at S B i = ap (λ l. place_at S l i) (g ∙ a) ∙ get_or-append B u S.start i k in
         let y : i < length all = omega (arith, ap length (g ∙ a), length-append B u) in
-        goal-or i h y pre (visits-of (r ∷ []) pre (Memᴰ.cast z (getD-mem B i S.start k)))
+        goal-or i h y pre (visits-of (r ∷ []) pre (Memᴰ.cast z (get_d_mem B i S.start k)))

@@ -35,8 +35,8 @@ Accepts A w = Reads A 0 w
 
 -- There is a start, and edges join states.
 pub record WellFormed (A : Automaton) : Type 0 where
-  pub some-state : 0 < count A
-  pub in-range : (e : Edge) → IsEdge A e → (e.row < count A) × (e.target < count A)
+  pub some_state : 0 < count A
+  pub in_range : (e : Edge) → IsEdge A e → (e.row < count A) × (e.target < count A)
 
 -- At most one edge leaves a state by a label.
 abbrev pub Deterministic : Automaton → Type 0

@@ -6,18 +6,18 @@ use Rattle.automaton.specs.Listing.{Edge}
 use Rattle.automaton.specs.Bytes.{bit_of}
 use Rattle.deterministic.specs.Automata.{Automaton, count}
 
-abbrev pub stepBytes : Edge → List ℕ
-stepBytes e = e.row ∷ e.label ∷ e.target ∷ []
+abbrev pub step_bytes : Edge → List ℕ
+step_bytes e = e.row ∷ e.label ∷ e.target ∷ []
 
-unfoldable pub automatonBytes : Automaton → List ℕ
-automatonBytes d = low_first 2 (count d) ++ (low_first 2 (length d.edges) ++ (map bit_of d.final ++ bind stepBytes d.edges))
+unfoldable pub automaton_bytes : Automaton → List ℕ
+automaton_bytes d = low_first 2 (count d) ++ (low_first 2 (length d.edges) ++ (map bit_of d.final ++ bind step_bytes d.edges))
 
 -- The used bytes of a buffer that begins so.
 abbrev pub pair_at : ℕ → List ℕ → ℕ
 pair_at at bytes = get_or bytes at 0 + get_or bytes (at + 1) 0 * 256
 
-abbrev pub usedLength : List ℕ → ℕ
-usedLength bytes = 4 + pair_at 0 bytes + 3 * pair_at 2 bytes
+abbrev pub used_length : List ℕ → ℕ
+used_length bytes = 4 + pair_at 0 bytes + 3 * pair_at 2 bytes
 
 abbrev pub used : List ℕ → List ℕ
-used bytes = take (usedLength bytes) bytes
+used bytes = take (used_length bytes) bytes

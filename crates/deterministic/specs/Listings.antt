@@ -3,5 +3,5 @@ use Rattle.std.specs.Prelude.{map}
 use Rattle.automaton.specs.Listing.{Row, Listing}
 use Rattle.deterministic.specs.Automata.{Automaton}
 
-abbrev pub automatonIn : Listing → Automaton
-automatonIn L = record { final = map (λ (r : Row). r.final) L.rows; edges = L.edges }
+abbrev pub automaton_in : Listing → Automaton
+automaton_in L = record { final = map (λ (r : Row). r.final) L.rows; edges = L.edges }

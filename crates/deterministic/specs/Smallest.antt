@@ -17,14 +17,14 @@ abbrev pub CanFinish : Automaton → Type 0
 CanFinish A = (i : ℕ) → i < count A → (w : List ℕ) × Reads A i w
 
 pub record IsSmallest (words : List ℕ → Type 0) (d : Automaton) : Type 0 where
-  pub well-formed : WellFormed d
+  pub well_formed : WellFormed d
   pub sorted : Rising Before d.edges
   -- "with the same words"
   pub exact : SameWords words (Accepts d)
   pub reached : (i : ℕ) → i < count d → (w : List ℕ) × Leads d 0 w i
   -- "without a trap state"; "an empty language gives one state"
-  pub no-trap : CanFinish d ⊎ (d ≡ bare)
+  pub no_trap : CanFinish d ⊎ (d ≡ bare)
   -- different states have different residuals
   pub apart : (i j : ℕ) → i < count d → j < count d → SameWords (Reads d i) (Reads d j) → i ≡ j
   -- "numbered breadth first by rising label": states are numbered as edges first lead to them
-  pub in-turn : (before after : List Edge) (e : Edge) → d.edges ≡ before ++ (e ∷ after) → (i : ℕ) → 1 ≤ i → i < e.target → (a : Edge) × Memᴰ a before × (a.target ≡ i)
+  pub in_turn : (before after : List Edge) (e : Edge) → d.edges ≡ before ++ (e ∷ after) → (i : ℕ) → 1 ≤ i → i < e.target → (a : Edge) × Memᴰ a before × (a.target ≡ i)

@@ -1,11 +1,11 @@
 // What the program `explain` writes for its two files. They may be of any length: of the table 20,322 bytes are enough, of the formula
 // what crate `files` keeps.
 ghost use Rattle.std.specs.Prelude.{◌≤◌, take};
-ghost use Rattle.explanations.specs.inner.Sizes.{keptLength};
+ghost use Rattle.explanations.specs.inner.Sizes.{kept_length};
 ghost use Rattle.explanations.specs.inner.Printed.{TextWritten};
-ghost use Rattle.explaining.specs.Replies.{explainReply};
-ghost use Rattle.files.specs.inner.Files.{filesText};
-ghost use Rattle.files.specs.inner.Writing.{replyText, Few, PrefixLength};
+ghost use Rattle.explaining.specs.Replies.{explain_reply};
+ghost use Rattle.files.specs.inner.Files.{files_text};
+ghost use Rattle.files.specs.inner.Writing.{reply_text, Few, PrefixLength};
 ghost use Rattle.explained_text.specs.inner.Replied.{Replied};
 
 use actl::sizes::FORMULA_LENGTH;
@@ -22,8 +22,8 @@ fn write_reply(
     edges: &[u8; EDGES_LENGTH],
     out: &mut [u8; TEXT_LENGTH],
 ) -> usize
-    requires { Few (explainReply reply) }
-    ensures text_written { TextWritten (replyText (explainReply reply) length rows.now edges.now)
+    requires { Few (explain_reply reply) }
+    ensures text_written { TextWritten (reply_text (explain_reply reply) length rows.now edges.now)
         out.old out.new result }
     ensures prefix_length { PrefixLength result out.new }
 {
@@ -49,7 +49,7 @@ fn explain_head(
     rows: &mut [u8],
     edges: &mut [u8],
 ) -> ExplainReply
-    requires { n ≤ keptLength }
+    requires { n ≤ kept_length }
     ensures { Replied tablefile.now (take n head.now) result
         rows.old rows.new edges.old edges.new }
 {
@@ -73,7 +73,7 @@ pub fn explain_files(
     scanned: Scanned,
     out: &mut [u8; TEXT_LENGTH],
 ) -> usize
-    ensures text_written { TextWritten (filesText tablefile.now head.now scanned) out.old out.new result }
+    ensures text_written { TextWritten (files_text tablefile.now head.now scanned) out.old out.new result }
     ensures prefix_length { PrefixLength result out.new }
 {
     let mut rows = [0u8; ROWS_LENGTH];

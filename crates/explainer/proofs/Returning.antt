@@ -7,29 +7,29 @@ use Rattle.replies.specs.inner.Says.{Says}
 use Rattle.replies.specs.declared.Answer.{Answer}
 use Rattle.explainer.specs.Interface.{Returned}
 use Rattle.explaining.specs.Promise.{Promise}
-use Rattle.explaining.specs.Replies.{explainReply}
+use Rattle.explaining.specs.Replies.{explain_reply}
 use Rattle.explaining.specs.inner.Values.{ValuesLeft}
 use Rattle.explaining.specs.declared.ExplainReply.{ExplainReply}
 use Rattle.explaining.specs.declared.explained.Values.{Values}
 use Rattle.explaining.proofs.Answers.{said_of, kept_of}
 
-module _ {tableText formulaText table table' formula formula' rows rows' edges edges' : List ℕ} {r : ExplainReply}
-    (p : Promise tableText formulaText table table' formula formula' rows rows' edges edges' r) where
-  pub returned : {a : Answer} → Says (λ s. s.rows) (explainReply r) a → {before after : Values} → ValuesLeft (explainReply r) before after
-      → Returned (explaining tableText formulaText table formula rows edges) a.number a.figure
+module _ {table_text formula_text table table' formula formula' rows rows' edges edges' : List ℕ} {r : ExplainReply}
+    (p : Promise table_text formula_text table table' formula formula' rows rows' edges edges' r) where
+  pub returned : {a : Answer} → Says (λ s. s.rows) (explain_reply r) a → {before after : Values} → ValuesLeft (explain_reply r) before after
+      → Returned (explaining table_text formula_text table formula rows edges) a.number a.figure
       before.verdict after.verdict before.class after.class before.edges after.edges
       table table' formula formula' rows rows' edges edges'
   returned says {before} left =
       let outcome = p.outcome in
       let said = said_of says outcome.reply in
       record {
-        number-said = said.number-said;
-        figure-said = said.figure-said;
-        verdict-left = kept_of (λ (s : Summary). s.verdict) before.verdict left.verdict-left outcome.reply;
-        class-left = kept_of (λ (s : Summary). s.class) before.class left.class-left outcome.reply;
-        count_left = kept_of (λ (s : Summary). s.edges) before.edges left.edges-left outcome.reply;
-        table-left = outcome.table-left;
-        formula-left = outcome.formula-left;
+        number_said = said.number_said;
+        figure_said = said.figure_said;
+        verdict_left = kept_of (λ (s : Summary). s.verdict) before.verdict left.verdict_left outcome.reply;
+        class_left = kept_of (λ (s : Summary). s.class) before.class left.class_left outcome.reply;
+        count_left = kept_of (λ (s : Summary). s.edges) before.edges left.edges_left_lem outcome.reply;
+        table_left_lem = outcome.table_left_lem;
+        formula_left_lem = outcome.formula_left_lem;
         rows_left = outcome.rows_left;
-        edges-left = outcome.edges-left;
+        edges_left_lem = outcome.edges_left_lem;
       }

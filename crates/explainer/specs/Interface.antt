@@ -1,25 +1,25 @@
 -- What the C function of `explain` returns, writes and leaves.
 use Rattle.std.specs.Prelude.{◌≡◌, List, ℕ}
 use Rattle.lts.specs.Reply.{Reply}
-use Rattle.explanations.specs.Explanation.{Explanation, explainReplied, tableExplained, formulaExplained, rowsExplained, edgesExplained}
-use Rattle.replies.specs.Interface.{number_in, figureIn, keptIn}
+use Rattle.explanations.specs.Explanation.{Explanation, explain_replied, table_explained, formula_explained, rows_explained, edges_explained}
+use Rattle.replies.specs.Interface.{number_in, figure_in, kept_in}
 use Rattle.explaining.specs.Promise.{Promise}
 use Rattle.explaining.specs.declared.ExplainReply.{ExplainReply}
 
 -- "accepted, `*figure` is the row count and the three others are written; refused, `*figure` is the figure and the others stay"
 -- The number and the figure; verdict, class and count of edges, before and after; each lent buffer, before and after.
 pub record Returned (e : Reply Explanation) (number figure verdict verdict' class class' count count' : ℕ) (table table' formula formula' rows rows' edges edges' : List ℕ) : Type 0 where
-  pub number-said : number ≡ number_in (explainReplied e)
-  pub figure-said : figure ≡ figureIn (λ s. s.rows) (explainReplied e)
-  pub verdict-left : verdict' ≡ keptIn (λ s. s.verdict) verdict (explainReplied e)
-  pub class-left : class' ≡ keptIn (λ s. s.class) class (explainReplied e)
-  pub count_left : count' ≡ keptIn (λ s. s.edges) count (explainReplied e)
-  pub table-left : table' ≡ tableExplained e table
-  pub formula-left : formula' ≡ formulaExplained e formula
-  pub rows_left : rows' ≡ rowsExplained e rows
-  pub edges-left : edges' ≡ edgesExplained e edges
+  pub number_said : number ≡ number_in (explain_replied e)
+  pub figure_said : figure ≡ figure_in (λ s. s.rows) (explain_replied e)
+  pub verdict_left : verdict' ≡ kept_in (λ s. s.verdict) verdict (explain_replied e)
+  pub class_left : class' ≡ kept_in (λ s. s.class) class (explain_replied e)
+  pub count_left : count' ≡ kept_in (λ s. s.edges) count (explain_replied e)
+  pub table_left_lem : table' ≡ table_explained e table
+  pub formula_left_lem : formula' ≡ formula_explained e formula
+  pub rows_left : rows' ≡ rows_explained e rows
+  pub edges_left_lem : edges' ≡ edges_explained e edges
 
 -- And all that `explain` promises, of some reply with this number and these values (`outcome` says which).
-abbrev pub Promised : (tableText formulaText table table' formula formula' rows rows' edges edges' : List ℕ) → Type 0
-Promised tableText formulaText table table' formula formula' rows rows' edges edges' =
-    (r : ExplainReply) × Promise tableText formulaText table table' formula formula' rows rows' edges edges' r
+abbrev pub Promised : (table_text formula_text table table' formula formula' rows rows' edges edges' : List ℕ) → Type 0
+Promised table_text formula_text table table' formula formula' rows rows' edges edges' =
+    (r : ExplainReply) × Promise table_text formula_text table table' formula formula' rows rows' edges edges' r

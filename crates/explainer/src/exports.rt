@@ -1,16 +1,16 @@
 // The C interface. explainer.h declares these functions.
 ghost use Rattle.std.specs.Prelude.{◌≡◌};
-ghost use Rattle.lts.specs.TableReading.{tableReplied, tableLeft};
-ghost use Rattle.actl.specs.FormulaReading.{formulaReplied, formulaLeft};
-ghost use Rattle.satisfaction.specs.VerdictAsked.{verdictReplied};
-ghost use Rattle.starts.specs.VerdictsAsked.{verdictsReplied, verdictsLeft};
-ghost use Rattle.automaton.specs.Build.{buildReplied, rowsLeft, edgesLeft};
-ghost use Rattle.automaton.specs.WordAsked.{wordReplied};
-ghost use Rattle.deterministic.specs.SmallestAsked.{smallestReplied, smallestRows, smallestEdges, smallestLeft, smallestWork};
-ghost use Rattle.written_back.specs.FormulaWriting.{formulaWritten, textLeft};
-ghost use Rattle.write_table.specs.TableWriting.{tableWritten, tableTextLeft};
-ghost use Rattle.side_by_side.specs.Combining.{combineReplied, combinedLeft};
-ghost use Rattle.replies.specs.Interface.{number_in, figureIn, edgesIn};
+ghost use Rattle.lts.specs.TableReading.{table_replied, table_left};
+ghost use Rattle.actl.specs.FormulaReading.{formula_replied, formula_left};
+ghost use Rattle.satisfaction.specs.VerdictAsked.{verdict_replied};
+ghost use Rattle.starts.specs.VerdictsAsked.{verdicts_replied, verdicts_left};
+ghost use Rattle.automaton.specs.Build.{build_replied, rows_left, edges_left};
+ghost use Rattle.automaton.specs.WordAsked.{word_replied};
+ghost use Rattle.deterministic.specs.SmallestAsked.{smallest_replied, smallest_rows, smallest_edges, smallest_left, smallest_work};
+ghost use Rattle.written_back_lem.specs.FormulaWriting.{formula_written, text_left};
+ghost use Rattle.write_table.specs.TableWriting.{table_written, table_text_left};
+ghost use Rattle.side_by_side.specs.Combining.{combine_replied, combined_left};
+ghost use Rattle.replies.specs.Interface.{number_in, figure_in, edges_in};
 ghost use Rattle.explanations.specs.Explanation.{explaining};
 ghost use Rattle.explainer.specs.Interface.{Returned, Promised};
 
@@ -26,7 +26,7 @@ use replies::{
 };
 use smallest::smallest;
 use smallest_replies::{smallest_answer, smallest_edges};
-use table_text::read_table;
+use table_text::read_table_lem;
 use verdicts::verdicts;
 use words::accepts;
 use write_formula::write_formula;
@@ -34,20 +34,20 @@ use writing_replies::{combine_answer, text_answer, write_answer};
 
 #[unsafe(no_mangle)]
 pub extern "C" fn explainer_read_table(text: &[u8], table: &mut [u8], figure: &mut u64) -> u32
-    ensures value { result ≡ number_in (tableReplied text.now table.old) }
-    ensures table_after { table.new ≡ tableLeft text.now table.old }
-    ensures figure_after { figure.new ≡ figureIn (λ _. 0) (tableReplied text.now table.old) }
+    ensures value { result ≡ number_in (table_replied text.now table.old) }
+    ensures table_after { table.new ≡ table_left text.now table.old }
+    ensures figure_after { figure.new ≡ figure_in (λ _. 0) (table_replied text.now table.old) }
 {
-    let answer = table_answer(read_table(text, table));
+    let answer = table_answer(read_table_lem(text, table));
     *figure = answer.figure;
     answer.number
 }
 
 #[unsafe(no_mangle)]
 pub extern "C" fn explainer_table_text(table: &[u8], text: &mut [u8], figure: &mut u64) -> u32
-    ensures value { result ≡ number_in (tableWritten table.now text.old) }
-    ensures text_after { text.new ≡ tableTextLeft table.now text.old }
-    ensures figure_after { figure.new ≡ figureIn (λ length. length) (tableWritten table.now text.old) }
+    ensures value { result ≡ number_in (table_written table.now text.old) }
+    ensures text_after { text.new ≡ table_text_left table.now text.old }
+    ensures figure_after { figure.new ≡ figure_in (λ length. length) (table_written table.now text.old) }
 {
     let answer = text_answer(write_table::table_text(table, text));
     *figure = answer.figure;
@@ -61,10 +61,10 @@ pub extern "C" fn explainer_combine(
     combined: &mut [u8],
     figure: &mut u64,
 ) -> u32
-    ensures value { result ≡ number_in (combineReplied first.now second.now combined.old) }
-    ensures combined_after { combined.new ≡ combinedLeft first.now second.now combined.old }
-    ensures figure_after { figure.new ≡ figureIn (λ _. 0)
-        (combineReplied first.now second.now combined.old) }
+    ensures value { result ≡ number_in (combine_replied first.now second.now combined.old) }
+    ensures combined_after { combined.new ≡ combined_left first.now second.now combined.old }
+    ensures figure_after { figure.new ≡ figure_in (λ _. 0)
+        (combine_replied first.now second.now combined.old) }
 {
     let answer = combine_answer(combine(first, second, combined));
     *figure = answer.figure;
@@ -78,10 +78,10 @@ pub extern "C" fn explainer_read_formula(
     formula: &mut [u8],
     figure: &mut u64,
 ) -> u32
-    ensures value { result ≡ number_in (formulaReplied table.now text.now formula.old) }
-    ensures formula_after { formula.new ≡ formulaLeft table.now text.now formula.old }
-    ensures figure_after { figure.new ≡ figureIn (λ _. 0)
-        (formulaReplied table.now text.now formula.old) }
+    ensures value { result ≡ number_in (formula_replied table.now text.now formula.old) }
+    ensures formula_after { formula.new ≡ formula_left table.now text.now formula.old }
+    ensures figure_after { figure.new ≡ figure_in (λ _. 0)
+        (formula_replied table.now text.now formula.old) }
 {
     let answer = formula_answer(read_formula(table, text, formula));
     *figure = answer.figure;
@@ -90,8 +90,8 @@ pub extern "C" fn explainer_read_formula(
 
 #[unsafe(no_mangle)]
 pub extern "C" fn explainer_verdict(table: &[u8], formula: &[u8], figure: &mut u64) -> u32
-    ensures value { result ≡ number_in (verdictReplied table.now formula.now) }
-    ensures figure_after { figure.new ≡ figureIn (λ holds. holds) (verdictReplied table.now formula.now) }
+    ensures value { result ≡ number_in (verdict_replied table.now formula.now) }
+    ensures figure_after { figure.new ≡ figure_in (λ holds. holds) (verdict_replied table.now formula.now) }
 {
     let answer = verdict_answer(verdict(table, formula));
     *figure = answer.figure;
@@ -106,10 +106,10 @@ pub extern "C" fn explainer_verdicts(
     answers: &mut [u8],
     figure: &mut u64,
 ) -> u32
-    ensures value { result ≡ number_in (verdictsReplied table.now formula.now starts.now answers.old) }
-    ensures answers_after { answers.new ≡ verdictsLeft table.now formula.now starts.now answers.old }
-    ensures figure_after { figure.new ≡ figureIn (λ joint. joint)
-        (verdictsReplied table.now formula.now starts.now answers.old) }
+    ensures value { result ≡ number_in (verdicts_replied table.now formula.now starts.now answers.old) }
+    ensures answers_after { answers.new ≡ verdicts_left table.now formula.now starts.now answers.old }
+    ensures figure_after { figure.new ≡ figure_in (λ joint. joint)
+        (verdicts_replied table.now formula.now starts.now answers.old) }
 {
     let answer = verdicts_answer(verdicts(table, formula, starts, answers));
     *figure = answer.figure;
@@ -123,9 +123,9 @@ pub extern "C" fn explainer_accepts(
     word: &[u8],
     figure: &mut u64,
 ) -> u32
-    ensures value { result ≡ number_in (wordReplied table.now formula.now word.now) }
-    ensures figure_after { figure.new ≡ figureIn (λ accepted. accepted)
-        (wordReplied table.now formula.now word.now) }
+    ensures value { result ≡ number_in (word_replied table.now formula.now word.now) }
+    ensures figure_after { figure.new ≡ figure_in (λ accepted. accepted)
+        (word_replied table.now formula.now word.now) }
 {
     let answer = word_answer(accepts(table, formula, word));
     *figure = answer.figure;
@@ -141,13 +141,13 @@ pub extern "C" fn explainer_build(
     figure: &mut u64,
     count: &mut u64,
 ) -> u32
-    ensures value { result ≡ number_in (buildReplied table.now formula.now rows.old edges.old) }
-    ensures rows_after { rows.new ≡ rowsLeft table.now formula.now rows.old edges.old }
-    ensures edges_after { edges.new ≡ edgesLeft table.now formula.now rows.old edges.old }
-    ensures figure_after { figure.new ≡ figureIn (λ counts. counts.rows)
-        (buildReplied table.now formula.now rows.old edges.old) }
-    ensures count_after { count.new ≡ edgesIn count.old
-        (buildReplied table.now formula.now rows.old edges.old) }
+    ensures value { result ≡ number_in (build_replied table.now formula.now rows.old edges.old) }
+    ensures rows_after { rows.new ≡ rows_left table.now formula.now rows.old edges.old }
+    ensures edges_after { edges.new ≡ edges_left table.now formula.now rows.old edges.old }
+    ensures figure_after { figure.new ≡ figure_in (λ counts. counts.rows)
+        (build_replied table.now formula.now rows.old edges.old) }
+    ensures count_after { count.new ≡ edges_in count.old
+        (build_replied table.now formula.now rows.old edges.old) }
 {
     let reply = build(table, formula, rows, edges);
     let before = *count;
@@ -169,19 +169,19 @@ pub extern "C" fn explainer_smallest(
     count: &mut u64,
 ) -> u32
     ensures value { result ≡ number_in
-        (smallestReplied table.now formula.now rows.old edges.old out.old work.old) }
+        (smallest_replied table.now formula.now rows.old edges.old out.old work.old) }
     ensures rows_after { rows.new ≡
-        smallestRows table.now formula.now rows.old edges.old out.old work.old }
+        smallest_rows table.now formula.now rows.old edges.old out.old work.old }
     ensures edges_after { edges.new ≡
-        smallestEdges table.now formula.now rows.old edges.old out.old work.old }
+        smallest_edges table.now formula.now rows.old edges.old out.old work.old }
     ensures out_after { out.new ≡
-        smallestLeft table.now formula.now rows.old edges.old out.old work.old }
+        smallest_left table.now formula.now rows.old edges.old out.old work.old }
     ensures work_after { work.new ≡
-        smallestWork table.now formula.now rows.old edges.old out.old work.old }
-    ensures figure_after { figure.new ≡ figureIn (λ counts. counts.rows)
-        (smallestReplied table.now formula.now rows.old edges.old out.old work.old) }
-    ensures count_after { count.new ≡ edgesIn count.old
-        (smallestReplied table.now formula.now rows.old edges.old out.old work.old) }
+        smallest_work table.now formula.now rows.old edges.old out.old work.old }
+    ensures figure_after { figure.new ≡ figure_in (λ counts. counts.rows)
+        (smallest_replied table.now formula.now rows.old edges.old out.old work.old) }
+    ensures count_after { count.new ≡ edges_in count.old
+        (smallest_replied table.now formula.now rows.old edges.old out.old work.old) }
 {
     let reply = smallest(table, formula, rows, edges, out, work);
     let before = *count;
@@ -198,10 +198,10 @@ pub extern "C" fn explainer_write_formula(
     text: &mut [u8],
     figure: &mut u64,
 ) -> u32
-    ensures value { result ≡ number_in (formulaWritten table.now formula.now text.old) }
-    ensures text_after { text.new ≡ textLeft table.now formula.now text.old }
-    ensures figure_after { figure.new ≡ figureIn (λ length. length)
-        (formulaWritten table.now formula.now text.old) }
+    ensures value { result ≡ number_in (formula_written table.now formula.now text.old) }
+    ensures text_after { text.new ≡ text_left table.now formula.now text.old }
+    ensures figure_after { figure.new ≡ figure_in (λ length. length)
+        (formula_written table.now formula.now text.old) }
 {
     let answer = write_answer(write_formula(table, formula, text));
     *figure = answer.figure;

@@ -6,101 +6,101 @@ use Prim.Native.Nat.{ℕ, ◌≤◌}
 use native.Mathlib.Omega.{arith}
 use lib.ListN.{length, take, drop}
 use lib.Seq.{take-length}
-use Rattle.lts.specs.Reply.{Reply, accepted, refusal, overwritten, leftIn, answers}
+use Rattle.lts.specs.Reply.{Reply, accepted, refusal, overwritten, left_in, answers}
 use Rattle.lts.specs.Steps.{Table, labels}
 use Rattle.lts.specs.inner.Range.{InRange}
-use Rattle.lts.specs.inner.Prepared.{tableIn}
+use Rattle.lts.specs.inner.Prepared.{table_in}
 use Rattle.lts.specs.inner.HoldsTable.{HoldsTable}
 use Rattle.lts.proofs.Laws.Prepared as tables
 use Rattle.actl.specs.Formulas.{Formula}
-use Rattle.actl.specs.inner.Prepared.{preparedFormula}
+use Rattle.actl.specs.inner.Prepared.{prepared_formula}
 use Rattle.actl.specs.inner.HoldsFormula.{HoldsFormula}
 use Rattle.actl.proofs.Classes.{HasClass}
 use Rattle.actl.proofs.Laws.Prepared as formulas
-use Rattle.formula_check.specs.Inputs.{unpreparedNumber}
+use Rattle.formula_check.specs.Inputs.{unprepared_number}
 use Rattle.formula_check.specs.declared.inputs.Unprepared.{Unprepared}
 use Rattle.formula_check.specs.declared.inputs.Unprepared.TheVariants.{TableForeign, FormulaForeign, BufferShort}
 use Rattle.automaton.specs.Listing.{Listing}
 use Rattle.automaton.specs.inner.Search.{listing}
-use Rattle.automaton.specs.Bytes.{rowLength, rowsBytes, edgesBytes, rowFinal}
+use Rattle.automaton.specs.Bytes.{row_length, rows_bytes, edges_bytes, row_final}
 use Rattle.automaton.specs.Build.{fitted, counts}
-use Rattle.automaton.proofs.Accepted.{prepared-in-range, formed-has-class, fitted-accepted}
-use Rattle.building.specs.Replies.{buildReply}
+use Rattle.automaton.proofs.Accepted.{prepared_in_range, formed-has-class, fitted-accepted}
+use Rattle.building.specs.Replies.{build_reply}
 use Rattle.building.specs.inner.LaidOut.{LaidOut}
 use Rattle.building.specs.declared.BuildReply.{BuildReply}
 use Rattle.building.specs.declared.BuildReply.TheVariants as replies
-use Rattle.replies.specs.Interface.{edgesIn}
+use Rattle.replies.specs.Interface.{edges_in}
 use Rattle.replies.specs.inner.Says.{Says}
 use Rattle.replies.specs.declared.Answer.{Answer}
 use Rattle.explanations.specs.Explanation.{Explanation}
-use Rattle.explanations.specs.inner.BothTexts.{Read, HoldsBoth, listingOf, ClassIn}
+use Rattle.explanations.specs.inner.BothTexts.{Read, HoldsBoth, listing_of, ClassIn}
 use Rattle.explaining.specs.Outcome.{Outcome}
-use Rattle.explaining.specs.inner.Told.{verdictTold}
+use Rattle.explaining.specs.inner.Told.{verdict_told}
 use Rattle.explaining.specs.declared.ExplainReply.TheVariants.{Explained, Refused}
 use Rattle.explaining.proofs.Answers.{said_of, kept_of}
 use Rattle.explaining.proofs.Into.{same_outcome}
-use Rattle.explaining.proofs.Told.{some-row, verdict-told}
+use Rattle.explaining.proofs.Told.{some_row_lem, verdict-told}
 
 -- No refusal of building has the number 0.
-unprepared-not-zero : (why : Unprepared) → unpreparedNumber why ≡ 0 → ⊥
+unprepared-not-zero : (why : Unprepared) → unprepared_number why ≡ 0 → ⊥
 unprepared-not-zero TableForeign e = omega arith
 unprepared-not-zero FormulaForeign e = omega arith
 unprepared-not-zero (BufferShort needed) e = omega arith
 
-never-zero : (b : BuildReply) (n g : ℕ) → buildReply b ≡ refusal n g → n ≡ 0 → ⊥
-never-zero (replies.Built m k) n g e z = let q : ◌≡◌ {A = ℕ} 0 1 = cc in omega arith
-never-zero (replies.RowsShort m) n g e z = let q : 11 ≡ n = cc in omega arith
-never-zero (replies.EdgesShort m) n g e z = let q : 12 ≡ n = cc in omega arith
-never-zero (replies.Refused why) n g e z = let q : unpreparedNumber why ≡ n = cc in unprepared-not-zero why (q ∙ z)
+never_zero : (b : BuildReply) (n g : ℕ) → build_reply b ≡ refusal n g → n ≡ 0 → ⊥
+never_zero (replies.Built m k) n g e z = let q : ◌≡◌ {A = ℕ} 0 1 = cc in omega arith
+never_zero (replies.RowsShort m) n g e z = let q : 11 ≡ n = cc in omega arith
+never_zero (replies.EdgesShort m) n g e z = let q : 12 ≡ n = cc in omega arith
+never_zero (replies.Refused why) n g e z = let q : unprepared_number why ≡ n = cc in unprepared-not-zero why (q ∙ z)
 
 module _ (t f : List ℕ) (x : Read) (held : HoldsBoth t f x) where
   abbrev L : Listing
   L = listing x.table x.formula
 
-  same-table : tableIn t ≡ x.table
-  same-table = (tables.prepared-of t x.table held.is-table).2
+  same-table : table_in t ≡ x.table
+  same-table = (tables.prepared-of t x.table held.is_table).2
 
-  formula-in : preparedFormula (labels (tableIn t)) f ≡ some x.formula
-  formula-in = ap (λ (u : Table). preparedFormula (labels u) f) same-table ∙ held.is-formula
+  formula_in : prepared_formula (labels (table_in t)) f ≡ some x.formula
+  formula_in = ap (λ (u : Table). prepared_formula (labels u) f) same-table ∙ held.is_formula
 
   -- What building asks for.
-  pub both_hold : HoldsTable t × HoldsFormula (labels (tableIn t)) f
-  both_hold = (tables.prepared-holds t x.table held.is-table, record { formula = x.formula; prepared = formula-in })
+  pub both_hold : HoldsTable t × HoldsFormula (labels (table_in t)) f
+  both_hold = (tables.prepared-holds t x.table held.is_table, record { formula = x.formula; prepared = formula_in })
 
   ranged : InRange x.table
-  ranged = prepared-in-range t held.is-table
+  ranged = prepared_in_range t held.is_table
 
   classed : HasClass x.formula
-  classed = formed-has-class (formulas.prepared-of (labels x.table) f held.is-formula)
+  classed = formed-has-class (formulas.prepared-of (labels x.table) f held.is_formula)
 
   -- What was built, and the answer to it.
   module _ (rows edges rows' edges' : List ℕ) (b : BuildReply)
-      (laid : (F : Formula) → preparedFormula (labels (tableIn t)) f ≡ some F → LaidOut (listing (tableIn t) F) rows edges b rows' edges')
-      {a : Answer} (answered : Says (λ c. c.rows) (buildReply b) a) where
+      (laid : (F : Formula) → prepared_formula (labels (table_in t)) f ≡ some F → LaidOut (listing (table_in t) F) rows edges b rows' edges')
+      {a : Answer} (answered : Says (λ c. c.rows) (build_reply b) a) where
     abbrev explained : Listing → Explanation
     explained L = record { table = x.table; formula = x.formula; list = L }
 
     outcome : LaidOut L rows edges b rows' edges'
-    outcome = subst (λ (u : Table). LaidOut (listing u x.formula) rows edges b rows' edges') same-table (laid x.formula formula-in)
+    outcome = subst (λ (u : Table). LaidOut (listing u x.formula) rows edges b rows' edges') same-table (laid x.formula formula_in)
 
-    counted : {r : Reply Listing} → fitted L rows edges ≡ r → buildReply b ≡ answers counts r
+    counted : {r : Reply Listing} → fitted L rows edges ≡ r → build_reply b ≡ answers counts r
     counted e = outcome.reply ∙ ap (answers counts) e
 
-    pub refused-said : (a.number ≡ 0 → ⊥) → (table formula : List ℕ)
-        → Outcome (listingOf x rows edges) (Refused a.number a.figure) table table formula formula rows rows' edges edges'
-    refused-said h table formula = by (fitted L rows edges) refl
+    pub refused_said : (a.number ≡ 0 → ⊥) → (table formula : List ℕ)
+        → Outcome (listing_of x rows edges) (Refused a.number a.figure) table table formula formula rows rows' edges edges'
+    refused_said h table formula = by (fitted L rows edges) refl
       where
         by : (r : Reply Listing) → fitted L rows edges ≡ r
             → Outcome (answers explained r) (Refused a.number a.figure) table table formula formula rows rows' edges edges'
-        by (accepted K) e = absurd (h (said_of answered (counted e)).number-said)
+        by (accepted K) e = absurd (h (said_of answered (counted e)).number_said)
         by (refusal n g) e =
             let said = said_of answered (counted e) in
             record {
-              reply = λ i. refusal (said.number-said i) (said.figure-said i);
-              table-left = refl;
-              formula-left = refl;
-              rows_left = outcome.rows_left ∙ ap (λ r. leftIn rowsBytes r rows) e;
-              edges-left = outcome.edges-left ∙ ap (λ r. leftIn edgesBytes r edges) e;
+              reply = λ i. refusal (said.number_said i) (said.figure_said i);
+              table_left_lem = refl;
+              formula_left_lem = refl;
+              rows_left = outcome.rows_left ∙ ap (λ r. left_in rows_bytes r rows) e;
+              edges_left_lem = outcome.edges_left_lem ∙ ap (λ r. left_in edges_bytes r edges) e;
             }
 
     module _ (h : a.number ≡ 0) where
@@ -108,29 +108,29 @@ module _ (t f : List ℕ) (x : Read) (held : HoldsBoth t f x) where
       fits = by (fitted L rows edges) refl
         where
           by : (r : Reply Listing) → fitted L rows edges ≡ r → fitted L rows edges ≡ accepted L
-          by (refusal n g) e = absurd (never-zero b n g (counted e) (sym (said_of answered (counted e)).number-said ∙ h))
+          by (refusal n g) e = absurd (never_zero b n g (counted e) (sym (said_of answered (counted e)).number_said ∙ h))
           by (accepted K) e = e ∙ ap accepted (fitted-accepted L rows edges e).2
 
-      pub row-there : rowLength ≤ length rows
-      row-there = omega (arith, (fitted-accepted L rows edges fits).0, some-row x.table x.formula ranged classed)
+      pub row-there : row_length ≤ length rows
+      row-there = omega (arith, (fitted-accepted L rows edges fits).0, some_row_lem x.table x.formula ranged classed)
 
-      pub explained-said : (mark class IsEdge-count told : ℕ) → mark ≡ rowFinal rows' 0 → ClassIn f class → IsEdge-count ≡ edgesIn 0 (buildReply b)
-          → told ≡ verdictTold IsEdge-count mark class
+      pub explained_said : (mark class IsEdge-count told : ℕ) → mark ≡ row_final rows' 0 → ClassIn f class → IsEdge-count ≡ edges_in 0 (build_reply b)
+          → told ≡ verdict_told IsEdge-count mark class
           → (table table' formula formula' : List ℕ) → table' ≡ overwritten t table → formula' ≡ overwritten f formula
-          → Outcome (listingOf x rows edges) (Explained told class a.figure IsEdge-count) table table' formula formula' rows rows' edges edges'
-      explained-said mark class IsEdge-count told m c k v table table' formula formula' p q =
-          let rows_are = outcome.rows_left ∙ ap (λ r. leftIn rowsBytes r rows) fits in
-          let is-class = c (_) x.formula held.is-formula in
-          let rows-said = (said_of answered (counted fits)).figure-said in
+          → Outcome (listing_of x rows edges) (Explained told class a.figure IsEdge-count) table table' formula formula' rows rows' edges edges'
+      explained_said mark class IsEdge-count told m c k v table table' formula formula' p q =
+          let rows_are = outcome.rows_left ∙ ap (λ r. left_in rows_bytes r rows) fits in
+          let is-class = c (_) x.formula held.is_formula in
+          let rows-said = (said_of answered (counted fits)).figure_said in
           let edges-said = kept_of (λ c. c.edges) 0 k (counted fits) in
-          let is-mark = m ∙ ap (λ l. rowFinal l 0) rows_are in
-          let verdict-said = v ∙ (λ i. verdictTold (edges-said i) (is-mark i) (is-class i)) ∙ verdict-told x.table x.formula ranged classed rows in
+          let is-mark = m ∙ ap (λ l. row_final l 0) rows_are in
+          let verdict-said = v ∙ (λ i. verdict_told (edges-said i) (is-mark i) (is-class i)) ∙ verdict-told x.table x.formula ranged classed rows in
           same_outcome (ap (answers explained) fits) (record {
             reply = λ i. accepted (record { verdict = verdict-said i; class = is-class i; rows = rows-said i; edges = edges-said i });
-            table-left = p ∙ ap (λ y. overwritten y table) held.table-bytes;
-            formula-left = q ∙ ap (λ y. overwritten y formula) held.formula-bytes;
+            table_left_lem = p ∙ ap (λ y. overwritten y table) held.table_bytes_lem;
+            formula_left_lem = q ∙ ap (λ y. overwritten y formula) held.formula_bytes_lem;
             rows_left = rows_are;
-            edges-left = outcome.edges-left ∙ ap (λ r. leftIn edgesBytes r edges) fits;
+            edges_left_lem = outcome.edges_left_lem ∙ ap (λ r. left_in edges_bytes r edges) fits;
           })
 
 pub copied : (bytes buffer out : List ℕ) → out ≡ take (length bytes) bytes ++ drop (length bytes) buffer → out ≡ overwritten bytes buffer

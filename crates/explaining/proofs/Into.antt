@@ -4,10 +4,10 @@ use mathlib.Core.List.{List}
 use Prim.Native.Nat.{ℕ}
 use Rattle.lts.specs.Reply.{Reply, accepted, refusal}
 use Rattle.lts.specs.Steps.{labels}
-use Rattle.lts.specs.inner.Prepared.{preparedTable}
-use Rattle.actl.specs.inner.Prepared.{preparedFormula}
+use Rattle.lts.specs.inner.Prepared.{prepared_table}
+use Rattle.actl.specs.inner.Prepared.{prepared_formula}
 use Rattle.explanations.specs.Explanation.{Explanation, and_then, explanation}
-use Rattle.explanations.specs.inner.BothTexts.{Read, readings, HoldsBoth, listingOf}
+use Rattle.explanations.specs.inner.BothTexts.{Read, readings, HoldsBoth, listing_of}
 use Rattle.explaining.specs.inner.Readings.{ReadBoth}
 use Rattle.explaining.specs.Outcome.{Outcome}
 use Rattle.explaining.specs.declared.ExplainReply.{ExplainReply}
@@ -25,48 +25,48 @@ same_outcome {r} {table} {table'} {formula} {formula'} {rows} {rows'} {edges} {e
 -- A refusal leaves what is lent.
 pub refusal-outcome : {e : Reply Explanation} (n g : ℕ) → e ≡ refusal n g → {table formula rows edges : List ℕ}
     → Outcome e (replies.Refused n g) table table formula formula rows rows edges edges
-refusal-outcome n g z = same_outcome z (record { reply = refl; table-left = refl; formula-left = refl; rows_left = refl; edges-left = refl })
+refusal-outcome n g z = same_outcome z (record { reply = refl; table_left_lem = refl; formula_left_lem = refl; rows_left = refl; edges_left_lem = refl })
 
 -- What was read, out of what `read_both` said.
-pub record WasRead (tableText formulaText t f : List ℕ) : Type 0 where
+pub record WasRead (table_text formula_text t f : List ℕ) : Type 0 where
   pub both : Read
-  pub read : readings tableText formulaText ≡ accepted both
+  pub read : readings table_text formula_text ≡ accepted both
   pub held : HoldsBoth t f both
 
-module _ (tableText formulaText t f : List ℕ) {y : BothRead} (told : ReadBoth (readings tableText formulaText) y t f) where
-  pub was_read : y ≡ Ready → WasRead tableText formulaText t f
-  was_read d = by (readings tableText formulaText) refl (subst (λ z. ReadBoth (readings tableText formulaText) z t f) d told)
+module _ (table_text formula_text t f : List ℕ) {y : BothRead} (told : ReadBoth (readings table_text formula_text) y t f) where
+  pub was_read : y ≡ Ready → WasRead table_text formula_text t f
+  was_read d = by (readings table_text formula_text) refl (subst (λ z. ReadBoth (readings table_text formula_text) z t f) d told)
     where
-      by : (r : Reply Read) → readings tableText formulaText ≡ r → ReadBoth r Ready t f → WasRead tableText formulaText t f
+      by : (r : Reply Read) → readings table_text formula_text ≡ r → ReadBoth r Ready t f → WasRead table_text formula_text t f
       by (refusal n g) e z = absurd z
       by (accepted x) e (a, b) =
-          let p = readings-prepared tableText formulaText x e in
+          let p = readings-prepared table_text formula_text x e in
           record {
             both = x;
             read = e;
             held = record {
-              is-table = ap preparedTable a ∙ p.is-table;
-              is-formula = ap (preparedFormula (labels x.table)) b ∙ p.is-formula;
-              table-bytes = a;
-              formula-bytes = b;
+              is_table = ap prepared_table a ∙ p.is_table;
+              is_formula = ap (prepared_formula (labels x.table)) b ∙ p.is_formula;
+              table_bytes_lem = a;
+              formula_bytes_lem = b;
             };
           }
 
-  pub was-refused : (n g : ℕ) → y ≡ Refused n g → readings tableText formulaText ≡ refusal n g
-  was-refused n g d = by (readings tableText formulaText) (subst (λ z. ReadBoth (readings tableText formulaText) z t f) d told)
+  pub was_refused : (n g : ℕ) → y ≡ Refused n g → readings table_text formula_text ≡ refusal n g
+  was_refused n g d = by (readings table_text formula_text) (subst (λ z. ReadBoth (readings table_text formula_text) z t f) d told)
     where
       by : (r : Reply Read) → ReadBoth r (Refused n g) t f → r ≡ refusal n g
       by (accepted x) z = absurd z
       by (refusal m k) (a, b) = λ i. refusal (sym a i) (sym b i)
 
   pub reading-refused : (rows edges : List ℕ) {n g : ℕ} → y ≡ Refused n g → {table formula : List ℕ}
-      → Outcome (explanation tableText formulaText rows edges) (replies.Refused n g) table table formula formula rows rows edges edges
-  reading-refused rows edges {n} {g} d = refusal-outcome n g (explanation-of-readings tableText formulaText rows edges
-      ∙ ap (λ y. and_then y (λ x. listingOf x rows edges)) (was-refused n g d))
+      → Outcome (explanation table_text formula_text rows edges) (replies.Refused n g) table table formula formula rows rows edges edges
+  reading-refused rows edges {n} {g} d = refusal-outcome n g (explanation-of-readings table_text formula_text rows edges
+      ∙ ap (λ y. and_then y (λ x. listing_of x rows edges)) (was_refused n g d))
 
-pub listing-outcome : {tableText formulaText t f : List ℕ} (rows edges : List ℕ) (w : WasRead tableText formulaText t f)
+pub listing-outcome : {table_text formula_text t f : List ℕ} (rows edges : List ℕ) (w : WasRead table_text formula_text t f)
     → {r : ExplainReply} {table table' formula formula' rows' edges' : List ℕ}
-    → Outcome (listingOf w.both rows edges) r table table' formula formula' rows rows' edges edges'
-    → Outcome (explanation tableText formulaText rows edges) r table table' formula formula' rows rows' edges edges'
-listing-outcome {tableText} {formulaText} rows edges w =
-    same_outcome (explanation-of-readings tableText formulaText rows edges ∙ ap (λ y. and_then y (λ x. listingOf x rows edges)) w.read)
+    → Outcome (listing_of w.both rows edges) r table table' formula formula' rows rows' edges edges'
+    → Outcome (explanation table_text formula_text rows edges) r table table' formula formula' rows rows' edges edges'
+listing-outcome {table_text} {formula_text} rows edges w =
+    same_outcome (explanation-of-readings table_text formula_text rows edges ∙ ap (λ y. and_then y (λ x. listing_of x rows edges)) w.read)

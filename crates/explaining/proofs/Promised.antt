@@ -5,56 +5,56 @@ use Prim.Native.Nat.{ℕ, ◌≤◌, ◌<◌}
 use lib.Dec.{leb}
 use lib.ListN.{length}
 use borrow.Author.Tests.{le-leb, lt-leb}
-use Rattle.actl.specs.Sizes.{formulaLength}
-use Rattle.lts.specs.Sizes.{tableLength}
+use Rattle.actl.specs.Sizes.{formula_length}
+use Rattle.lts.specs.Sizes.{table_length}
 use Rattle.lts.specs.Reply.{Reply, refusal}
 use Rattle.explanations.specs.InOneCall.{FromTexts}
-use Rattle.explanations.specs.Explanation.{Explanation, summary, explainReplied, tableExplained, formulaExplained, explanation, explaining}
+use Rattle.explanations.specs.Explanation.{Explanation, summary, explain_replied, table_explained, formula_explained, explanation, explaining}
 use Rattle.explaining.specs.Outcome.{Outcome}
 use Rattle.explaining.specs.Promise.{Promise}
 use Rattle.explaining.specs.declared.ExplainReply.{ExplainReply}
 use Rattle.explaining.specs.declared.ExplainReply.TheVariants as replies
 use Rattle.explaining.proofs.Into.{same_outcome, refusal-outcome}
-use Rattle.explanations.proofs.Demands.{explain-explains}
+use Rattle.explanations.proofs.Demands.{explain_explains}
 use Rattle.explanations.proofs.Grammatical.{explaining-longest}
 use Rattle.lts.proofs.Laws.Refusals.{answers-refused, unless-false}
 use Rattle.lts.proofs.Laws.Reading.{unless-to}
 
-module _ (tableText formulaText table formula rows edges : List ℕ) where
+module _ (table_text formula_text table formula rows edges : List ℕ) where
   abbrev E : Reply Explanation
-  E = explaining tableText formulaText table formula rows edges
+  E = explaining table_text formula_text table formula rows edges
 
   pub promised : (r : ExplainReply) (table' formula' rows' edges' : List ℕ) → Outcome E r table table' formula formula' rows rows' edges edges'
-      → Promise tableText formulaText table table' formula formula' rows rows' edges edges' r
+      → Promise table_text formula_text table table' formula formula' rows rows' edges edges' r
   promised r table' formula' rows' edges' s = record {
     outcome = s;
-    longest = λ n e. explaining-longest tableText formulaText table formula rows edges n ((answers-refused summary E 6 n).0 (sym s.reply ∙ e));
+    longest = λ n e. explaining-longest table_text formula_text table formula rows edges n ((answers-refused summary E 6 n).0 (sym s.reply ∙ e));
     demands =
-        subst₃ (λ x y z. FromTexts tableText formulaText x y z rows' edges') (sym s.reply) (sym s.table-left) (sym s.formula-left)
-        (subst₂ (FromTexts tableText formulaText (explainReplied E) (tableExplained E table) (formulaExplained E formula)) (sym s.rows_left) (sym s.edges-left)
-        (explain-explains tableText formulaText table formula rows edges));
+        subst₃ (λ x y z. FromTexts table_text formula_text x y z rows' edges') (sym s.reply) (sym s.table_left_lem) (sym s.formula_left_lem)
+        (subst₂ (FromTexts table_text formula_text (explain_replied E) (table_explained E table) (formula_explained E formula)) (sym s.rows_left) (sym s.edges_left_lem)
+        (explain_explains table_text formula_text table formula rows edges));
   }
 
-  pub promised-refusal : (n g : ℕ) → E ≡ refusal n g → Promise tableText formulaText table table formula formula rows rows edges edges (replies.Refused n g)
-  promised-refusal n g z = promised (replies.Refused n g) table formula rows edges (refusal-outcome n g z)
+  pub promised_refusal : (n g : ℕ) → E ≡ refusal n g → Promise table_text formula_text table table formula formula rows rows edges edges (replies.Refused n g)
+  promised_refusal n g z = promised (replies.Refused n g) table formula rows edges (refusal-outcome n g z)
 
-  pub short-table : length table < tableLength → E ≡ refusal 14 tableLength
+  pub short-table : length table < table_length → E ≡ refusal 14 table_length
   unfolding explaining
-  short-table h = unless-false (leb tableLength (length table)) 14 tableLength _ (lt-leb tableLength (length table) h)
+  short-table h = unless-false (leb table_length (length table)) 14 table_length _ (lt-leb table_length (length table) h)
 
-  pub short-formula : tableLength ≤ length table → length formula < formulaLength → E ≡ refusal 14 formulaLength
+  pub short-formula : table_length ≤ length table → length formula < formula_length → E ≡ refusal 14 formula_length
   unfolding explaining
   short-formula g h =
-      unless-to (leb tableLength (length table)) 14 tableLength _ (le-leb tableLength (length table) g)
-      ∙ unless-false (leb formulaLength (length formula)) 14 formulaLength _ (lt-leb formulaLength (length formula) h)
+      unless-to (leb table_length (length table)) 14 table_length _ (le-leb table_length (length table) g)
+      ∙ unless-false (leb formula_length (length formula)) 14 formula_length _ (lt-leb formula_length (length formula) h)
 
-  pub long-enough : tableLength ≤ length table → formulaLength ≤ length formula → E ≡ explanation tableText formulaText rows edges
+  pub long-enough : table_length ≤ length table → formula_length ≤ length formula → E ≡ explanation table_text formula_text rows edges
   unfolding explaining
   long-enough g h =
-      unless-to (leb tableLength (length table)) 14 tableLength _ (le-leb tableLength (length table) g)
-      ∙ unless-to (leb formulaLength (length formula)) 14 formulaLength _ (le-leb formulaLength (length formula) h)
+      unless-to (leb table_length (length table)) 14 table_length _ (le-leb table_length (length table) g)
+      ∙ unless-to (leb formula_length (length formula)) 14 formula_length _ (le-leb formula_length (length formula) h)
 
-  pub promised-explanation : tableLength ≤ length table → formulaLength ≤ length formula → (r : ExplainReply) (table' formula' rows' edges' : List ℕ)
-      → Outcome (explanation tableText formulaText rows edges) r table table' formula formula' rows rows' edges edges'
-      → Promise tableText formulaText table table' formula formula' rows rows' edges edges' r
-  promised-explanation g h r table' formula' rows' edges' s = promised r table' formula' rows' edges' (same_outcome (long-enough g h) s)
+  pub promised_explanation : table_length ≤ length table → formula_length ≤ length formula → (r : ExplainReply) (table' formula' rows' edges' : List ℕ)
+      → Outcome (explanation table_text formula_text rows edges) r table table' formula formula' rows rows' edges edges'
+      → Promise table_text formula_text table table' formula formula' rows rows' edges edges' r
+  promised_explanation g h r table' formula' rows' edges' s = promised r table' formula' rows' edges' (same_outcome (long-enough g h) s)

@@ -13,24 +13,24 @@ use Rattle.lts.specs.Steps.{Table}
 use Rattle.lts.specs.inner.Range.{InRange}
 use Rattle.lts.specs.Reply.{overwritten}
 use Rattle.lts.proofs.Booleans.{or-true-of, or-true-left, or_true_right, same_truth}
-use Rattle.lts.proofs.Lists.{getD-mem}
-use Rattle.actl.specs.Formulas.{Formula, tru, not, or, ex, ax, eu, euThen, nodes, class_of}
+use Rattle.lts.proofs.Lists.{get_d_mem}
+use Rattle.actl.specs.Formulas.{Formula, tru, not, or, ex, ax, eu, eu_then, nodes, class_of}
 use Rattle.actl.proofs.Classes.{HasClass}
 use Rattle.satisfaction.specs.inner.Holds.{holds, verdict}
 use Rattle.automaton.specs.Places.{Final}
-use Rattle.automaton.specs.Positions.{Position, at, rootAt, Joins, begin, stop, go, CanFinish}
+use Rattle.automaton.specs.Positions.{Position, at, root_at, Joins, begin, stop, go, CanFinish}
 use Rattle.automaton.specs.Listing.{Listing, Edge}
 use Rattle.automaton.specs.Listed.{Listed, row_at}
-use Rattle.automaton.specs.Bytes.{bit_of, rowsBytes, rowFinal}
-use Rattle.automaton.specs.inner.Search.{explains, canFinish, nodeAt, listing}
-use Rattle.automaton.proofs.Bytes.{no_edge, final-in}
-use Rattle.automaton.proofs.Finishing.{canFinish-is}
+use Rattle.automaton.specs.Bytes.{bit_of, rows_bytes, row_final}
+use Rattle.automaton.specs.inner.Search.{explains, can_finish, node_at, listing}
+use Rattle.automaton.proofs.Bytes.{no_edge, final_in}
+use Rattle.automaton.proofs.Finishing.{can_finish-is}
 use Rattle.automaton.proofs.Listed.{listing-listed}
-use Rattle.explaining.specs.inner.Told.{verdictTold}
+use Rattle.explaining.specs.inner.Told.{verdict_told}
 
-some-member : {A : Type 0} {x : A} (l : List A) → Memᴰ x l → 0 < length l
-some-member [] n = absurd (Memᴰ.not-nil n)
-some-member (y ∷ l) n = omega arith
+some_member : {A : Type 0} {x : A} (l : List A) → Memᴰ x l → 0 < length l
+some_member [] n = absurd (Memᴰ.not-nil n)
+some_member (y ∷ l) n = omega arith
 
 -- Of any listing that is as 01 says.
 module _ {t : Table} {F : Formula} {L : Listing} (k : Listed t F L) where
@@ -40,38 +40,38 @@ module _ {t : Table} {F : Formula} {L : Listing} (k : Listed t F L) where
   root-place : (row_at L 0).place ≡ 0
   root-place = ap (λ (p : Position). p.place) k.first
 
-  finish-seen : CanFinish t F (rootAt t) → Seen
-  finish-seen ([], stop e) = inr ((k.marked 0 k.some-row).1 (subst (Final F) (sym root-place) e))
+  finish-seen : CanFinish t F (root_at t) → Seen
+  finish-seen ([], stop e) = inr ((k.marked 0 k.some_row_lem).1 (subst (Final F) (sym root-place) e))
   finish-seen (l ∷ w, go {q} j u) =
-      let (i, b, d) = k.row-to q (rootAt t, l, begin, j) (w, u) in
+      let (i, b, d) = k.row_to q (root_at t, l, begin, j) (w, u) in
       let joined = subst₂ (λ (p g : Position). Joins t F p l g) (sym k.first) (sym d) j in
-      inl (some-member L.edges (k.edge_to (record { row = 0; label = l; target = i }) k.some-row b joined (l ∷ w, go j u)))
+      inl (some_member L.edges (k.edge_to (record { row = 0; label = l; target = i }) k.some_row_lem b joined (l ∷ w, go j u)))
 
-  seen-finishes : Seen → CanFinish t F (rootAt t)
-  seen-finishes (inl h) = (k.edge-of _ (getD-mem L.edges 0 no_edge h)).3
-  seen-finishes (inr e) = ([], stop (subst (Final F) root-place ((k.marked 0 k.some-row).0 e)))
+  seen_finishes : Seen → CanFinish t F (root_at t)
+  seen_finishes (inl h) = (k.edge_of_lem _ (get_d_mem L.edges 0 no_edge h)).3
+  seen_finishes (inr e) = ([], stop (subst (Final F) root-place ((k.marked 0 k.some_row_lem).0 e)))
 
-pub first-node : (F : Formula) → nodeAt F 0 ≡ F
+pub first-node : (F : Formula) → node_at F 0 ≡ F
 first-node tru = refl
 first-node (not f) = refl
 first-node (or f g) = refl
 first-node (ex c f) = refl
 first-node (ax c f) = refl
 first-node (eu a f) = refl
-first-node (euThen a b f) = refl
+first-node (eu_then a b f) = refl
 
 -- What explains by the class is told back by the class.
-explains-back : (class : ℕ) (h : Bool) → explains class (explains class h) ≡ h
-explains-back class h = by (eqb class 1) h
+explains_back : (class : ℕ) (h : Bool) → explains class (explains class h) ≡ h
+explains_back class h = by (eqb class 1) h
   where
     by : (a h : Bool) → cond a (cond a h (negate h)) (negate (cond a h (negate h))) ≡ h
     by true h = refl
     by false true = refl
     by false false = refl
 
-bit-tested : (b : Bool) → eqb (bit_of b) 1 ≡ b
-bit-tested true = refl
-bit-tested false = refl
+bit_tested : (b : Bool) → eqb (bit_of b) 1 ≡ b
+bit_tested true = refl
+bit_tested false = refl
 
 module _ (t : Table) (F : Formula) (w : InRange t) (c : HasClass F) where
   abbrev L : Listing
@@ -80,13 +80,13 @@ module _ (t : Table) (F : Formula) (w : InRange t) (c : HasClass F) where
   abbrev shown : Bool
   shown = ltb 0 (length L.edges) || (row_at L 0).final
 
-  root-finishes : shown ≡ canFinish t F (rootAt t)
-  root-finishes =
+  root_finishes : shown ≡ can_finish t F (root_at t)
+  root_finishes =
       let k = listing-listed t F w c in
-      let is = canFinish-is t F c (rootAt t) (omega arith) in
+      let is = can_finish-is t F c (root_at t) (omega arith) in
       let edge = ltb 0 (length L.edges) in
       let mark = (row_at L 0).final in
-      same_truth shown (canFinish t F (rootAt t)) (λ e. is.1 (seen-finishes k (of (or-true-of edge mark e)))) (λ e. to (finish-seen k (is.0 e)))
+      same_truth shown (can_finish t F (root_at t)) (λ e. is.1 (seen_finishes k (of (or-true-of edge mark e)))) (λ e. to (finish-seen k (is.0 e)))
     where
       of : (ltb 0 (length L.edges) ≡ true) ⊎ ((row_at L 0).final ≡ true) → (0 < length L.edges) ⊎ ((row_at L 0).final ≡ true)
       of (inl e) = inl (ltb-true 0 (length L.edges) e)
@@ -96,18 +96,18 @@ module _ (t : Table) (F : Formula) (w : InRange t) (c : HasClass F) where
       to (inl h) = or-true-left (ltb 0 (length L.edges)) (row_at L 0).final (lt-ltb 0 (length L.edges) h)
       to (inr e) = or_true_right (ltb 0 (length L.edges)) (row_at L 0).final e
 
-  root-explains : canFinish t F (rootAt t) ≡ explains (class_of F) (holds t F t.start)
-  unfolding canFinish
+  root-explains : can_finish t F (root_at t) ≡ explains (class_of F) (holds t F t.start)
+  unfolding can_finish
   root-explains = ap (λ (f : Formula). explains (class_of f) (holds t f t.start)) (first-node F)
 
   told : bit_of (explains (class_of F) shown) ≡ verdict t F
-  told = ap (λ b. bit_of (explains (class_of F) b)) (root-finishes ∙ root-explains) ∙ ap bit_of (explains-back (class_of F) (holds t F t.start))
+  told = ap (λ b. bit_of (explains (class_of F) b)) (root_finishes ∙ root-explains) ∙ ap bit_of (explains_back (class_of F) (holds t F t.start))
 
-  pub some-row : 1 ≤ length L.rows
-  some-row = (listing-listed t F w c).some-row
+  pub some_row_lem : 1 ≤ length L.rows
+  some_row_lem = (listing-listed t F w c).some_row_lem
 
   -- In the lent places.
-  pub verdict-told : (rest : List ℕ) → verdictTold (length L.edges) (rowFinal (overwritten (rowsBytes L) rest) 0) (class_of F) ≡ verdict t F
+  pub verdict-told : (rest : List ℕ) → verdict_told (length L.edges) (row_final (overwritten (rows_bytes L) rest) 0) (class_of F) ≡ verdict t F
   verdict-told rest =
-      let mark = final-in L _ [] 0 some-row in
-      ap (λ m. bit_of (explains (class_of F) (ltb 0 (length L.edges) || m))) (ap (λ n. eqb n 1) mark ∙ bit-tested (row_at L 0).final) ∙ told
+      let mark = final_in L _ [] 0 some_row_lem in
+      ap (λ m. bit_of (explains (class_of F) (ltb 0 (length L.edges) || m))) (ap (λ n. eqb n 1) mark ∙ bit_tested (row_at L 0).final) ∙ told

@@ -6,13 +6,13 @@ use Rattle.lts.specs.Marks.{marked}
 use Rattle.actl.specs.Grammatical.{Grammatical, Longest}
 use Rattle.explanations.specs.InOneCall.{FromTexts}
 use Rattle.explanations.specs.Explanation.{explaining}
-use Rattle.explaining.specs.Replies.{explainReply}
+use Rattle.explaining.specs.Replies.{explain_reply}
 use Rattle.explaining.specs.Outcome.{Outcome}
 use Rattle.explaining.specs.declared.ExplainReply.{ExplainReply}
 
 -- The texts; what is lent, before and after; the reply.
-pub record Promise (tableText formulaText table table' formula formula' rows rows' edges edges' : List ℕ) (r : ExplainReply) : Type 0 where
-  pub outcome : Outcome (explaining tableText formulaText table formula rows edges) r table table' formula formula' rows rows' edges edges'
+pub record Promise (table_text formula_text table table' formula formula' rows rows' edges edges' : List ℕ) (r : ExplainReply) : Type 0 where
+  pub outcome : Outcome (explaining table_text formula_text table formula rows edges) r table table' formula formula' rows rows' edges edges'
   -- 01: "formula not in the grammar": "length of the longest beginning that some grammatical text, of any length, has"
-  pub longest : (n : ℕ) → explainReply r ≡ refusal 6 n → Longest marked formulaText n × (Grammatical marked formulaText → ⊥)
-  pub demands : FromTexts tableText formulaText (explainReply r) table' formula' rows' edges'
+  pub longest : (n : ℕ) → explain_reply r ≡ refusal 6 n → Longest marked formula_text n × (Grammatical marked formula_text → ⊥)
+  pub demands : FromTexts table_text formula_text (explain_reply r) table' formula' rows' edges'

@@ -4,6 +4,6 @@ use Rattle.explaining.specs.declared.ExplainReply.{ExplainReply}
 use Rattle.explaining.specs.declared.ExplainReply.TheVariants.{Explained, Refused}
 use Rattle.explanations.specs.Explanation.{Summary}
 
-abbrev pub explainReply : ExplainReply → Reply Summary
-explainReply (Explained verdict class rows edges) = accepted (record { verdict = verdict; class = class; rows = rows; edges = edges })
-explainReply (Refused number figure) = refusal number figure
+abbrev pub explain_reply : ExplainReply → Reply Summary
+explain_reply (Explained verdict class rows edges) = accepted (record { verdict = verdict; class = class; rows = rows; edges = edges })
+explain_reply (Refused number figure) = refusal number figure

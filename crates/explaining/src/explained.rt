@@ -1,6 +1,6 @@
 // The C interface: what is returned and written of what `explain` answers.
 ghost use Rattle.replies.specs.inner.Says.{Says};
-ghost use Rattle.explaining.specs.Replies.{explainReply};
+ghost use Rattle.explaining.specs.Replies.{explain_reply};
 ghost use Rattle.explaining.specs.inner.Values.{ValuesLeft};
 
 use crate::ExplainReply;
@@ -15,7 +15,7 @@ pub struct Values {
 }
 
 pub fn explain_answer(reply: ExplainReply) -> Answer
-    ensures { Says (λ s. s.rows) (explainReply reply) result }
+    ensures { Says (λ s. s.rows) (explain_reply reply) result }
 {
     match reply {
         ExplainReply::Explained(_, _, rows, _) => Answer {
@@ -28,7 +28,7 @@ pub fn explain_answer(reply: ExplainReply) -> Answer
 
 // The values afterwards, by those before: a refusal leaves them.
 pub fn explain_values(reply: ExplainReply, before: Values) -> Values
-    ensures { ValuesLeft (explainReply reply) before result }
+    ensures { ValuesLeft (explain_reply reply) before result }
 {
     match reply {
         ExplainReply::Explained(verdict, class, _, edges) => Values {

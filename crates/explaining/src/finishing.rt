@@ -1,10 +1,10 @@
 // From the prepared bytes that both readings left to the rows, the edges and the answer.
 ghost use Rattle.std.specs.Prelude.{◌≡◌, ◌≤◌, length};
-ghost use Rattle.actl.specs.Sizes.{formulaLength};
-ghost use Rattle.lts.specs.Sizes.{tableLength};
+ghost use Rattle.actl.specs.Sizes.{formula_length};
+ghost use Rattle.lts.specs.Sizes.{table_length};
 ghost use Rattle.explaining.specs.Outcome.{Outcome};
-ghost use Rattle.explaining.specs.inner.Told.{verdictTold};
-ghost use Rattle.explanations.specs.inner.BothTexts.{Read, HoldsBoth, listingOf, ClassIn};
+ghost use Rattle.explaining.specs.inner.Told.{verdict_told};
+ghost use Rattle.explanations.specs.inner.BothTexts.{Read, HoldsBoth, listing_of, ClassIn};
 
 use crate::ExplainReply;
 use building::building::built;
@@ -20,7 +20,7 @@ fn wide(class: u8) -> u64
 
 // The class of a prepared formula.
 fn class_of(formula: &[u8]) -> u64
-    requires { formulaLength ≤ length formula.now }
+    requires { formula_length ≤ length formula.now }
     ensures { ClassIn formula.now result }
 {
     let shape = shape_of(formula);
@@ -30,7 +30,7 @@ fn class_of(formula: &[u8]) -> u64
 
 // The verdict, by what building wrote: the count of edges and the final mark of row 0.
 fn verdict_told(edges: u64, mark: u8, class: u64) -> u64
-    ensures { result ≡ verdictTold edges mark class }
+    ensures { result ≡ verdict_told edges mark class }
 {
     let explained = 0 < edges || mark == 1;
     let holds = if class == 1 { explained } else { !explained };
@@ -46,10 +46,10 @@ pub fn finish(
     rows: &mut [u8],
     edges: &mut [u8],
 ) -> ExplainReply
-    requires t_len { (length t.now ≡ tableLength) × (length f.now ≡ formulaLength) }
-    requires table_length_in_bounds { (tableLength ≤ length table.old) × (formulaLength ≤ length formula.old) }
+    requires t_len { (length t.now ≡ table_length) × (length f.now ≡ formula_length) }
+    requires table_length_in_bounds { (table_length ≤ length table.old) × (formula_length ≤ length formula.old) }
     requires holds_both { (x : Read) × HoldsBoth t.now f.now x }
-    ensures { (x : Read) → HoldsBoth t.now f.now x → Outcome (listingOf x rows.old edges.old) result
+    ensures { (x : Read) → HoldsBoth t.now f.now x → Outcome (listing_of x rows.old edges.old) result
         table.old table.new formula.old formula.new
         rows.old rows.new edges.old edges.new }
 {

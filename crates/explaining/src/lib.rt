@@ -1,7 +1,7 @@
 // From two texts to the automaton in one call.
 ghost use Rattle.std.specs.Prelude.{◌≤◌, length};
-ghost use Rattle.actl.specs.Sizes.{formulaLength};
-ghost use Rattle.lts.specs.Sizes.{tableLength};
+ghost use Rattle.actl.specs.Sizes.{formula_length};
+ghost use Rattle.lts.specs.Sizes.{table_length};
 ghost use Rattle.explanations.specs.Explanation.{explanation};
 ghost use Rattle.explaining.specs.Promise.{Promise};
 ghost use Rattle.explaining.specs.Outcome.{Outcome};
@@ -58,7 +58,7 @@ fn explain_into(
     tabletext: &[u8],
     formulatext: &[u8],
 ) -> ExplainReply
-    requires { (tableLength ≤ length table.old) × (formulaLength ≤ length formula.old) }
+    requires { (table_length ≤ length table.old) × (formula_length ≤ length formula.old) }
     ensures { Outcome (explanation tabletext.now formulatext.now rows.old edges.old) result
         table.old table.new formula.old formula.new
         rows.old rows.new edges.old edges.new }

@@ -8,13 +8,13 @@ use native.Mathlib.Decide.{dec_le}
 use native.Mathlib.Omega.{arith}
 use Rattle.lts.specs.Steps.{Step, Table, IsStep}
 use Rattle.actl.specs.Actions.{Mask, in_set, Cond, meets, passes}
-use Rattle.actl.specs.Formulas.{Formula, tru, not, or, ex, ax, eu, euThen, isT, class_of, At, root}
-use Rattle.actl.proofs.Classes.{class-types, HasClass}
+use Rattle.actl.specs.Formulas.{Formula, tru, not, or, ex, ax, eu, eu_then, is_t, class_of, At, root}
+use Rattle.actl.proofs.Classes.{class_types, HasClass}
 use Rattle.satisfaction.specs.Runs.{Run}
 use Rattle.automaton.specs.Places.{Final, Leads}
-use Rattle.automaton.specs.Positions.{Position, at, rootAt, Joins}
+use Rattle.automaton.specs.Positions.{Position, at, root_at, Joins}
 use Rattle.automaton.proofs.Frames.{Frame, Until, now, later, Shows, Breaks}
-use Rattle.automaton.proofs.Acceptance.{Accepting, halt, move, shown-is-accepting, broken-is-accepting}
+use Rattle.automaton.proofs.Acceptance.{Accepting, halt, move, shown_is_accepting, broken_is_accepting}
 use Rattle.explanations.specs.Shown.{PassesFrom, Shown, Broken, ShowsOrBreaks}
 use Rattle.explanations.specs.inner.Positions.{PositionsTrace}
 
@@ -40,32 +40,32 @@ cases true = inl refl
 cases false = inr refl
 
 module _ (r : ℕ → Step) where
-  T-unbroken : (f : Formula) (i : ℕ) → isT f ≡ true → Broken f r i → ⊥
-  T-unbroken tru i e d = d
-  T-unbroken (not f) i e d = false≢true e
-  T-unbroken (or f g) i e d = d
-  T-unbroken (ex c f) i e d = d
-  T-unbroken (ax c f) i e d = false≢true e
-  T-unbroken (eu a f) i e d = d
-  T-unbroken (euThen a b f) i e d = d
+  T_unbroken : (f : Formula) (i : ℕ) → is_t f ≡ true → Broken f r i → ⊥
+  T_unbroken tru i e d = d
+  T_unbroken (not f) i e d = false≢true e
+  T_unbroken (or f g) i e d = d
+  T_unbroken (ex c f) i e d = d
+  T_unbroken (ax c f) i e d = false≢true e
+  T_unbroken (eu a f) i e d = d
+  T_unbroken (eu_then a b f) i e d = d
 
-  all-broken-to : (c : Cond) (f : Formula) (i : ℕ) → (Broken f r (suc i) → Breaks f (along r) (suc i)) → (meets c (r i).label ≡ true) ⊎ (meets c (r i).label ≡ false)
-      → (isT f ≡ true) ⊎ (isT f ≡ false) → Broken (ax c f) r i → Breaks (ax c f) (along r) i
-  all-broken-to c f i h m t (inl e) = inl (tt, e, tt)
-  all-broken-to c f i h m (inl t) (inr d) = absurd (T-unbroken f (suc i) t d)
-  all-broken-to c f i h (inl m) (inr t) (inr d) = inr (tt, t, m, h d)
-  all-broken-to c f i h (inr m) (inr t) (inr d) = inl (tt, m, tt)
+  all_broken_to : (c : Cond) (f : Formula) (i : ℕ) → (Broken f r (suc i) → Breaks f (along r) (suc i)) → (meets c (r i).label ≡ true) ⊎ (meets c (r i).label ≡ false)
+      → (is_t f ≡ true) ⊎ (is_t f ≡ false) → Broken (ax c f) r i → Breaks (ax c f) (along r) i
+  all_broken_to c f i h m t (inl e) = inl (tt, e, tt)
+  all_broken_to c f i h m (inl t) (inr d) = absurd (T_unbroken f (suc i) t d)
+  all_broken_to c f i h (inl m) (inr t) (inr d) = inr (tt, t, m, h d)
+  all_broken_to c f i h (inr m) (inr t) (inr d) = inl (tt, m, tt)
 
-  all-broken-of : (c : Cond) (f : Formula) (i : ℕ) → (Breaks f (along r) (suc i) → Broken f r (suc i)) → Breaks (ax c f) (along r) i → Broken (ax c f) r i
-  all-broken-of c f i h (inl d) = inl d.1
-  all-broken-of c f i h (inr d) = inr (h d.3)
+  all_broken_of : (c : Cond) (f : Formula) (i : ℕ) → (Breaks f (along r) (suc i) → Broken f r (suc i)) → Breaks (ax c f) (along r) i → Broken (ax c f) r i
+  all_broken_of c f i h (inl d) = inl d.1
+  all_broken_of c f i h (inr d) = inr (h d.3)
 
   along-run : (f : Formula) (i : ℕ) → (Shown f r i ↔ Shows f (along r) i) × (Broken f r i ↔ Breaks f (along r) i)
   along-run tru i = ((λ d. tt, λ d. tt), (λ d. d, λ d. d))
   along-run (not f) i = let h = along-run f i in (h.1, h.0)
   along-run (or f g) i = let h = (along-run f i).0 in let k = (along-run g i).0 in ((⊎_map h.0 k.0, ⊎_map h.1 k.1), (λ d. d, λ d. d))
   along-run (ex c f) i = let h = (along-run f (suc i)).0 in ((λ d. (tt, d.0, h.0 d.1), λ d. (d.1, h.1 d.2)), (λ d. d, λ d. d))
-  along-run (ax c f) i = let h = (along-run f (suc i)).1 in ((λ d. d, λ d. d), (all-broken-to c f i h.0 (cases _) (cases _), all-broken-of c f i h.1))
+  along-run (ax c f) i = let h = (along-run f (suc i)).1 in ((λ d. d, λ d. d), (all_broken_to c f i h.0 (cases _) (cases _), all_broken_of c f i h.1))
   along-run (eu a f) i = (
     (
       λ (j, l, h, p). until-to r a (λ v. Shows f (along r) v) (j - i) i j (omega arith) h ((along-run f j).0.0 p),
@@ -73,7 +73,7 @@ module _ (r : ℕ → Step) where
     ),
     (λ d. d, λ d. d),
   )
-  along-run (euThen a b f) i = (
+  along-run (eu_then a b f) i = (
     (
       λ (j, l, h, e, p). until-to r a (λ v. (x : Unit {0}) × (in_set b (r v).label ≡ true) × Shows f (along r) (suc v)) (j - i) i j (omega arith) h (tt, e, (along-run f (suc j)).0.0 p),
       λ u. let (j, l, h, p) = until-of r a (λ v. (x : Unit {0}) × (in_set b (r v).label ≡ true) × Shows f (along r) (suc v)) u in (j, l, h, p.1, (along-run f (suc j)).0.1 p.2),
@@ -109,8 +109,8 @@ module _ (F : Formula) (r : ℕ → Step) where
 
 -- Places along a run of the table are positions.
 module _ {t : Table} (F : Formula) (r : Run t t.start) where
-  step-between : (k : ℕ) → IsStep t (record { from = (r.step k).from; label = (r.step k).label; to = (r.step (suc k)).from })
-  step-between k = let e = r.follows k in
+  step_between : (k : ℕ) → IsStep t (record { from = (r.step k).from; label = (r.step k).label; to = (r.step (suc k)).from })
+  step_between k = let e = r.follows k in
       subst (IsStep t) (λ i. record { from = (r.step k).from; label = (r.step k).label; to = sym e i }) (r.taken k)
 
   positions-of : (n : ℕ) → PlacesFrom F r.step 0 0 n → PositionsTrace t F r.step n
@@ -119,39 +119,39 @@ module _ {t : Table} (F : Formula) (r : Run t t.start) where
     first = λ i. at (z i) (r.starts i);
     last = h.last;
     states = λ k l. refl;
-    joins = λ k l. (step-between k, rw zero-add at (h.leads k l));
+    joins = λ k l. (step_between k, rw zero-add at (h.leads k l));
   }
 
-  positions-accept : (n : ℕ) → PositionsTrace t F r.step n → Accepting (along r.step) F 0 0
-  positions-accept n h =
+  positions_accept : (n : ℕ) → PositionsTrace t F r.step n → Accepting (along r.step) F 0 0
+  positions_accept n h =
       subst (λ (k : ℕ). Accepting (along r.step) F k 0) (ap (λ (p : Position). p.place) h.first)
       (places-to F r.step n (λ k. (h.position k).place) 0 (λ j l. rw zero-add (h.joins j l).1) h.last)
 
-  accepting-run : Accepting (along r.step) F 0 0 ↔ ((n : ℕ) × PositionsTrace t F r.step n)
-  accepting-run = (λ u. let (n, h) = places_of F r.step u in (n, positions-of n h), λ (n, h). positions-accept n h)
+  accepting_run : Accepting (along r.step) F 0 0 ↔ ((n : ℕ) × PositionsTrace t F r.step n)
+  accepting_run = (λ u. let (n, h) = places_of F r.step u in (n, positions-of n h), λ (n, h). positions_accept n h)
 
-  pub shown-by-positions : class_of F ≡ 1 → Shown F r.step 0 ↔ ((n : ℕ) × PositionsTrace t F r.step n)
-  shown-by-positions c =
+  pub shown_by_positions : class_of F ≡ 1 → Shown F r.step 0 ↔ ((n : ℕ) × PositionsTrace t F r.step n)
+  shown_by_positions c =
       let o : At F 0 F = root in
       let a = (along-run r.step F 0).0 in
-      let b = shown-is-accepting {M = along r.step} 0 o ((class-types F).0 c) in
-      (λ x. accepting-run.0 (b.0 (a.0 x)), λ x. a.1 (b.1 (accepting-run.1 x)))
+      let b = shown_is_accepting {M = along r.step} 0 o ((class_types F).0 c) in
+      (λ x. accepting_run.0 (b.0 (a.0 x)), λ x. a.1 (b.1 (accepting_run.1 x)))
 
-  pub broken-by-positions : class_of F ≡ 2 → Broken F r.step 0 ↔ ((n : ℕ) × PositionsTrace t F r.step n)
-  broken-by-positions c =
+  pub broken_by_positions : class_of F ≡ 2 → Broken F r.step 0 ↔ ((n : ℕ) × PositionsTrace t F r.step n)
+  broken_by_positions c =
       let o : At F 0 F = root in
       let a = (along-run r.step F 0).1 in
-      let b = broken-is-accepting {M = along r.step} 0 o ((class-types F).1 c) in
-      (λ x. accepting-run.0 (b.0 (a.0 x)), λ x. a.1 (b.1 (accepting-run.1 x)))
+      let b = broken_is_accepting {M = along r.step} 0 o ((class_types F).1 c) in
+      (λ x. accepting_run.0 (b.0 (a.0 x)), λ x. a.1 (b.1 (accepting_run.1 x)))
 
-  pub runs-by-positions : HasClass F → ShowsOrBreaks F r.step ↔ ((n : ℕ) × PositionsTrace t F r.step n)
-  runs-by-positions (inl c) = let h = shown-by-positions c in (one, λ x. inl (c, h.1 x))
+  pub runs_by_positions : HasClass F → ShowsOrBreaks F r.step ↔ ((n : ℕ) × PositionsTrace t F r.step n)
+  runs_by_positions (inl c) = let h = shown_by_positions c in (one, λ x. inl (c, h.1 x))
     where
       one : ShowsOrBreaks F r.step → (n : ℕ) × PositionsTrace t F r.step n
-      one (inl (e, d)) = (shown-by-positions c).0 d
+      one (inl (e, d)) = (shown_by_positions c).0 d
       one (inr (e, d)) = absurd (omega arith)
-  runs-by-positions (inr c) = let h = broken-by-positions c in (two, λ x. inr (c, h.1 x))
+  runs_by_positions (inr c) = let h = broken_by_positions c in (two, λ x. inr (c, h.1 x))
     where
       two : ShowsOrBreaks F r.step → (n : ℕ) × PositionsTrace t F r.step n
       two (inl (e, d)) = absurd (omega arith)
-      two (inr (e, d)) = (broken-by-positions c).0 d
+      two (inr (e, d)) = (broken_by_positions c).0 d

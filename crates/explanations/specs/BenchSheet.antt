@@ -6,11 +6,11 @@ use Prim.Native.String.{String}
 use Rattle.columns.specs.Ascii.{ascii}
 use Rattle.lts.specs.Reply.{accepted, refusal}
 use Rattle.lts.specs.Steps.{Table}
-use Rattle.lts.specs.Idle.{idleLabel}
+use Rattle.lts.specs.Idle.{idle_label}
 use Rattle.lts.specs.Text.{ended}
-use Rattle.lts.specs.Reading.{readTable}
+use Rattle.lts.specs.Reading.{read_table}
 use Rattle.actl.specs.Formulas.{Formula, class_of}
-use Rattle.actl.specs.inner.Reading.{readFormula}
+use Rattle.actl.specs.inner.Reading.{read_formula}
 use Rattle.satisfaction.specs.Satisfaction.{Sat}
 use Rattle.automaton.specs.Positions.{Position, at}
 use Rattle.automaton.specs.Explains.{Explains}
@@ -26,8 +26,8 @@ pub record Language : Type 0 where
 abbrev pub only : List (List ℕ) → Language
 only l = record { words = l; repeated = [] }
 
-abbrev pub oneOrMore : ℕ → Language
-oneOrMore a = record { words = []; repeated = a ∷ [] }
+abbrev pub one_or_more : ℕ → Language
+one_or_more a = record { words = []; repeated = a ∷ [] }
 
 abbrev pub Member : Language → List ℕ → Type 0
 Member L w = Memᴰ w L.words ⊎ ((a : ℕ) × (n : ℕ) × Memᴰ a L.repeated × (w ≡ replicate (suc n) a))
@@ -37,7 +37,7 @@ pub record Answer : Type 0 where
   pub class : ℕ
   pub holds : Bool
   pub language : Language
-  pub lastRow : Option Position
+  pub last_row : Option Position
 
 pub data Expected : Type 0 where
   refused : ℕ → ℕ → Expected
@@ -57,26 +57,26 @@ pub record IsAnswer (t : Table) (F : Formula) (a : Answer) : Type 0 where
   pub class : class_of F ≡ a.class
   pub verdict : (a.holds ≡ true) ↔ Sat t F t.start
   pub words : (w : List ℕ) → Member a.language w ↔ Explains t F w
-  pub row : LastRow (listing t F) a.lastRow
+  pub row : LastRow (listing t F) a.last_row
 
 abbrev pub Meets : Table → List ℕ → Expected → Type 0
-Meets t text (refused number figure) = readFormula t.names text ≡ refusal number figure
-Meets t text (explained a) = (F : Formula) × (readFormula t.names text ≡ accepted F) × IsAnswer t F a
+Meets t text (refused number figure) = read_formula t.names text ≡ refusal number figure
+Meets t text (explained a) = (F : Formula) × (read_formula t.names text ≡ accepted F) × IsAnswer t F a
 
 -- From the texts.
 abbrev pub IsRight : SheetLine → Type 0
-IsRight l = (t : Table) × (readTable l.table ≡ accepted t) × Meets t l.formula l.expected
+IsRight l = (t : Table) × (read_table l.table ≡ accepted t) × Meets t l.formula l.expected
 
 -- The tables.
 abbrev pub lines : List String → List ℕ
 lines [] = []
 lines (l ∷ rest) = ended (ascii l) ++ lines rest
 
-abbrev pub tableM : List ℕ
-tableM = lines ("     3     2     3     0" ∷ "     1 req" ∷ "     2 ack" ∷ "     0     1     1" ∷ "     1     0     2" ∷ "     1     2     0" ∷ [])
+abbrev pub table_m : List ℕ
+table_m = lines ("     3     2     3     0" ∷ "     1 req" ∷ "     2 ack" ∷ "     0     1     1" ∷ "     1     0     2" ∷ "     1     2     0" ∷ [])
 
-abbrev pub oneState : List ℕ
-oneState = lines ("     1     0     0     0" ∷ [])
+abbrev pub one_state : List ℕ
+one_state = lines ("     1     0     0     0" ∷ [])
 
 abbrev pub loops : List ℕ
 loops = lines ("     1     3     3     0" ∷ "     1 a" ∷ "     2 b" ∷ "     3 c" ∷ "     0     1     0" ∷ "     0     2     0" ∷ "     0     3     0" ∷ [])
@@ -85,22 +85,22 @@ abbrev pub asks : List ℕ → String → Expected → SheetLine
 asks table formula expected = record { table = table; formula = ascii formula; expected = expected }
 
 abbrev pub holding : ℕ → Language → Expected
-holding class language = explained (record { class = class; holds = true; language = language; lastRow = none })
+holding class language = explained (record { class = class; holds = true; language = language; last_row = none })
 
 abbrev pub failing : ℕ → Language → Option Position → Expected
-failing class language row = explained (record { class = class; holds = false; language = language; lastRow = row })
+failing class language row = explained (record { class = class; holds = false; language = language; last_row = row })
 
 abbrev pub starred : List SheetLine
 starred =
-    asks tableM "T" (holding 1 (only ([] ∷ [])))
-    ∷ asks tableM "~T" (failing 2 (only ([] ∷ [])) none)
-    ∷ asks tableM "AX[req] T" (holding 2 (only []))
-    ∷ asks tableM "AX[ack] T" (failing 2 (only ((1 ∷ []) ∷ [])) (some (at 2 1)))
-    ∷ asks tableM "AX[req] AX[ack] T" (failing 2 (only ((1 ∷ 0 ∷ []) ∷ [])) none)
-    ∷ asks tableM "EU[req] EX[ack] T" (holding 1 (only ((1 ∷ 2 ∷ []) ∷ [])))
-    ∷ asks tableM "EU[~req] T" (holding 1 (only ([] ∷ [])))
-    ∷ asks tableM "T | ~T" (refused 9 0)
-    ∷ asks tableM "~EX[req] ~T" (refused 9 1)
-    ∷ asks oneState "EU[*] EX[.] T" (holding 1 (oneOrMore idleLabel))
+    asks table_m "T" (holding 1 (only ([] ∷ [])))
+    ∷ asks table_m "~T" (failing 2 (only ([] ∷ [])) none)
+    ∷ asks table_m "AX[req] T" (holding 2 (only []))
+    ∷ asks table_m "AX[ack] T" (failing 2 (only ((1 ∷ []) ∷ [])) (some (at 2 1)))
+    ∷ asks table_m "AX[req] AX[ack] T" (failing 2 (only ((1 ∷ 0 ∷ []) ∷ [])) none)
+    ∷ asks table_m "EU[req] EX[ack] T" (holding 1 (only ((1 ∷ 2 ∷ []) ∷ [])))
+    ∷ asks table_m "EU[~req] T" (holding 1 (only ([] ∷ [])))
+    ∷ asks table_m "T | ~T" (refused 9 0)
+    ∷ asks table_m "~EX[req] ~T" (refused 9 1)
+    ∷ asks one_state "EU[*] EX[.] T" (holding 1 (one_or_more idle_label))
     ∷ asks loops "EX[b] T | EX[c] T | EX[a] EX[b] T" (holding 1 (only ((2 ∷ []) ∷ (3 ∷ []) ∷ (1 ∷ 2 ∷ []) ∷ [])))
     ∷ []

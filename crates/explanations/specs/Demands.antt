@@ -4,17 +4,17 @@ use Rattle.std.specs.Prelude.{◌≡◌, ◌↔◌, List, ℕ}
 use Rattle.std.proofs.Math.Option.{some}
 use Rattle.lts.specs.Reply.{Reply, accepted, refusal}
 use Rattle.lts.specs.Steps.{Table, labels}
-use Rattle.lts.specs.Reading.{readTable}
-use Rattle.lts.specs.inner.Prepared.{preparedTable}
+use Rattle.lts.specs.Reading.{read_table}
+use Rattle.lts.specs.inner.Prepared.{prepared_table}
 use Rattle.actl.specs.Formulas.{Formula}
-use Rattle.actl.specs.inner.Reading.{readFormula}
-use Rattle.actl.specs.inner.Prepared.{preparedFormula}
+use Rattle.actl.specs.inner.Reading.{read_formula}
+use Rattle.actl.specs.inner.Prepared.{prepared_formula}
 use Rattle.satisfaction.specs.Runs.{Run}
-use Rattle.satisfaction.specs.VerdictAsked.{verdictReplied, TellsWhether, VerdictIs}
+use Rattle.satisfaction.specs.VerdictAsked.{verdict_replied, TellsWhether, VerdictIs}
 use Rattle.automaton.specs.Build.{Counts}
 use Rattle.automaton.specs.Explains.{Explains}
 use Rattle.automaton.specs.AcceptsBytes.{AcceptsBytes}
-use Rattle.automaton.specs.WordAsked.{wordReplied}
+use Rattle.automaton.specs.WordAsked.{word_replied}
 use Rattle.explanations.specs.Shown.{ShowsOrBreaks}
 use Rattle.explanations.specs.Traces.{Traces}
 use Rattle.explanations.specs.Standstills.{StandstillsSeen}
@@ -35,13 +35,13 @@ WordRead t F c rows edges w (refusal number figure) = Unit {0}
 
 -- A verdict, and rows and edges in lent places, beside the prepared bytes of a table and a formula.
 pub record Explained (table formula : List ℕ) (t : Table) (F : Formula) (v : ℕ) (c : Counts) (rows edges : List ℕ) : Type 0 where
-  pub is-table : preparedTable table ≡ some t
-  pub is-formula : preparedFormula (labels t) formula ≡ some F
+  pub is_table : prepared_table table ≡ some t
+  pub is_formula : prepared_formula (labels t) formula ≡ some F
   -- Demand 2; the verdict and each word are also what is answered on the prepared bytes.
   pub verdict : VerdictIs t F v
-  pub verdict-asked : verdictReplied table formula ≡ accepted v
+  pub verdict_asked : verdict_replied table formula ≡ accepted v
   pub words : WordsAccepted t F c rows edges
-  pub word-asked : (w : List ℕ) → WordRead t F c rows edges w (wordReplied table formula w)
+  pub word_asked : (w : List ℕ) → WordRead t F c rows edges w (word_replied table formula w)
   -- Demand 3.
   pub runs : RunsTraced t F c rows edges
   -- 02's third request.
@@ -49,13 +49,13 @@ pub record Explained (table formula : List ℕ) (t : Table) (F : Formula) (v : �
 
 -- What is said of the table and the formula in two texts.
 abbrev pub InTexts : List ℕ → List ℕ → (Table → Formula → Type 0) → Type 0
-InTexts tableText formulaText Said = (t : Table) × (F : Formula) × (readTable tableText ≡ accepted t) × (readFormula t.names formulaText ≡ accepted F) × Said t F
+InTexts table_text formula_text Said = (t : Table) × (F : Formula) × (read_table table_text ≡ accepted t) × (read_formula t.names formula_text ≡ accepted F) × Said t F
 
 -- "It goes from the two texts through both readings to what building wrote": the prepared bytes that the readings left, what building answered on
 -- them, and the rows and edges that it left.
 abbrev pub FromCalls : List ℕ → List ℕ → Reply Counts → List ℕ → List ℕ → List ℕ → List ℕ → Type 0
-FromCalls tableText formulaText (accepted c) table formula rows edges = InTexts tableText formulaText (λ t F. (v : ℕ) × Explained table formula t F v c rows edges)
-FromCalls tableText formulaText (refusal number figure) table formula rows edges = Unit {0}
+FromCalls table_text formula_text (accepted c) table formula rows edges = InTexts table_text formula_text (λ t F. (v : ℕ) × Explained table formula t F v c rows edges)
+FromCalls table_text formula_text (refusal number figure) table formula rows edges = Unit {0}
 
 -- "it covers alike any other prepared bytes that building accepts"
 abbrev pub FromPrepared : List ℕ → List ℕ → Reply Counts → List ℕ → List ℕ → Type 0

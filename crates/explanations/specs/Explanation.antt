@@ -1,17 +1,17 @@
 -- What `explain` answers and leaves: both texts read, then the automaton built.
 use Rattle.std.specs.Prelude.{List, ℕ, length}
-use Rattle.lts.specs.Reply.{Reply, accepted, refusal, leftIn, answers}
+use Rattle.lts.specs.Reply.{Reply, accepted, refusal, left_in, answers}
 use Rattle.lts.specs.Steps.{Table}
-use Rattle.lts.specs.Reading.{readTable}
-use Rattle.lts.specs.Prepared.{tableBytes}
+use Rattle.lts.specs.Reading.{read_table}
+use Rattle.lts.specs.Prepared.{table_bytes}
 use Rattle.actl.specs.Formulas.{Formula, class_of}
-use Rattle.actl.specs.inner.Reading.{readFormula}
-use Rattle.actl.specs.Prepared.{formulaBytes}
-use Rattle.actl.specs.FormulaReading.{longEnough}
+use Rattle.actl.specs.inner.Reading.{read_formula}
+use Rattle.actl.specs.Prepared.{formula_bytes}
+use Rattle.actl.specs.FormulaReading.{long_enough}
 use Rattle.satisfaction.specs.inner.Holds.{verdict}
 use Rattle.automaton.specs.Listing.{Listing}
 use Rattle.automaton.specs.inner.Search.{listing}
-use Rattle.automaton.specs.Bytes.{rowsBytes, edgesBytes}
+use Rattle.automaton.specs.Bytes.{rows_bytes, edges_bytes}
 use Rattle.automaton.specs.Build.{Counts, fitted}
 
 -- 01: "verdict (1 holds, 0 not), class, rows, edges"
@@ -21,8 +21,8 @@ pub record Summary : Type 0 where
   pub rows : ℕ
   pub edges : ℕ
 
-abbrev pub countsOf : Summary → Counts
-countsOf s = record { rows = s.rows; edges = s.edges }
+abbrev pub counts_of : Summary → Counts
+counts_of s = record { rows = s.rows; edges = s.edges }
 
 -- What was read, and its listing.
 pub record Explanation : Type 0 where
@@ -36,14 +36,14 @@ and_then (refusal number figure) f = refusal number figure
 
 -- The refusals of the entries in turn: reading the table, reading the formula, building.
 abbrev pub explanation : List ℕ → List ℕ → List ℕ → List ℕ → Reply Explanation
-explanation tableText formulaText rows edges =
-    and_then (readTable tableText) (λ t.
-    and_then (readFormula t.names formulaText) (λ F.
+explanation table_text formula_text rows edges =
+    and_then (read_table table_text) (λ t.
+    and_then (read_formula t.names formula_text) (λ F.
     answers (λ L. record { table = t; formula = F; list = L }) (fitted (listing t F) rows edges)))
 
 -- 01: "Order: 14 first". The texts, then what is lent for the prepared table, the prepared formula, the rows and the edges.
 unfoldable pub explaining : List ℕ → List ℕ → List ℕ → List ℕ → List ℕ → List ℕ → Reply Explanation
-explaining tableText formulaText table formula rows edges = longEnough table formula (explanation tableText formulaText rows edges)
+explaining table_text formula_text table formula rows edges = long_enough table formula (explanation table_text formula_text rows edges)
 
 abbrev pub summary : Explanation → Summary
 summary e = record {
@@ -54,17 +54,17 @@ summary e = record {
 }
 
 -- The reply, and each lent buffer afterwards, by the reply of `explaining`. A refusal leaves all of them.
-abbrev pub explainReplied : Reply Explanation → Reply Summary
-explainReplied e = answers summary e
+abbrev pub explain_replied : Reply Explanation → Reply Summary
+explain_replied e = answers summary e
 
-abbrev pub tableExplained : Reply Explanation → List ℕ → List ℕ
-tableExplained e table = leftIn (λ x. tableBytes x.table) e table
+abbrev pub table_explained : Reply Explanation → List ℕ → List ℕ
+table_explained e table = left_in (λ x. table_bytes x.table) e table
 
-abbrev pub formulaExplained : Reply Explanation → List ℕ → List ℕ
-formulaExplained e formula = leftIn (λ x. formulaBytes x.formula) e formula
+abbrev pub formula_explained : Reply Explanation → List ℕ → List ℕ
+formula_explained e formula = left_in (λ x. formula_bytes x.formula) e formula
 
-abbrev pub rowsExplained : Reply Explanation → List ℕ → List ℕ
-rowsExplained e rows = leftIn (λ x. rowsBytes x.list) e rows
+abbrev pub rows_explained : Reply Explanation → List ℕ → List ℕ
+rows_explained e rows = left_in (λ x. rows_bytes x.list) e rows
 
-abbrev pub edgesExplained : Reply Explanation → List ℕ → List ℕ
-edgesExplained e edges = leftIn (λ x. edgesBytes x.list) e edges
+abbrev pub edges_explained : Reply Explanation → List ℕ → List ℕ
+edges_explained e edges = left_in (λ x. edges_bytes x.list) e edges

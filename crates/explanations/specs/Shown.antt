@@ -2,7 +2,7 @@
 use Rattle.std.specs.Prelude.{◌≡◌, ◌⊎◌, true, false, ℕ, suc, ◌≤◌, ◌<◌}
 use Rattle.lts.specs.Steps.{Step}
 use Rattle.actl.specs.Actions.{Mask, in_set, meets, passes}
-use Rattle.actl.specs.Formulas.{Formula, tru, not, or, ex, ax, eu, euThen, class_of}
+use Rattle.actl.specs.Formulas.{Formula, tru, not, or, ex, ax, eu, eu_then, class_of}
 
 -- "each step from i to before j is silent or meets A"
 abbrev pub PassesFrom : (ℕ → Step) → Mask → ℕ → ℕ → Type 0
@@ -22,7 +22,7 @@ abbrev mutual
   -- "`EU[A] f` is shown at i if, for some j from i on, each step from i to before j is silent or meets A, and f is shown at j."
   Shown (eu a f) r i = (j : ℕ) × (i ≤ j) × PassesFrom r a i j × Shown f r j
   -- "`EU[A;B] f` is shown at i if, for some j from i on, each step from i to before j is silent or meets A, step j meets B, and f is shown at j + 1."
-  Shown (euThen a b f) r i = (j : ℕ) × (i ≤ j) × PassesFrom r a i j × (in_set b (r j).label ≡ true) × Shown f r (suc j)
+  Shown (eu_then a b f) r i = (j : ℕ) × (i ≤ j) × PassesFrom r a i j × (in_set b (r j).label ≡ true) × Shown f r (suc j)
 
   pub Broken : Formula → (ℕ → Step) → ℕ → Type 0
   Broken tru r i = ⊥
@@ -32,7 +32,7 @@ abbrev mutual
   -- "`AX[A] f` is broken at i if step i doesn't meet A or f is broken at i + 1."
   Broken (ax c f) r i = (meets c (r i).label ≡ false) ⊎ Broken f r (suc i)
   Broken (eu a f) r i = ⊥
-  Broken (euThen a b f) r i = ⊥
+  Broken (eu_then a b f) r i = ⊥
 
 -- 01: "The run shows, or breaks, the formula if the root is shown, or broken, at 0." Class 1 is shown, class 2 broken.
 abbrev pub ShowsOrBreaks : Formula → (ℕ → Step) → Type 0

@@ -2,8 +2,8 @@
 use Rattle.std.specs.Prelude.{ℕ}
 
 -- 01: "The program lends places for 1,024 rows and 4,096 edges."
-abbrev pub rowsLent : ℕ
-rowsLent = 1024
+abbrev pub rows_lent : ℕ
+rows_lent = 1024
 
-abbrev pub edgesLent : ℕ
-edgesLent = 4096
+abbrev pub edges_lent : ℕ
+edges_lent = 4096

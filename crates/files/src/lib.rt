@@ -1,10 +1,10 @@
 // What is kept of a formula file of any length: its first 513 bytes, its length and its last byte. A refusal's line tells that length.
 ghost use Rattle.std.specs.Prelude.{◌≡◌, ◌+◌, ◌≤◌, min, length};
-ghost use Rattle.explanations.specs.inner.Sizes.{keptLength};
+ghost use Rattle.explanations.specs.inner.Sizes.{kept_length};
 ghost use Rattle.explanations.specs.inner.Printed.{TextWritten};
-ghost use Rattle.files.specs.inner.Scan.{scanStart, largestCount, scannedAfter, keptAfter};
-ghost use Rattle.files.specs.inner.Files.{lengthWithoutEnd};
-ghost use Rattle.files.specs.inner.Writing.{refusedLine};
+ghost use Rattle.files.specs.inner.Scan.{scan_start, largest_count, scanned_after, kept_after};
+ghost use Rattle.files.specs.inner.Files.{length_without_end};
+ghost use Rattle.files.specs.inner.Writing.{refused_line};
 
 use bytes::copy;
 use explanations::sizes::KEPT;
@@ -19,7 +19,7 @@ pub struct Scanned {
 
 // Before the first byte.
 pub fn scan_start() -> Scanned
-    ensures { result ≡ scanStart }
+    ensures { result ≡ scan_start }
 {
     Scanned { length: 0, last: 0 }
 }
@@ -32,8 +32,8 @@ pub fn least(a: usize, b: usize) -> usize
 
 // Puts the bytes of a chunk that belong to the first 513 into `head`, if `at` bytes came before.
 fn keep(chunk: &[u8], head: &mut [u8], at: usize)
-    requires { length head.old ≡ keptLength }
-    ensures { head.new ≡ keptAfter head.old at chunk.now }
+    requires { length head.old ≡ kept_length }
+    ensures { head.new ≡ kept_after head.old at chunk.now }
 {
     if at < KEPT {
         let n = least(chunk.len(), KEPT - at);
@@ -43,7 +43,7 @@ fn keep(chunk: &[u8], head: &mut [u8], at: usize)
 
 // The sum, or the largest number where it does not fit.
 fn add(a: usize, b: usize) -> usize
-    ensures { result ≡ min (a + b) largestCount }
+    ensures { result ≡ min (a + b) largest_count }
 {
     if b <= usize::MAX - a {
         a + b
@@ -54,8 +54,8 @@ fn add(a: usize, b: usize) -> usize
 
 // Takes in the next chunk of the formula file.
 pub fn scan_chunk(chunk: &[u8], head: &mut [u8; KEPT], scanned: Scanned) -> Scanned
-    ensures value { result ≡ scannedAfter scanned chunk.now }
-    ensures head_after { head.new ≡ keptAfter head.old scanned.length chunk.now }
+    ensures value { result ≡ scanned_after scanned chunk.now }
+    ensures head_after { head.new ≡ kept_after head.old scanned.length chunk.now }
 {
     keep(chunk, head, scanned.length);
     let n = chunk.len();
@@ -70,7 +70,7 @@ pub fn scan_chunk(chunk: &[u8], head: &mut [u8; KEPT], scanned: Scanned) -> Scan
 
 // The length of the formula's text: one LF at the end of the file is dropped.
 pub fn text_length(scanned: Scanned) -> usize
-    ensures { result ≡ lengthWithoutEnd scanned }
+    ensures { result ≡ length_without_end scanned }
 {
     let n = scanned.length;
     if n == 0 {
@@ -85,7 +85,7 @@ pub fn text_length(scanned: Scanned) -> usize
 // A refusal's line, about a formula of `counted` bytes.
 pub fn write_refused(number: u32, figure: u64, counted: usize, out: &mut [u8]) -> usize
     requires { 81 ≤ length out.old }
-    ensures { TextWritten (refusedLine counted number figure) out.old out.new result }
+    ensures { TextWritten (refused_line counted number figure) out.old out.new result }
 {
     if number == 5 {
         return write_refusal(number, counted as u64, out);

@@ -3,24 +3,24 @@ use mathlib.Core.Path.{◌≡◌, refl, sym, ap, ◌∙◌}
 use mathlib.Core.List.{List, [], ◌∷◌, ◌++◌}
 use Prim.Native.Nat.{ℕ}
 use Rattle.files.specs.declared.Scanned.{Scanned}
-use Rattle.files.specs.inner.Scan.{Scan, scanStart, scannedAfter, keptAfter, scanChunks}
+use Rattle.files.specs.inner.Scan.{Scan, scan_start, scanned_after, kept_after, scan_chunks}
 use Rattle.folder.specs.inner.Scanning.{ScannedOn}
 
-chunks-then : (s : Scan) (a b : List (List ℕ)) → scanChunks s (a ++ b) ≡ scanChunks (scanChunks s a) b
+chunks-then : (s : Scan) (a b : List (List ℕ)) → scan_chunks s (a ++ b) ≡ scan_chunks (scan_chunks s a) b
 chunks-then s [] b = refl
 chunks-then s (chunk ∷ a) b = chunks-then _ a b
 
 -- No chunk yet.
-pub on-start : (head : List ℕ) {scanned : Scanned} → scanned ≡ scanStart → ScannedOn head scanStart head scanned
+pub on-start : (head : List ℕ) {scanned : Scanned} → scanned ≡ scan_start → ScannedOn head scan_start head scanned
 on-start head s = record { chunks = []; scans = λ i. record { head = head; scanned = sym s i } }
 
-pub on-chunk : (chunk : List ℕ) {head head' : List ℕ} {scanned scanned' : Scanned} → head' ≡ keptAfter head scanned.length chunk
-    → scanned' ≡ scannedAfter scanned chunk → ScannedOn head scanned head' scanned'
-on-chunk chunk h s = record { chunks = chunk ∷ []; scans = λ i. record { head = sym h i; scanned = sym s i } }
+pub on_chunk : (chunk : List ℕ) {head head' : List ℕ} {scanned scanned' : Scanned} → head' ≡ kept_after head scanned.length chunk
+    → scanned' ≡ scanned_after scanned chunk → ScannedOn head scanned head' scanned'
+on_chunk chunk h s = record { chunks = chunk ∷ []; scans = λ i. record { head = sym h i; scanned = sym s i } }
 
 pub on_then : {head head' head'' : List ℕ} {scanned scanned' scanned'' : Scanned} → ScannedOn head scanned head' scanned'
     → ScannedOn head' scanned' head'' scanned'' → ScannedOn head scanned head'' scanned''
 on_then a b = record {
   chunks = a.chunks ++ b.chunks;
-  scans = chunks-then _ a.chunks b.chunks ∙ (ap (λ s. scanChunks s b.chunks) a.scans ∙ b.scans);
+  scans = chunks-then _ a.chunks b.chunks ∙ (ap (λ s. scan_chunks s b.chunks) a.scans ∙ b.scans);
 }

@@ -1,6 +1,6 @@
 // What the programs read: table.txt and formula.txt in the folder that they run in, or two tables, first.txt and second.txt.
 ghost use Rattle.io.specs.Counts.{IsPrefixLen};
-ghost use Rattle.files.specs.inner.Scan.{scanStart};
+ghost use Rattle.files.specs.inner.Scan.{scan_start};
 ghost use Rattle.folder.specs.inner.Scanning.{ScannedOn};
 
 use explanations::sizes::KEPT;
@@ -26,7 +26,7 @@ fn scan_some(fd: i32, head: &mut [u8; KEPT], scanned: Scanned) -> Portion
 
 // A proved loop has to end, and nothing says that a file does: the loop counts its rounds down, from a number that no file uses up.
 fn scan_all(fd: i32, head: &mut [u8; KEPT]) -> Scanned
-    ensures { ScannedOn head.old scanStart head.new result }
+    ensures { ScannedOn head.old scan_start head.new result }
 {
     let mut left = u64::MAX;
     let mut scanned = scan_start();
@@ -43,7 +43,7 @@ fn scan_all(fd: i32, head: &mut [u8; KEPT]) -> Scanned
 
 // A file that cannot be opened counts as empty.
 pub fn scan_formula(head: &mut [u8; KEPT]) -> Scanned
-    ensures { ScannedOn head.old scanStart head.new result }
+    ensures { ScannedOn head.old scan_start head.new result }
 {
     let fd = os::open_read(b"formula.txt");
     if fd < 0 {
@@ -66,7 +66,7 @@ fn read_opened(fd: i32, table: &mut [u8]) -> usize
     count
 }
 
-pub fn read_table(table: &mut [u8]) -> usize
+pub fn read_table_lem(table: &mut [u8]) -> usize
     ensures { IsPrefixLen result table.new }
 {
     read_opened(os::open_read(b"table.txt"), table)

@@ -6,19 +6,19 @@ use Rattle.formula_check.specs.declared.inputs.Unprepared.TheVariants.{TableFore
 use Rattle.formula_check.specs.declared.inputs.Inputs.{Inputs}
 use Rattle.formula_check.specs.declared.inputs.Inputs.TheVariants.{Prepared, Refused}
 
-abbrev pub unpreparedNumber : Unprepared → ℕ
-unpreparedNumber TableForeign = 10
-unpreparedNumber FormulaForeign = 10
-unpreparedNumber (BufferShort needed) = 14
+abbrev pub unprepared_number : Unprepared → ℕ
+unprepared_number TableForeign = 10
+unprepared_number FormulaForeign = 10
+unprepared_number (BufferShort needed) = 14
 
-abbrev pub unpreparedFigure : Unprepared → ℕ
-unpreparedFigure TableForeign = 0
-unpreparedFigure FormulaForeign = 1
-unpreparedFigure (BufferShort needed) = needed
+abbrev pub unprepared_figure : Unprepared → ℕ
+unprepared_figure TableForeign = 0
+unprepared_figure FormulaForeign = 1
+unprepared_figure (BufferShort needed) = needed
 
 abbrev pub unprepared : {A : Type 0} → Unprepared → Reply A
-unprepared why = refusal (unpreparedNumber why) (unpreparedFigure why)
+unprepared why = refusal (unprepared_number why) (unprepared_figure why)
 
-abbrev pub inputsReply : Inputs → Reply (Unit {0})
-inputsReply Prepared = accepted tt
-inputsReply (Refused why) = unprepared why
+abbrev pub inputs_reply : Inputs → Reply (Unit {0})
+inputs_reply Prepared = accepted tt
+inputs_reply (Refused why) = unprepared why

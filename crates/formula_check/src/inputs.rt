@@ -1,8 +1,8 @@
 // What every entry over a prepared table and a prepared formula tests first. 01: "Order: 14 first, then 10 (table before formula)."
 ghost use Rattle.std.specs.Prelude.{◌≡◌};
 ghost use Rattle.lts.specs.Reply.{accepted};
-ghost use Rattle.actl.specs.FormulaReading.{onPrepared};
-ghost use Rattle.formula_check.specs.Inputs.{inputsReply};
+ghost use Rattle.actl.specs.FormulaReading.{on_prepared};
+ghost use Rattle.formula_check.specs.Inputs.{inputs_reply};
 
 use actl::sizes::FORMULA_LENGTH;
 use formula_slots::is_prepared;
@@ -24,7 +24,7 @@ pub enum Inputs {
 }
 
 pub fn check_inputs(table: &[u8], formula: &[u8]) -> Inputs
-    ensures { inputsReply result ≡ onPrepared table.now formula.now (λ t F. accepted tt) }
+    ensures { inputs_reply result ≡ on_prepared table.now formula.now (λ t F. accepted tt) }
 {
     if table.len() < TABLE_LENGTH {
         return Inputs::Refused(Unprepared::BufferShort(TABLE_LENGTH));

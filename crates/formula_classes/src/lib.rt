@@ -1,10 +1,10 @@
 // Walking a formula's nodes for numbering and classes: over their kinds in node order, from a node into its arms.
 ghost use Rattle.std.specs.Prelude.{◌≡◌, ◌+◌, ◌*◌, ◌<◌, ◌≤◌, length, get_or, set};
 ghost use Rattle.std.proofs.Math.Option.{none};
-ghost use Rattle.actl.specs.Sizes.{mostNodes, formulaLength};
-ghost use Rattle.actl.specs.Formulas.{classOfOr};
-ghost use Rattle.actl.specs.inner.Walk.{classFrom, classOfArm, kind_at, kindsIn, lastNone};
-ghost use Rattle.formula_classes.specs.inner.WalkReplies.{Walks, classlessNode, IsHighest, IsShape};
+ghost use Rattle.actl.specs.Sizes.{most_nodes, formula_length};
+ghost use Rattle.actl.specs.Formulas.{class_of_or};
+ghost use Rattle.actl.specs.inner.Walk.{class_from, class_of_arm, kind_at, kinds_in, last_none};
+ghost use Rattle.formula_classes.specs.inner.WalkReplies.{Walks, classless_node, IsHighest, IsShape};
 ghost use Rattle.formula_classes.specs.inner.Phases.{KindsRead, NodeNoted, HasArm, RightWalks};
 ghost use Rattle.lts.specs.inner.Answers.{Decides};
 ghost use Rattle.actl.specs.inner.Check.{SpelledClassed};
@@ -49,7 +49,7 @@ pub struct Shape {
 fn class_from(kind: u8, arm: u8) -> u8
     requires kind_bound { kind < 10 }
     requires arm_bound { arm < 4 }
-    ensures { result ≡ classFrom kind arm }
+    ensures { result ≡ class_from kind arm }
 {
     CLASSES[kind as usize][arm as usize]
 }
@@ -57,7 +57,7 @@ fn class_from(kind: u8, arm: u8) -> u8
 fn class_of_or(left: u8, right: u8) -> u8
     requires left_bound { left < 4 }
     requires right_bound { right < 4 }
-    ensures { result ≡ classOfOr (classOfArm left) (classOfArm right) }
+    ensures { result ≡ class_of_or (class_of_arm left) (class_of_arm right) }
 {
     if class_from(3, left) == 0 {
         return 0;
@@ -74,7 +74,7 @@ fn note(
     class: u8,
     arm: u8,
 ) -> Walked
-    requires { (k < mostNodes) × (end < 256) }
+    requires { (k < most_nodes) × (end < 256) }
     ensures { NodeNoted ends.old ends.new classes.old classes.new k end class arm result }
 {
     ends[k] = end as u8;
@@ -84,7 +84,7 @@ fn note(
 
 // The kind of node k, or 0 if there is no such node or it has no kind.
 fn kind_at(kinds: &[u8; NODES], k: usize) -> u8
-    requires { length kinds.now ≤ mostNodes }
+    requires { length kinds.now ≤ most_nodes }
     ensures { result ≡ kind_at kinds.now k }
 {
     if kinds.len() <= k {
@@ -100,7 +100,7 @@ fn kind_at(kinds: &[u8; NODES], k: usize) -> u8
 // 01: "a node before its arms, the left arm before the right": the arms of node k have higher numbers, so each call has fewer nodes left.
 #[cycle(walk_walk_arms_walk_right)]
 fn walk(kinds: &[u8; NODES], k: usize, ends: &mut [u8; NODES], classes: &mut [u8; NODES]) -> Walked
-    requires { length kinds.now ≤ mostNodes }
+    requires { length kinds.now ≤ most_nodes }
     ensures { Walks kinds.now ends.old ends.new classes.old classes.new k result }
 {
     let kind = kind_at(kinds, k);
@@ -122,7 +122,7 @@ fn walk_arms(
     ends: &mut [u8; NODES],
     classes: &mut [u8; NODES],
 ) -> Walked
-    requires kinds_len_bound { length kinds.now ≤ mostNodes }
+    requires kinds_len_bound { length kinds.now ≤ most_nodes }
     requires has_arm { HasArm kinds.now k kind }
     ensures { Walks kinds.now ends.old ends.new classes.old classes.new k result }
 {
@@ -146,7 +146,7 @@ fn walk_right(
     ends: &mut [u8; NODES],
     classes: &mut [u8; NODES],
 ) -> Walked
-    requires kinds_len_bound { length kinds.now ≤ mostNodes }
+    requires kinds_len_bound { length kinds.now ≤ most_nodes }
     requires k_lt_middle { (k < middle) × (left < 4) }
     ensures { RightWalks kinds.now ends.old ends.new classes.old classes.new k middle left result }
 {
@@ -159,7 +159,7 @@ fn walk_right(
 
 // The last of the classes that is none.
 fn last_none(classes: &[u8]) -> Classless
-    ensures { classlessNode result ≡ lastNone 0 classes.now none }
+    ensures { classless_node result ≡ last_none 0 classes.now none }
 {
     let mut found = classes.len();
     let mut k = 0;
@@ -177,7 +177,7 @@ fn last_none(classes: &[u8]) -> Classless
 
 // The kinds of a prepared formula's first nodes, and zeros behind them, which are no kinds: a walk over the whole array ends there.
 fn kinds_in(formula: &[u8], count: usize) -> [u8; NODES]
-    requires { (formulaLength ≤ length formula.now) × (count ≤ mostNodes) }
+    requires { (formula_length ≤ length formula.now) × (count ≤ most_nodes) }
     ensures { KindsRead formula.now count result }
 {
     let mut kinds = [0u8; NODES];
@@ -196,8 +196,8 @@ fn walk_nodes(
     ends: &mut [u8; NODES],
     classes: &mut [u8; NODES],
 ) -> Walked
-    requires { (formulaLength ≤ length formula.now) × (count ≤ mostNodes) }
-    ensures { Walks (kindsIn formula.now count) ends.old ends.new classes.old classes.new 0 result }
+    requires { (formula_length ≤ length formula.now) × (count ≤ most_nodes) }
+    ensures { Walks (kinds_in formula.now count) ends.old ends.new classes.old classes.new 0 result }
 {
     let kinds = kinds_in(formula, count);
     walk(&kinds, 0, ends, classes)
@@ -205,8 +205,8 @@ fn walk_nodes(
 
 // 01: "a node without class": "the highest-numbered one". Of a formula, by the slots of its nodes.
 pub fn highest_classless(formula: &[u8], count: usize) -> Classless
-    requires { (formulaLength ≤ length formula.now) × (count ≤ mostNodes) }
-    ensures { IsHighest result (kindsIn formula.now count) }
+    requires { (formula_length ≤ length formula.now) × (count ≤ most_nodes) }
+    ensures { IsHighest result (kinds_in formula.now count) }
 {
     let mut ends = [0u8; NODES];
     let mut classes = [0u8; NODES];
@@ -216,7 +216,7 @@ pub fn highest_classless(formula: &[u8], count: usize) -> Classless
 
 // Whether the first nodes of prepared bytes, in order, are those of one formula with a class.
 pub fn spelled(formula: &[u8], count: usize) -> bool
-    requires { (formulaLength ≤ length formula.now) × (count ≤ mostNodes) }
+    requires { (formula_length ≤ length formula.now) × (count ≤ most_nodes) }
     ensures { Decides (SpelledClassed formula.now count) result }
 {
     let mut ends = [0u8; NODES];
@@ -232,7 +232,7 @@ pub fn spelled(formula: &[u8], count: usize) -> bool
 
 // Where the arms of each node of a prepared formula end, and each node's class.
 pub fn shape_of(formula: &[u8]) -> Shape
-    requires { formulaLength ≤ length formula.now }
+    requires { formula_length ≤ length formula.now }
     ensures { IsShape result formula.now }
 {
     let count = node_count(formula);
@@ -261,8 +261,8 @@ fn wide(byte: u8) -> usize
 
 // The right arm of node k, if it has one: it stands behind the whole left arm.
 pub fn right_arm(ends: &[u8; NODES], k: usize) -> usize
-    requires { k < mostNodes }
-    ensures { k + 1 < mostNodes → result ≡ get_or ends.now (k + 1) 0 }
+    requires { k < most_nodes }
+    ensures { k + 1 < most_nodes → result ≡ get_or ends.now (k + 1) 0 }
 {
     if k + 1 < NODES {
         wide(ends[k + 1])

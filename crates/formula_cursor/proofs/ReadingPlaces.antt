@@ -8,7 +8,7 @@ use native.Mathlib.Omega.{arith}
 use lib.ListN.{length, get_or, drop, get_or-eq_default, drop_of_length-le}
 use lib.Seq.{drop-cons}
 use Rattle.actl.specs.inner.Show.{gap}
-use Rattle.actl.specs.inner.Reader.{State, stop, readByte, finish, proceed, run, refused}
+use Rattle.actl.specs.inner.Reader.{State, stop, read_byte, finish, proceed, run, refused}
 use Rattle.actl.specs.inner.Cursor.{peek, Skipped, Marked, Tokened}
 use Rattle.formula_cursor.specs.inner.CursorReplies.{MarkAnswer, KeywordAnswer}
 use Rattle.formula_cursor.specs.declared.Match.{Match}
@@ -34,11 +34,11 @@ pub byte_at : (s : List ℕ) (at b : ℕ) → peek s at ≡ b → b < 256 → dr
 byte_at s at b e h = drop-cons s at 256 (inside s at (omega arith)) ∙ rw (add-one, e)
 
 pub run-byte : (s : List ℕ) (at b : ℕ) (x : State) → peek s at ≡ b → b < 256
-    → run (drop at s) x ≡ proceed (readByte x b) (run (drop (at + 1) s)) (refused (drop at s))
+    → run (drop at s) x ≡ proceed (read_byte x b) (run (drop (at + 1) s)) (refused (drop at s))
 run-byte s at b x e h = rw (byte_at s at b e h)
 
 -- A state that stops at the byte there, and at the end.
-pub run-stop : (s : List ℕ) (at : ℕ) (x : State) → at ≤ length s → finish x ≡ refused [] → readByte x (peek s at) ≡ stop
+pub run-stop : (s : List ℕ) (at : ℕ) (x : State) → at ≤ length s → finish x ≡ refused [] → read_byte x (peek s at) ≡ stop
     → run (drop at s) x ≡ refused (drop at s)
 run-stop s at x w f e = case (dec_le (length s) at)
   where
@@ -50,16 +50,16 @@ run-stop s at x w f e = case (dec_le (length s) at)
 pub no_gap : (s : List ℕ) (i : ℕ) → drop i s ≡ gap (i - i) (drop i s)
 no_gap s i = let e : i - i ≡ 0 = omega arith in rw e
 
-gap-snoc : (n : ℕ) (s : List ℕ) → gap n (32 ∷ s) ≡ gap (suc n) s
-gap-snoc zero s = refl
-gap-snoc (suc n) s = ap (λ l. 32 ∷ l) (gap-snoc n s)
+gap_snoc : (n : ℕ) (s : List ℕ) → gap n (32 ∷ s) ≡ gap (suc n) s
+gap_snoc zero s = refl
+gap_snoc (suc n) s = ap (λ l. 32 ∷ l) (gap_snoc n s)
 
 pub more-gap : (s : List ℕ) (at i : ℕ) → at ≤ i → i < length s → get_or s i 0 ≡ 32
     → drop at s ≡ gap (i - at) (drop i s) → drop at s ≡ gap (i + 1 - at) (drop (i + 1) s)
 more-gap s at i u w b e =
     let d : i + 1 - at ≡ suc (i - at) = omega arith in
     let p : peek s i ≡ 32 = get_d_any s i 256 0 w ∙ b in
-    rw d (e ∙ (ap (gap (i - at)) (byte_at s i 32 p (omega arith)) ∙ gap-snoc (i - at) (drop (i + 1) s)))
+    rw d (e ∙ (ap (gap (i - at)) (byte_at s i 32 p (omega arith)) ∙ gap_snoc (i - at) (drop (i + 1) s)))
 
 pub skipped : (s : List ℕ) (at i : ℕ) → at ≤ i → i ≤ length s → drop at s ≡ gap (i - at) (drop i s) → (peek s i ≡ 32 → ⊥) → Skipped s at i
 skipped s at i u w e p = record { up = u; within = w; blanks = e; past = p }

@@ -1,11 +1,11 @@
 // Reading a keyword with its square bracket: its node, without the arm. A short form's node is that of what it stands for.
 ghost use Rattle.std.specs.Prelude.{◌≡◌, ◌≤◌, length, get_or};
-ghost use Rattle.actl.specs.Sizes.{longestText};
+ghost use Rattle.actl.specs.Sizes.{longest_text};
 ghost use Rattle.lts.specs.inner.HoldsTable.{HoldsTable};
 ghost use Rattle.actl.specs.inner.Reader.{second, third};
-ghost use Rattle.actl.specs.inner.Readers.{namesIn, ReaderStart, NoMark, NoLong, NoKeyword};
+ghost use Rattle.actl.specs.inner.Readers.{names_in, ReaderStart, NoMark, NoLong, NoKeyword};
 ghost use Rattle.formula_heads.specs.inner.HeadReplies.{HeadAnswer};
-ghost use Rattle.formula_heads.specs.inner.Brackets.{quantifierIn, nodeOver, dualOf, ChoiceAnswer, NoShort, RestAnswer, behindWord, shownWord};
+ghost use Rattle.formula_heads.specs.inner.Brackets.{quantifier_in, node_over, dual_of, ChoiceAnswer, NoShort, RestAnswer, behind_word, shown_word};
 ghost use Rattle.formula_heads.specs.inner.Brackets.{NextAnswer, UntilAnswer, FirstSetAnswer, LabelledAnswer, LettersAnswer};
 
 use formula_cursor::{Cursor, Match};
@@ -44,7 +44,7 @@ pub enum Heading {
 
 // The node of EX or AX.
 fn next_node(q: Quantifier, condition: Condition) -> Node
-    ensures { result ≡ nodeOver q condition }
+    ensures { result ≡ node_over q condition }
 {
     match q {
         Quantifier::Existential => Node::Ex(condition),
@@ -54,7 +54,7 @@ fn next_node(q: Quantifier, condition: Condition) -> Node
 
 // 02: "`AG x` is `~EF ~x`" and "`BOX[A] x` is `~EX[A] ~x`"; EF and DIA are their nodes alone.
 fn dual(q: Quantifier, c: Cursor, node: Node, lost: usize) -> Heading
-    ensures { result ≡ dualOf q c node lost }
+    ensures { result ≡ dual_of q c node lost }
 {
     match q {
         Quantifier::Existential => Heading::Read(c, node, lost),
@@ -65,7 +65,7 @@ fn dual(q: Quantifier, c: Cursor, node: Node, lost: usize) -> Heading
 // The step condition in the bracket of EX or AX, up to its end.
 fn next(table: &[u8], text: &[u8], c: Cursor, q: Quantifier, lost: usize) -> Heading
     requires { ReaderStart table.now text.now c.at }
-    ensures { NextAnswer (namesIn table.now) text.now q c.at lost result }
+    ensures { NextAnswer (names_in table.now) text.now q c.at lost result }
 {
     if let Match::Past(d) = c.token(text, b'.') {
         let Match::Past(e) = d.mark(text, b']') else {
@@ -82,8 +82,8 @@ fn next(table: &[u8], text: &[u8], c: Cursor, q: Quantifier, lost: usize) -> Hea
 
 // Behind the first set of EU: the bracket's end, or a second set.
 fn first_set(table: &[u8], text: &[u8], c: Cursor, first: u64, lost: usize) -> Heading
-    requires { HoldsTable table.now × (length text.now ≤ longestText) }
-    ensures { FirstSetAnswer (namesIn table.now) text.now c.at first lost result }
+    requires { HoldsTable table.now × (length text.now ≤ longest_text) }
+    ensures { FirstSetAnswer (names_in table.now) text.now c.at first lost result }
 {
     let Match::Past(d) = c.token(text, b';') else {
         let Match::Past(e) = c.mark(text, b']') else {
@@ -101,7 +101,7 @@ fn first_set(table: &[u8], text: &[u8], c: Cursor, first: u64, lost: usize) -> H
 // The one set or the two in the bracket of EU, up to its end.
 fn until(table: &[u8], text: &[u8], c: Cursor, lost: usize) -> Heading
     requires { ReaderStart table.now text.now c.at }
-    ensures { UntilAnswer (namesIn table.now) text.now c.at lost result }
+    ensures { UntilAnswer (names_in table.now) text.now c.at lost result }
 {
     let x = set(table, text, c, lost);
     match x {
@@ -113,7 +113,7 @@ fn until(table: &[u8], text: &[u8], c: Cursor, lost: usize) -> Heading
 // The set in the bracket of DIA or BOX, up to its end. 02: "`DIA[A] x` is `EX[A] x`"
 fn labelled(table: &[u8], text: &[u8], c: Cursor, q: Quantifier, lost: usize) -> Heading
     requires { ReaderStart table.now text.now c.at }
-    ensures { LabelledAnswer (namesIn table.now) text.now q c.at lost result }
+    ensures { LabelledAnswer (names_in table.now) text.now q c.at lost result }
 {
     let x = enclosed(table, text, c, 93, lost);
     match x {
@@ -124,8 +124,8 @@ fn labelled(table: &[u8], text: &[u8], c: Cursor, q: Quantifier, lost: usize) ->
 
 // The bracket behind a keyword.
 fn square_bracket(table: &[u8], text: &[u8], c: Cursor, word: Keyword, lost: usize) -> Heading
-    requires { HoldsTable table.now × (length text.now ≤ longestText) × (c.at ≤ length text.now) }
-    ensures { RestAnswer (namesIn table.now) text.now (behindWord word 0) (shownWord word) c.at lost result }
+    requires { HoldsTable table.now × (length text.now ≤ longest_text) × (c.at ≤ length text.now) }
+    ensures { RestAnswer (names_in table.now) text.now (behind_word word 0) (shown_word word) c.at lost result }
 {
     let o = c.skip_blanks(text);
     let Match::Past(d) = o.token(text, b'[') else {
@@ -147,9 +147,9 @@ fn letters(
     rest: &[u8; 2],
     lost: usize,
 ) -> Heading
-    requires holds_table { HoldsTable table.now × (length text.now ≤ longestText) × (c.at ≤ length text.now) }
-    requires rest_value { (get_or rest.now 0 0 ≡ second (quantifierIn q)) × (get_or rest.now 1 0 ≡ third (quantifierIn q)) }
-    ensures { LettersAnswer (namesIn table.now) text.now q c.at lost result }
+    requires holds_table { HoldsTable table.now × (length text.now ≤ longest_text) × (c.at ≤ length text.now) }
+    requires rest_value { (get_or rest.now 0 0 ≡ second (quantifier_in q)) × (get_or rest.now 1 0 ≡ third (quantifier_in q)) }
+    ensures { LettersAnswer (names_in table.now) text.now q c.at lost result }
 {
     let Match::Past(d) = c.mark(text, rest[0]) else {
         return Heading::Refused(c);
@@ -189,7 +189,7 @@ fn either(text: &[u8], c: Cursor, some: &[u8; 2], every: &[u8; 2]) -> Choice
 // DIA or BOX.
 fn labelled_form(table: &[u8], text: &[u8], c: Cursor, lost: usize) -> Heading
     requires { ReaderStart table.now text.now c.at × NoMark text.now c.at × NoLong text.now c.at × NoShort text.now c.at }
-    ensures { HeadAnswer (namesIn table.now) text.now c.at lost result }
+    ensures { HeadAnswer (names_in table.now) text.now c.at lost result }
 {
     if let Match::Past(d) = c.mark(text, b'D') {
         return letters(table, text, d, Quantifier::Existential, b"IA", lost);
@@ -203,7 +203,7 @@ fn labelled_form(table: &[u8], text: &[u8], c: Cursor, lost: usize) -> Heading
 // 02: "`EF x` is `EU[*] x`, `AG x` is `~EF ~x`", DIA and BOX.
 fn short_form(table: &[u8], text: &[u8], c: Cursor, lost: usize) -> Heading
     requires { ReaderStart table.now text.now c.at × NoMark text.now c.at × NoLong text.now c.at }
-    ensures { HeadAnswer (namesIn table.now) text.now c.at lost result }
+    ensures { HeadAnswer (names_in table.now) text.now c.at lost result }
 {
     if let Choice::Past(q, d) = either(text, c, b"EF", b"AG") {
         return dual(q, d, Node::Until(all_labels(table)), lost);
@@ -214,7 +214,7 @@ fn short_form(table: &[u8], text: &[u8], c: Cursor, lost: usize) -> Heading
 // A keyword, with its square bracket if it has one.
 pub fn head(table: &[u8], text: &[u8], c: Cursor, lost: usize) -> Heading
     requires { ReaderStart table.now text.now c.at × NoMark text.now c.at }
-    ensures { HeadAnswer (namesIn table.now) text.now c.at lost result }
+    ensures { HeadAnswer (names_in table.now) text.now c.at lost result }
 {
     if let Choice::Past(q, d) = either(text, c, b"EX", b"AX") {
         return square_bracket(table, text, d, Keyword::Next(q), lost);

@@ -1,10 +1,10 @@
 // A keyword with what stands in its square brackets, as text.
 ghost use Rattle.std.specs.Prelude.{true, [], ◌∷◌, ◌++◌, ◌≡◌};
 ghost use Rattle.lts.specs.Steps.{labels};
-ghost use Rattle.lts.specs.inner.Prepared.{tableIn};
-ghost use Rattle.actl.specs.Prepared.{maskWithin};
-ghost use Rattle.written_back.specs.FormulaText.{setText, condText, inSquare};
-ghost use Rattle.formulas.specs.inner.Access.{condIn};
+ghost use Rattle.lts.specs.inner.Prepared.{table_in};
+ghost use Rattle.actl.specs.Prepared.{mask_within};
+ghost use Rattle.written_back_lem.specs.FormulaText.{set_text, cond_text, in_square};
+ghost use Rattle.formulas.specs.inner.Access.{cond_in};
 ghost use Rattle.formula_pieces.specs.inner.Adds.{Room, Adds, Over, CondWithin};
 
 use formula_pieces::sets::put_set;
@@ -12,8 +12,8 @@ use formula_pieces::text::put;
 use formulas::node::Condition;
 
 fn put_condition(table: &[u8], condition: Condition, out: &mut [u8], at: usize) -> usize
-    requires { Over table.now out.old at 562 × CondWithin (labels (tableIn table.now)) (condIn condition) }
-    ensures { Adds (condText (tableIn table.now).names (condIn condition)) at out.old out.new result }
+    requires { Over table.now out.old at 562 × CondWithin (labels (table_in table.now)) (cond_in condition) }
+    ensures { Adds (cond_text (table_in table.now).names (cond_in condition)) at out.old out.new result }
 {
     match condition {
         Condition::Silent => put(out, at, b'.'),
@@ -49,8 +49,8 @@ pub fn put_keyword(
     out: &mut [u8],
     at: usize,
 ) -> usize
-    requires { Over table.now out.old at 567 × CondWithin (labels (tableIn table.now)) (condIn condition) }
-    ensures { Adds (first ∷ second ∷ inSquare (condText (tableIn table.now).names (condIn condition))) at out.old out.new result }
+    requires { Over table.now out.old at 567 × CondWithin (labels (table_in table.now)) (cond_in condition) }
+    ensures { Adds (first ∷ second ∷ in_square (cond_text (table_in table.now).names (cond_in condition))) at out.old out.new result }
 {
     let inside = open(first, second, out, at);
     let behind = put_condition(table, condition, out, inside);
@@ -59,9 +59,9 @@ pub fn put_keyword(
 
 // Two sets, joined by `;`.
 fn put_pair(table: &[u8], first: u64, second: u64, out: &mut [u8], at: usize) -> usize
-    requires { Over table.now out.old at 1125 × (maskWithin (labels (tableIn table.now)) first ≡ true)
-        × (maskWithin (labels (tableIn table.now)) second ≡ true) }
-    ensures { Adds (setText (tableIn table.now).names first ++ (59 ∷ setText (tableIn table.now).names second))
+    requires { Over table.now out.old at 1125 × (mask_within (labels (table_in table.now)) first ≡ true)
+        × (mask_within (labels (table_in table.now)) second ≡ true) }
+    ensures { Adds (set_text (table_in table.now).names first ++ (59 ∷ set_text (table_in table.now).names second))
         at out.old out.new result }
 {
     let between = put_set(table, first, out, at);
@@ -71,9 +71,9 @@ fn put_pair(table: &[u8], first: u64, second: u64, out: &mut [u8], at: usize) ->
 
 // EU[A;B]
 pub fn put_until_then(table: &[u8], first: u64, second: u64, out: &mut [u8], at: usize) -> usize
-    requires { Over table.now out.old at 1130 × (maskWithin (labels (tableIn table.now)) first ≡ true)
-        × (maskWithin (labels (tableIn table.now)) second ≡ true) }
-    ensures { Adds (69 ∷ 85 ∷ inSquare (setText (tableIn table.now).names first ++ (59 ∷ setText (tableIn table.now).names second)))
+    requires { Over table.now out.old at 1130 × (mask_within (labels (table_in table.now)) first ≡ true)
+        × (mask_within (labels (table_in table.now)) second ≡ true) }
+    ensures { Adds (69 ∷ 85 ∷ in_square (set_text (table_in table.now).names first ++ (59 ∷ set_text (table_in table.now).names second)))
         at out.old out.new result }
 {
     let inside = open(b'E', b'U', out, at);

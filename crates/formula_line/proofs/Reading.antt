@@ -6,89 +6,89 @@ use native.Mathlib.Omega.{arith}
 use lib.Dec.{leb}
 use lib.ListN.{length}
 use borrow.Author.Tests.{leb-true, le-leb}
-use Rattle.lts.specs.Sizes.{tableLength}
-use Rattle.lts.specs.Reply.{Reply, accepted, refusal, leftIn, answers}
+use Rattle.lts.specs.Sizes.{table_length}
+use Rattle.lts.specs.Reply.{Reply, accepted, refusal, left_in, answers}
 use Rattle.lts.specs.Steps.{labels}
 use Rattle.lts.proofs.Laws.Reading.{unless-to, unless-of}
 use Rattle.lts.proofs.Laws.Refusals.{Numbered, Between, numbered-unless}
-use Rattle.actl.specs.Sizes.{formulaLength, longestText}
-use Rattle.actl.specs.inner.Prepared.{preparedFormula}
-use Rattle.actl.specs.FormulaReading.{withFormula}
-use Rattle.lts.specs.Prepared.{withTable}
+use Rattle.actl.specs.Sizes.{formula_length, longest_text}
+use Rattle.actl.specs.inner.Prepared.{prepared_formula}
+use Rattle.actl.specs.FormulaReading.{with_formula}
+use Rattle.lts.specs.Prepared.{with_table}
 use Rattle.actl.proofs.Laws.Replies.{refusal-is-not-accepted}
 use Rattle.explanations.specs.Explanation.{and_then}
 use Rattle.explanations.specs.inner.BothTexts.{Read, readings}
 use Rattle.explanations.proofs.Beginnings.{of-readings, then-numbers}
-use Rattle.replies.specs.Interface.{number_in, figureIn}
+use Rattle.replies.specs.Interface.{number_in, figure_in}
 use Rattle.replies.specs.inner.Says.{Says}
 use Rattle.replies.specs.declared.Answer.{Answer}
 use Rattle.explaining.proofs.Answers.{said_of}
 use Rattle.explaining.proofs.Into.{WasRead}
-use Rattle.written_back.specs.FormulaText.{formulaText}
-use Rattle.written_back.proofs.Written.{textIn}
-use Rattle.written_back.specs.FormulaWriting.{unlessLong, formulaWriting, formulaWritten, textLeft}
-use Rattle.formula_line.specs.LineText.{writtenBack}
+use Rattle.written_back_lem.specs.FormulaText.{formula_text}
+use Rattle.written_back_lem.proofs.Written.{text_in}
+use Rattle.written_back_lem.specs.FormulaWriting.{unless_long, formula_writing, formula_written, text_left}
+use Rattle.formula_line.specs.LineText.{written_back}
 use Rattle.formula_line.specs.inner.Back.{WroteBack}
 
 -- What is said of a text's length is said of the text.
-length-said : (r : Reply (List ℕ)) {a : Answer} → Says (λ n. n) (answers length r) a → Says length r a
-length-said (accepted s) said = record { number-said = said.number-said; figure-said = said.figure-said }
-length-said (refusal n g) said = record { number-said = said.number-said; figure-said = said.figure-said }
+length_said : (r : Reply (List ℕ)) {a : Answer} → Says (λ n. n) (answers length r) a → Says length r a
+length_said (accepted s) said = record { number_said = said.number_said; figure_said = said.figure_said }
+length_said (refusal n g) said = record { number_said = said.number_said; figure_said = said.figure_said }
 
 abbrev text_of : Read → Reply (List ℕ)
-text_of x = textIn x.table x.formula
+text_of x = text_in x.table x.formula
 
-module _ (tableText text : List ℕ) where
-  of-read : {r : Reply Read} → readings tableText text ≡ r → writtenBack tableText text ≡ and_then r text_of
-  unfolding writtenBack
-  of-read e = of-readings textIn tableText text ∙ ap (λ r. and_then r text_of) e
+module _ (table_text text : List ℕ) where
+  of-read : {r : Reply Read} → readings table_text text ≡ r → written_back table_text text ≡ and_then r text_of
+  unfolding written_back
+  of-read e = of-readings text_in table_text text ∙ ap (λ r. and_then r text_of) e
 
   -- No refusal has the number 0.
-  pub back-numbers : Numbered (Between 1 15) (writtenBack tableText text)
-  unfolding writtenBack
-  back-numbers = then-numbers 15 (omega arith) textIn (λ t F.
-      let s = formulaText t.names F in
-      numbered-unless (Between 1 15) (leb (length s) longestText) 15 (length s) (accepted s) (omega arith, omega arith) tt) tableText text
+  pub back_numbers : Numbered (Between 1 15) (written_back table_text text)
+  unfolding written_back
+  back_numbers = then-numbers 15 (omega arith) text_in (λ t F.
+      let s = formula_text t.names F in
+      numbered-unless (Between 1 15) (leb (length s) longest_text) 15 (length s) (accepted s) (omega arith, omega arith) tt) table_text text
 
   -- A text that is written has at most 512 bytes.
-  pub written-short : (s : List ℕ) → writtenBack tableText text ≡ accepted s → length s ≤ longestText
-  written-short s e = by (readings tableText text) (sym (of-read refl) ∙ e)
+  pub written-short : (s : List ℕ) → written_back table_text text ≡ accepted s → length s ≤ longest_text
+  written-short s e = by (readings table_text text) (sym (of-read refl) ∙ e)
     where
-      by : (r : Reply Read) → and_then r text_of ≡ accepted s → length s ≤ longestText
+      by : (r : Reply Read) → and_then r text_of ≡ accepted s → length s ≤ longest_text
       by (refusal n g) d = absurd (refusal-is-not-accepted d)
       by (accepted x) d =
-          let l = formulaText x.table.names x.formula in
-          let (short, is) = unless-of (leb (length l) longestText) 15 (length l) (accepted l) s d in
+          let l = formula_text x.table.names x.formula in
+          let (short, is) = unless-of (leb (length l) longest_text) 15 (length l) (accepted l) s d in
           let same : l ≡ s = cc in
-          omega (arith, leb-true (length l) longestText short, ap length same)
+          omega (arith, leb-true (length l) longest_text short, ap length same)
 
-  pub refused-back : (buffer : List ℕ) (n g : ℕ) → readings tableText text ≡ refusal n g
-      → WroteBack tableText text buffer buffer (record { number = n; figure = g })
-  refused-back buffer n g d =
+  pub refused_back : (buffer : List ℕ) (n g : ℕ) → readings table_text text ≡ refusal n g
+      → WroteBack table_text text buffer buffer (record { number = n; figure = g })
+  refused_back buffer n g d =
       let is = of-read d in
       record {
-        says = record { number-said = sym (ap number_in is); figure-said = sym (ap (figureIn length) is) };
-        left = sym (ap (λ r. leftIn (λ s. s) r buffer) is);
+        says = record { number_said = sym (ap number_in is); figure_said = sym (ap (figure_in length) is) };
+        left = sym (ap (λ r. left_in (λ s. s) r buffer) is);
       }
 
   -- The prepared bytes that both readings leave, and a buffer that is long enough.
-  module _ {t f : List ℕ} (w : WasRead tableText text t f) (buffer : List ℕ)
-      (whole : tableLength ≤ length t) (wide : formulaLength ≤ length f) (room : longestText ≤ length buffer) where
-    is-writing : formulaWriting t f buffer ≡ writtenBack tableText text
-    unfolding formulaWriting
-    is-writing =
-        unless-to (leb tableLength (length t)) 14 tableLength _ (le-leb tableLength (length t) whole)
-        ∙ unless-to (leb formulaLength (length f)) 14 formulaLength _ (le-leb formulaLength (length f) wide)
-        ∙ unless-to (leb longestText (length buffer)) 14 longestText _ (le-leb longestText (length buffer) room)
-        ∙ ap (λ o. withTable o (λ u. withFormula (preparedFormula (labels u) f) (λ F. unlessLong (formulaText u.names F))))
-        w.held.is-table
-        ∙ ap (λ o. withFormula o (λ F. unlessLong (formulaText w.both.table.names F))) w.held.is-formula
+  module _ {t f : List ℕ} (w : WasRead table_text text t f) (buffer : List ℕ)
+      (whole : table_length ≤ length t) (wide : formula_length ≤ length f) (room : longest_text ≤ length buffer) where
+    is_writing : formula_writing t f buffer ≡ written_back table_text text
+    unfolding formula_writing
+    is_writing =
+        unless-to (leb table_length (length t)) 14 table_length _ (le-leb table_length (length t) whole)
+        ∙ unless-to (leb formula_length (length f)) 14 formula_length _ (le-leb formula_length (length f) wide)
+        ∙ unless-to (leb longest_text (length buffer)) 14 longest_text _ (le-leb longest_text (length buffer) room)
+        ∙ ap (λ o. with_table o (λ u. with_formula (prepared_formula (labels u) f) (λ F. unless_long (formula_text u.names F))))
+        w.held.is_table
+        ∙ ap (λ o. with_formula o (λ F. unless_long (formula_text w.both.table.names F))) w.held.is_formula
         ∙ sym (of-read w.read)
 
-    pub written_back : {buffer' : List ℕ} {a : Answer} → Says (λ n. n) (formulaWritten t f buffer) a → buffer' ≡ textLeft t f buffer
-        → WroteBack tableText text buffer buffer' a
-    written_back said d =
+    pub written_back_lem : {buffer' : List ℕ} {a : Answer} → Says (λ n. n) (formula_written t f buffer) a → buffer' ≡ text_left t f buffer
+        → WroteBack table_text text buffer buffer' a
+    written_back_lem said d =
         record {
-          says = length-said (writtenBack tableText text) (said_of said (ap (answers length) is-writing));
-          left = d ∙ ap (λ r. leftIn (λ s. s) r buffer) is-writing;
+          says = length_said (written_back table_text text) (said_of said (ap (answers length) is_writing));
+          left = d ∙ ap (λ r. left_in (λ s. s) r buffer) is_writing;
         }

@@ -1,12 +1,12 @@
 // What the program `print_formula` writes for its two files: the formula as it is written back, with an LF behind it, or the refusal's line.
 ghost use Rattle.std.specs.Prelude.{◌≡◌, ◌+◌, ◌≤◌, ◌<◌, length, set};
-ghost use Rattle.actl.specs.Sizes.{longestText};
-ghost use Rattle.explanations.specs.inner.Sizes.{keptLength};
+ghost use Rattle.actl.specs.Sizes.{longest_text};
+ghost use Rattle.explanations.specs.inner.Sizes.{kept_length};
 ghost use Rattle.explanations.specs.inner.Printed.{TextWritten};
 ghost use Rattle.files.specs.inner.Writing.{PrefixLength};
-ghost use Rattle.formula_line.specs.LineText.{writtenBack};
+ghost use Rattle.formula_line.specs.LineText.{written_back};
 ghost use Rattle.formula_line.specs.inner.Back.{WroteBack};
-ghost use Rattle.formula_line.specs.inner.FileLine.{countedLine, fileLine};
+ghost use Rattle.formula_line.specs.inner.FileLine.{counted_line, file_line};
 
 use actl::sizes::FORMULA_LENGTH;
 use explaining::{BothRead, read_both};
@@ -22,7 +22,7 @@ pub const LINE_LENGTH: usize = KEPT;
 
 // Reads both texts, and writes the formula back at the start of `text`. The figure of a text that was written is its length.
 fn write_back(tabletext: &[u8], formulatext: &[u8], text: &mut [u8]) -> Answer
-    requires { longestText ≤ length text.old }
+    requires { longest_text ≤ length text.old }
     ensures { WroteBack tabletext.now formulatext.now text.old text.new result }
 {
     let mut table = [0u8; TABLE_LENGTH];
@@ -46,8 +46,8 @@ fn end_line(out: &mut [u8], n: usize) -> usize
 
 // The line about a formula of `counted` bytes, of which `text` is the beginning.
 fn write_line(tablefile: &[u8], text: &[u8], counted: usize, out: &mut [u8]) -> usize
-    requires { length out.old ≡ keptLength }
-    ensures text_written { TextWritten (countedLine counted (writtenBack tablefile.now text.now)) out.old out.new result }
+    requires { length out.old ≡ kept_length }
+    ensures text_written { TextWritten (counted_line counted (written_back tablefile.now text.now)) out.old out.new result }
     ensures prefix_length { PrefixLength result out.new }
 {
     let said = write_back(tablefile, text, out);
@@ -64,7 +64,7 @@ pub fn write_line_of(
     scanned: Scanned,
     out: &mut [u8; LINE_LENGTH],
 ) -> usize
-    ensures text_written { TextWritten (fileLine tablefile.now head.now scanned) out.old out.new result }
+    ensures text_written { TextWritten (file_line tablefile.now head.now scanned) out.old out.new result }
     ensures prefix_length { PrefixLength result out.new }
 {
     let length = text_length(scanned);

@@ -1,16 +1,16 @@
 // The nodes of a text, written out and stored as in a prepared formula. Of more than 40 nodes no place is told: they are counted alone.
 ghost use Rattle.std.specs.Prelude.{◌≡◌, [], ◌++◌, ◌+◌, ◌≤◌, length};
-ghost use Rattle.actl.specs.Sizes.{formulaLength};
-ghost use Rattle.actl.specs.Prepared.{slotBytes};
-ghost use Rattle.actl.specs.inner.NodeBytes.{NodesWritten, NodesMoved, NodesEnclosed, mostCounted, orBytes, notBytes, andBytes};
-ghost use Rattle.formulas.specs.inner.Access.{slotOfNode};
+ghost use Rattle.actl.specs.Sizes.{formula_length};
+ghost use Rattle.actl.specs.Prepared.{slot_bytes};
+ghost use Rattle.actl.specs.inner.NodeBytes.{NodesWritten, NodesMoved, NodesEnclosed, most_counted, or_bytes, not_bytes, and_bytes};
+ghost use Rattle.formulas.specs.inner.Access.{slot_of_node};
 
 use actl::sizes::{FORMULA_LENGTH, NODE_SLOT, NODES};
 use formulas::node::{Node, put_node};
 
 pub fn put(nodes: &mut [u8; FORMULA_LENGTH], n: usize, node: Node)
-    requires { length nodes.old ≡ formulaLength }
-    ensures { NodesWritten n (n + 1) nodes.old nodes.new (slotBytes (slotOfNode node)) }
+    requires { length nodes.old ≡ formula_length }
+    ensures { NodesWritten n (n + 1) nodes.old nodes.new (slot_bytes (slot_of_node node)) }
 {
     if n < NODES {
         put_node(nodes, n, node);
@@ -19,8 +19,8 @@ pub fn put(nodes: &mut [u8; FORMULA_LENGTH], n: usize, node: Node)
 
 // A node between two `~`.
 pub fn put_dual(nodes: &mut [u8; FORMULA_LENGTH], n: usize, node: Node)
-    requires { (length nodes.old ≡ formulaLength) × (n ≤ mostCounted) }
-    ensures { NodesWritten n (n + 3) nodes.old nodes.new (notBytes ++ (slotBytes (slotOfNode node) ++ notBytes)) }
+    requires { (length nodes.old ≡ formula_length) × (n ≤ most_counted) }
+    ensures { NodesWritten n (n + 3) nodes.old nodes.new (not_bytes ++ (slot_bytes (slot_of_node node) ++ not_bytes)) }
 {
     put(nodes, n, Node::Not);
     put(nodes, n + 1, node);
@@ -29,7 +29,7 @@ pub fn put_dual(nodes: &mut [u8; FORMULA_LENGTH], n: usize, node: Node)
 
 // The nodes from `start` up to n move up by `count`.
 fn move_up(nodes: &mut [u8; FORMULA_LENGTH], start: usize, n: usize, count: usize)
-    requires { (length nodes.old ≡ formulaLength) × (start ≤ n) × (n ≤ mostCounted) × (count ≤ 3) }
+    requires { (length nodes.old ≡ formula_length) × (start ≤ n) × (n ≤ most_counted) × (count ≤ 3) }
     ensures { NodesMoved start n count nodes.old nodes.new }
 {
     if n + count <= NODES {
@@ -45,8 +45,8 @@ fn move_up(nodes: &mut [u8; FORMULA_LENGTH], start: usize, n: usize, count: usiz
 
 // `|` before the nodes from `start` up to n.
 pub fn disjoin(nodes: &mut [u8; FORMULA_LENGTH], start: usize, n: usize)
-    requires { (length nodes.old ≡ formulaLength) × (start ≤ n) × (n ≤ mostCounted) }
-    ensures { NodesEnclosed start n 1 orBytes [] nodes.old nodes.new }
+    requires { (length nodes.old ≡ formula_length) × (start ≤ n) × (n ≤ most_counted) }
+    ensures { NodesEnclosed start n 1 or_bytes [] nodes.old nodes.new }
 {
     move_up(nodes, start, n, 1);
     put(nodes, start, Node::Or);
@@ -54,8 +54,8 @@ pub fn disjoin(nodes: &mut [u8; FORMULA_LENGTH], start: usize, n: usize)
 
 // 02: "`x & y` is `~(~x | ~y)`". The nodes from `start` up to n are those of x; those of y go behind the last `~`.
 pub fn conjoin(nodes: &mut [u8; FORMULA_LENGTH], start: usize, n: usize)
-    requires { (length nodes.old ≡ formulaLength) × (start ≤ n) × (n ≤ mostCounted) }
-    ensures { NodesEnclosed start n 4 andBytes notBytes nodes.old nodes.new }
+    requires { (length nodes.old ≡ formula_length) × (start ≤ n) × (n ≤ most_counted) }
+    ensures { NodesEnclosed start n 4 and_bytes not_bytes nodes.old nodes.new }
 {
     move_up(nodes, start, n, 3);
     put_dual(nodes, start, Node::Or);

@@ -1,10 +1,10 @@
 // A set of labels as text.
 ghost use Rattle.std.specs.Prelude.{true, cond, [], ◌∷◌, ◌++◌, ◌≡◌, ◌<◌};
 ghost use Rattle.lts.specs.Steps.{labels};
-ghost use Rattle.lts.specs.inner.Prepared.{tableIn, name_at};
-ghost use Rattle.actl.specs.Prepared.{maskWithin};
-ghost use Rattle.written_back.specs.FormulaText.{setText, members, joined};
-ghost use Rattle.formula_pieces.specs.inner.Adds.{Adds, Over, labelText};
+ghost use Rattle.lts.specs.inner.Prepared.{table_in, name_at};
+ghost use Rattle.actl.specs.Prepared.{mask_within};
+ghost use Rattle.written_back_lem.specs.FormulaText.{set_text, members, joined};
+ghost use Rattle.formula_pieces.specs.inner.Adds.{Adds, Over, label_text};
 
 use crate::text::{put, put_name};
 use formula_sets::all_labels;
@@ -13,7 +13,7 @@ use tables::prepared::label_count;
 
 // The name of label k + 1, behind a `|` if it is not the first.
 fn put_member(first: bool, table: &[u8], k: usize, out: &mut [u8], at: usize) -> usize
-    requires { Over table.now out.old at 14 × (k < labels (tableIn table.now)) }
+    requires { Over table.now out.old at 14 × (k < labels (table_in table.now)) }
     ensures { Adds (cond first [] (124 ∷ []) ++ name_at table.now k) at out.old out.new result }
 {
     if first {
@@ -25,8 +25,8 @@ fn put_member(first: bool, table: &[u8], k: usize, out: &mut [u8], at: usize) ->
 
 // Label k + 1, if the set has it. The first one of the set begins at `start`.
 fn put_label(set: u64, start: usize, table: &[u8], k: usize, out: &mut [u8], at: usize) -> usize
-    requires { Over table.now out.old at 14 × (k < labels (tableIn table.now)) }
-    ensures { Adds (labelText set start at k (name_at table.now k)) at out.old out.new result }
+    requires { Over table.now out.old at 14 × (k < labels (table_in table.now)) }
+    ensures { Adds (label_text set start at k (name_at table.now k)) at out.old out.new result }
 {
     if !in_set(set, k + 1) {
         return at;
@@ -37,7 +37,7 @@ fn put_label(set: u64, start: usize, table: &[u8], k: usize, out: &mut [u8], at:
 // The names of a set's labels by rising number, joined by `|`.
 fn put_members(table: &[u8], set: u64, out: &mut [u8], at: usize) -> usize
     requires { Over table.now out.old at 560 }
-    ensures { Adds (joined (members (tableIn table.now).names set)) at out.old out.new result }
+    ensures { Adds (joined (members (table_in table.now).names set)) at out.old out.new result }
 {
     let count = label_count(table);
     let mut end = at;
@@ -52,8 +52,8 @@ fn put_members(table: &[u8], set: u64, out: &mut [u8], at: usize) -> usize
 
 // 02: "`*` for all labels, `~*` for the empty set. If there are no labels, `*` is written."
 pub fn put_set(table: &[u8], set: u64, out: &mut [u8], at: usize) -> usize
-    requires { Over table.now out.old at 562 × (maskWithin (labels (tableIn table.now)) set ≡ true) }
-    ensures { Adds (setText (tableIn table.now).names set) at out.old out.new result }
+    requires { Over table.now out.old at 562 × (mask_within (labels (table_in table.now)) set ≡ true) }
+    ensures { Adds (set_text (table_in table.now).names set) at out.old out.new result }
 {
     if set == all_labels(table) {
         return put(out, at, b'*');

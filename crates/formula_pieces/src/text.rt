@@ -1,7 +1,7 @@
 // A text that grows byte by byte and name by name: it is counted whatever its length, and put down as long as it fits.
 ghost use Rattle.std.specs.Prelude.{[], ◌∷◌, ◌<◌};
 ghost use Rattle.lts.specs.Steps.{labels};
-ghost use Rattle.lts.specs.inner.Prepared.{tableIn, name_at};
+ghost use Rattle.lts.specs.inner.Prepared.{table_in, name_at};
 ghost use Rattle.formula_pieces.specs.inner.Adds.{Room, Adds, Over};
 
 use actl::sizes::LONGEST_TEXT;
@@ -21,7 +21,7 @@ pub fn put(out: &mut [u8], at: usize, b: u8) -> usize
 
 // The name of label k + 1.
 pub fn put_name(table: &[u8], k: usize, out: &mut [u8], at: usize) -> usize
-    requires { Over table.now out.old at 13 × (k < labels (tableIn table.now)) }
+    requires { Over table.now out.old at 13 × (k < labels (table_in table.now)) }
     ensures { Adds (name_at table.now k) at out.old out.new result }
 {
     let span = name_span(table, k);

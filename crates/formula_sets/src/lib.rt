@@ -1,16 +1,16 @@
 // Reading a set of labels: readers that call each other, each from a cursor to the cursor behind what it read.
 ghost use Rattle.std.specs.Prelude.{◌≡◌, ◌^◌, ◌<◌, suc, cond};
 ghost use Rattle.std.proofs.Math.Option.{some};
-ghost use Rattle.actl.specs.Sizes.{longestText};
+ghost use Rattle.actl.specs.Sizes.{longest_text};
 ghost use Rattle.lts.specs.inner.HoldsTable.{HoldsTable};
-ghost use Rattle.lts.specs.Directions.{labelDirection, sameDirection};
-ghost use Rattle.lts.specs.inner.Prepared.{tableIn};
+ghost use Rattle.lts.specs.Directions.{label_direction, same_direction};
+ghost use Rattle.lts.specs.inner.Prepared.{table_in};
 ghost use Rattle.lts.specs.Steps.{labels};
 ghost use Rattle.actl.specs.Actions.{Action};
-ghost use Rattle.actl.specs.Meaning.{labelsOf};
-ghost use Rattle.label_names.specs.inner.Names.{directionIn};
+ghost use Rattle.actl.specs.Meaning.{labels_of};
+ghost use Rattle.label_names.specs.inner.Names.{direction_in};
 ghost use Rattle.actl.specs.inner.Cursor.{Named, Token, peek};
-ghost use Rattle.actl.specs.inner.Readers.{namesIn, ReaderStart, earlier};
+ghost use Rattle.actl.specs.inner.Readers.{names_in, ReaderStart, earlier};
 ghost use Rattle.formula_sets.specs.inner.SetReplies.{WildcardAnswer, OperandAnswer, EnclosedAnswer, SetAnswer};
 ghost use Rattle.formula_sets.specs.inner.OperandPhases.{MarkedLabels, NoOpening, MaskWithin, complemented, SignsRead, Closes};
 
@@ -43,15 +43,15 @@ struct Signs {
 // 01: "`*` (all labels)". Label 0 is none of them.
 pub fn all_labels(table: &[u8]) -> u64
     requires { HoldsTable table.now }
-    ensures { result ≡ labelsOf (namesIn table.now) Action.any }
+    ensures { result ≡ labels_of (names_in table.now) Action.any }
 {
     (2u64 << tables::prepared::label_count(table)) - 2
 }
 
 // The direction of label k + 1, by the last byte of its name.
 fn last_direction(table: &[u8], k: usize) -> Direction
-    requires { HoldsTable table.now × (k < labels (tableIn table.now)) }
-    ensures { directionIn result ≡ labelDirection (namesIn table.now) (suc k) }
+    requires { HoldsTable table.now × (k < labels (table_in table.now)) }
+    ensures { direction_in result ≡ label_direction (names_in table.now) (suc k) }
 {
     let span = name_span(table, k);
     let end = span.to;
@@ -67,8 +67,8 @@ fn last_direction(table: &[u8], k: usize) -> Direction
 
 // The bit of label k + 1 if it has the direction, and else none.
 fn directed_bit(table: &[u8], k: usize, wanted: Direction) -> u64
-    requires { HoldsTable table.now × (k < labels (tableIn table.now)) }
-    ensures { result ≡ cond (sameDirection (labelDirection (namesIn table.now) (suc k)) (directionIn wanted)) (2 ^ suc k) 0 }
+    requires { HoldsTable table.now × (k < labels (table_in table.now)) }
+    ensures { result ≡ cond (same_direction (label_direction (names_in table.now) (suc k)) (direction_in wanted)) (2 ^ suc k) 0 }
 {
     if same_direction(last_direction(table, k), wanted) {
         2u64 << k
@@ -80,7 +80,7 @@ fn directed_bit(table: &[u8], k: usize, wanted: Direction) -> u64
 // 02: "an operand `?` is all received labels and an operand `!` all sent ones"
 fn directed_labels(table: &[u8], wanted: Direction) -> u64
     requires { HoldsTable table.now }
-    ensures { result ≡ labelsOf (namesIn table.now) (Action.directed (directionIn wanted)) }
+    ensures { result ≡ labels_of (names_in table.now) (Action.directed (direction_in wanted)) }
 {
     let count = tables::prepared::label_count(table);
     let mut mask = 0u64;
@@ -94,7 +94,7 @@ fn directed_labels(table: &[u8], wanted: Direction) -> u64
 
 // The first offset so far is kept.
 fn earlier_of(lost: usize, at: usize) -> usize
-    requires { at < longestText }
+    requires { at < longest_text }
     ensures { result ≡ earlier lost (some at) }
 {
     if lost == 0 { at + 1 } else { lost }
@@ -103,7 +103,7 @@ fn earlier_of(lost: usize, at: usize) -> usize
 // A name's label, where the table has one.
 fn label(table: &[u8], text: &[u8], c: Cursor, d: Cursor, lost: usize) -> Labels
     requires { ReaderStart table.now text.now c.at × Named text.now c.at d.at }
-    ensures { OperandAnswer (namesIn table.now) text.now c.at lost result }
+    ensures { OperandAnswer (names_in table.now) text.now c.at lost result }
 {
     let at = c.at;
     let to = d.at;
@@ -117,7 +117,7 @@ fn label(table: &[u8], text: &[u8], c: Cursor, d: Cursor, lost: usize) -> Labels
 // 02: `?` or `!`, whichever the mark is.
 fn directed_wildcard(table: &[u8], text: &[u8], c: Cursor, mark: u8, wanted: Direction) -> Wildcard
     requires { HoldsTable table.now }
-    ensures { MarkedLabels text.now c.at mark (labelsOf (namesIn table.now) (Action.directed (directionIn wanted))) result }
+    ensures { MarkedLabels text.now c.at mark (labels_of (names_in table.now) (Action.directed (direction_in wanted))) result }
 {
     let Match::Past(d) = c.mark(text, mark) else {
         return Wildcard::Missing;
@@ -128,7 +128,7 @@ fn directed_wildcard(table: &[u8], text: &[u8], c: Cursor, mark: u8, wanted: Dir
 // 01: "`*` (all labels)"; 02: `?` and `!`.
 fn wildcard_labels(table: &[u8], text: &[u8], c: Cursor) -> Wildcard
     requires { ReaderStart table.now text.now c.at }
-    ensures { WildcardAnswer (namesIn table.now) text.now c.at result }
+    ensures { WildcardAnswer (names_in table.now) text.now c.at result }
 {
     if let Match::Past(d) = c.mark(text, b'*') {
         return Wildcard::Past(d, all_labels(table));
@@ -142,7 +142,7 @@ fn wildcard_labels(table: &[u8], text: &[u8], c: Cursor) -> Wildcard
 // An operand that begins with neither `~` nor `(`.
 fn bare_operand(table: &[u8], text: &[u8], c: Cursor, lost: usize) -> Labels
     requires { ReaderStart table.now text.now c.at × NoOpening text.now c.at }
-    ensures { OperandAnswer (namesIn table.now) text.now c.at lost result }
+    ensures { OperandAnswer (names_in table.now) text.now c.at lost result }
 {
     if let Wildcard::Past(d, m) = wildcard_labels(table, text, c) {
         return Labels::Read(d, m, lost);
@@ -155,8 +155,8 @@ fn bare_operand(table: &[u8], text: &[u8], c: Cursor, lost: usize) -> Labels
 
 // All labels but those that were read.
 fn complement(table: &[u8], x: Labels) -> Labels
-    requires { HoldsTable table.now × MaskWithin (labelsOf (namesIn table.now) Action.any) x }
-    ensures { result ≡ complemented (labelsOf (namesIn table.now) Action.any) x }
+    requires { HoldsTable table.now × MaskWithin (labels_of (names_in table.now) Action.any) x }
+    ensures { result ≡ complemented (labels_of (names_in table.now) Action.any) x }
 {
     match x {
         Labels::Read(e, m, l) => Labels::Read(e, all_labels(table) - m, l),
@@ -199,7 +199,7 @@ fn closed(text: &[u8], x: Labels, mark: u8) -> Labels
 #[cycle(operand_set_unsigned)]
 fn unsigned(table: &[u8], text: &[u8], c: Cursor, lost: usize) -> Labels
     requires { ReaderStart table.now text.now c.at × (peek text.now c.at ≡ 126 → ⊥) }
-    ensures { OperandAnswer (namesIn table.now) text.now c.at lost result }
+    ensures { OperandAnswer (names_in table.now) text.now c.at lost result }
 {
     if let Match::Past(d) = c.token(text, b'(') {
         return closed(text, set(table, text, d, lost), 41);
@@ -211,7 +211,7 @@ fn unsigned(table: &[u8], text: &[u8], c: Cursor, lost: usize) -> Labels
 #[cycle(operand_set_unsigned)]
 fn operand(table: &[u8], text: &[u8], c: Cursor, lost: usize) -> Labels
     requires { ReaderStart table.now text.now c.at }
-    ensures { OperandAnswer (namesIn table.now) text.now c.at lost result }
+    ensures { OperandAnswer (names_in table.now) text.now c.at lost result }
 {
     let s = past_signs(text, c);
     let d = s.end;
@@ -226,7 +226,7 @@ fn operand(table: &[u8], text: &[u8], c: Cursor, lost: usize) -> Labels
 #[cycle(operand_set_unsigned)]
 pub fn set(table: &[u8], text: &[u8], c: Cursor, lost: usize) -> Labels
     requires { ReaderStart table.now text.now c.at }
-    ensures { SetAnswer (namesIn table.now) text.now c.at lost result }
+    ensures { SetAnswer (names_in table.now) text.now c.at lost result }
 {
     let mut d = c;
     let mut mask = 0u64;
@@ -253,7 +253,7 @@ pub fn set(table: &[u8], text: &[u8], c: Cursor, lost: usize) -> Labels
 // A set, and the mark that ends its bracket.
 pub fn enclosed(table: &[u8], text: &[u8], c: Cursor, mark: u8, lost: usize) -> Labels
     requires { ReaderStart table.now text.now c.at }
-    ensures { EnclosedAnswer (namesIn table.now) text.now c.at mark lost result }
+    ensures { EnclosedAnswer (names_in table.now) text.now c.at mark lost result }
 {
     closed(text, set(table, text, c, lost), mark)
 }

@@ -1,12 +1,12 @@
 // The check that prepared formula bytes are the one form of a formula, over a table's labels.
 ghost use Rattle.std.specs.Prelude.{◌≡◌, ◌&&◌, ◌||◌, ◌+◌, ◌*◌, ◌<◌, ◌≤◌, eqb, leb, length};
-ghost use Rattle.actl.specs.Sizes.{mostNodes, formulaLength};
-ghost use Rattle.lts.specs.Sizes.{mostLabels};
+ghost use Rattle.actl.specs.Sizes.{most_nodes, formula_length};
+ghost use Rattle.lts.specs.Sizes.{most_labels};
 ghost use Rattle.lts.specs.inner.Answers.{Decides};
-ghost use Rattle.actl.specs.Prepared.{maskWithin, FormOfSome};
+ghost use Rattle.actl.specs.Prepared.{mask_within, FormOfSome};
 ghost use Rattle.actl.specs.inner.Prepared.{slot_at};
-ghost use Rattle.actl.specs.inner.Shaped.{firstUsed, secondUsed};
-ghost use Rattle.actl.specs.inner.Check.{isPrepared, slotFits, slotsFit, zerosFrom};
+ghost use Rattle.actl.specs.inner.Shaped.{first_used, second_used};
+ghost use Rattle.actl.specs.inner.Check.{is_prepared, slot_fits, slots_fit, zeros_from};
 
 use actl::sizes::{FORMULA_LENGTH, NODE_SLOT, NODES};
 use formula_classes::spelled;
@@ -15,7 +15,7 @@ use table_check::zeros;
 
 // 01: "sets within this table's labels": no bit 0, and none above the labels.
 fn within(labels: usize, set: u64) -> bool
-    ensures { result ≡ maskWithin labels set }
+    ensures { result ≡ mask_within labels set }
 {
     if set % 2 != 0 {
         return false;
@@ -28,7 +28,7 @@ fn within(labels: usize, set: u64) -> bool
 
 // A mask that the kind has is a set; one that it does not have is zero.
 fn mask_fits(labels: usize, set: u64, used: bool) -> bool
-    ensures { result ≡ ((used || eqb set 0) && maskWithin labels set) }
+    ensures { result ≡ ((used || eqb set 0) && mask_within labels set) }
 {
     if used {
         return within(labels, set);
@@ -41,15 +41,15 @@ const MASKS: [u8; 10] = [0, 0, 0, 0, 0, 1, 0, 1, 1, 2];
 
 fn masks_of(kind: u8) -> u8
     requires { kind < 10 }
-    ensures result_value { leb 1 result ≡ firstUsed kind }
-    ensures result_value_2 { eqb result 2 ≡ secondUsed kind }
+    ensures result_value { leb 1 result ≡ first_used kind }
+    ensures result_value_2 { eqb result 2 ≡ second_used kind }
 {
     MASKS[kind as usize]
 }
 
 fn slot_fits(labels: usize, formula: &[u8], k: usize) -> bool
-    requires { (formulaLength ≤ length formula.now) × (k < mostNodes) }
-    ensures { result ≡ slotFits labels (slot_at formula.now k) }
+    requires { (formula_length ≤ length formula.now) × (k < most_nodes) }
+    ensures { result ≡ slot_fits labels (slot_at formula.now k) }
 {
     let kind = formula[1 + k * NODE_SLOT];
     if kind == 0 {
@@ -65,8 +65,8 @@ fn slot_fits(labels: usize, formula: &[u8], k: usize) -> bool
 }
 
 fn slots_fit(labels: usize, formula: &[u8], count: usize) -> bool
-    requires { (formulaLength ≤ length formula.now) × (count ≤ mostNodes) }
-    ensures { result ≡ slotsFit labels formula.now count }
+    requires { (formula_length ≤ length formula.now) × (count ≤ most_nodes) }
+    ensures { result ≡ slots_fit labels formula.now count }
 {
     let mut k = 0;
     while k < count {
@@ -79,16 +79,16 @@ fn slots_fit(labels: usize, formula: &[u8], count: usize) -> bool
 }
 
 fn zeros_from(formula: &[u8], from: usize) -> bool
-    requires { (formulaLength ≤ length formula.now) × (from ≤ formulaLength) }
-    ensures { result ≡ zerosFrom formula.now from }
+    requires { (formula_length ≤ length formula.now) × (from ≤ formula_length) }
+    ensures { result ≡ zeros_from formula.now from }
 {
     zeros(formula, from, FORMULA_LENGTH)
 }
 
 // 01: "formula bytes that aren't the one form, given in docs/, of 1 to 40 nodes in order, each with a class, sets within this table's labels"
 pub fn is_prepared(labels: usize, formula: &[u8]) -> bool
-    ensures value { result ≡ isPrepared labels formula.now }
-    ensures decides { labels ≤ mostLabels → Decides (FormOfSome labels formula.now) result }
+    ensures value { result ≡ is_prepared labels formula.now }
+    ensures decides { labels ≤ most_labels → Decides (FormOfSome labels formula.now) result }
 {
     if formula.len() < FORMULA_LENGTH {
         return false;

@@ -8,50 +8,50 @@ use native.Mathlib.Omega.{arith}
 use lib.ListN.{length, drop}
 use Rattle.lts.specs.Lists.{bind}
 use Rattle.lts.specs.inner.Answers.{Decides}
-use Rattle.actl.specs.inner.Show.{gap, showT, showH}
-use Rattle.actl.specs.Grammar.{existential, universal, Head, next, until, untilThen, reach, labelled, Term, tru, not, modal, paren}
-use Rattle.actl.specs.inner.Reader.{fParen, tFirst, tNot, tModal, termAt, afterDisjunction, plugT}
-use Rattle.actl.specs.inner.Mentions.{namesF, namesT, namesH}
-use Rattle.actl.specs.Prepared.{Slot, slot, slotBytes}
+use Rattle.actl.specs.inner.Show.{gap, show_t, show_h}
+use Rattle.actl.specs.Grammar.{existential, universal, Head, next, until, until_then, reach, labelled, Term, tru, not, modal, paren}
+use Rattle.actl.specs.inner.Reader.{f_paren, t_first, t_not, t_modal, term_at, after_disjunction, plug_t}
+use Rattle.actl.specs.inner.Mentions.{names_f, names_t, names_h}
+use Rattle.actl.specs.Prepared.{Slot, slot, slot_bytes}
 use Rattle.actl.specs.inner.Cursor.{peek, Token, Skipped, Moves, Fails, Marked, Tokened}
-use Rattle.actl.specs.inner.Readers.{ReaderStart, unknownIn, earlier, headSlots, HeadRead, TermRead, BracketRead, Unbracketed}
-use Rattle.actl.specs.inner.NodeBytes.{bytesOfNodes, mostCounted, NodesWritten, NodeRoom}
-use Rattle.actl.specs.inner.Meaning.{formulaT}
+use Rattle.actl.specs.inner.Readers.{ReaderStart, unknown_in, earlier, head_slots, HeadRead, TermRead, BracketRead, Unbracketed}
+use Rattle.actl.specs.inner.NodeBytes.{bytes_of_nodes, most_counted, NodesWritten, NodeRoom}
+use Rattle.actl.specs.inner.Meaning.{formula_t}
 use Rattle.formula_terms.specs.inner.Prefixes.{PrefixRead, Atom, NoAtom, PrefixesPassed, PrefixesRead, PrefixesAnswer}
 use Rattle.formula_terms.specs.inner.TermReplies.{TermAnswer, BracketAnswer}
 use Rattle.formula_terms.specs.declared.Nodes.{Nodes}
 use Rattle.formula_terms.specs.declared.Nodes.TheVariants.{Read, Refused}
-use Rattle.formula_cursor.proofs.ReadingMoves.{on-other, skipped-token, then, fail, at_only, fail-only, written_as, skip, stops, equal, marked, tokened}
+use Rattle.formula_cursor.proofs.ReadingMoves.{on-other, skipped-token, then, fail, at_only, fail_only, written_as, skip, stops, equal, marked, tokened}
 use Rattle.formula_sets.proofs.ReadingSets.{token-behind}
-use Rattle.actl.proofs.ReadingLabels.{earlier-none, earlier-append}
+use Rattle.actl.proofs.ReadingLabels.{earlier-none, earlier_append}
 use Rattle.actl.proofs.ReadingNodes.{written-more}
 
 -- The nodes of a keyword stand before those of its arm, written out.
-head_bytes : (N : List (List ℕ)) (h : Head) (a : ℕ) (t : Term) → bytesOfNodes (formulaT N (modal h a t)) ≡ bind slotBytes (headSlots N h) ++ bytesOfNodes (formulaT N t)
-head_bytes N (next existential b c x d) a t = refl
-head_bytes N (next universal b c x d) a t = refl
-head_bytes N (until b c x d) a t = refl
-head_bytes N (untilThen b c x d e y g) a t = refl
-head_bytes N (reach existential) a t = refl
-head_bytes N (reach universal) a t = refl
-head_bytes N (labelled existential b c x d) a t = refl
-head_bytes N (labelled universal b c x d) a t = refl
+head_bytes_lem : (N : List (List ℕ)) (h : Head) (a : ℕ) (t : Term) → bytes_of_nodes (formula_t N (modal h a t)) ≡ bind slot_bytes (head_slots N h) ++ bytes_of_nodes (formula_t N t)
+head_bytes_lem N (next existential b c x d) a t = refl
+head_bytes_lem N (next universal b c x d) a t = refl
+head_bytes_lem N (until b c x d) a t = refl
+head_bytes_lem N (until_then b c x d e y g) a t = refl
+head_bytes_lem N (reach existential) a t = refl
+head_bytes_lem N (reach universal) a t = refl
+head_bytes_lem N (labelled existential b c x d) a t = refl
+head_bytes_lem N (labelled universal b c x d) a t = refl
 
 -- The first name that a keyword with its bracket lacks, with the term behind it.
 head-lacks : {N : List (List ℕ)} {s : List ℕ} {at lost a l : ℕ} {slots : List Slot} (h : HeadRead N s at lost a slots l) {d : ℕ} (b : Skipped s a d)
-    (t : Term) (r : List ℕ) → drop d s ≡ showT t r → l ≡ earlier lost (unknownIn N (length s) (namesH h.value (gap (d - a) (showT t r))))
+    (t : Term) (r : List ℕ) → drop d s ≡ show_t t r → l ≡ earlier lost (unknown_in N (length s) (names_h h.value (gap (d - a) (show_t t r))))
 head-lacks {N} {s} {lost} {a} h {d} b t r q =
-    h.lacks ∙ ap (λ v. earlier lost (unknownIn N (length s) (namesH h.value v))) (b.blanks ∙ ap (gap (d - a)) q)
+    h.lacks ∙ ap (λ v. earlier lost (unknown_in N (length s) (names_h h.value v))) (b.blanks ∙ ap (gap (d - a)) q)
 
 -- Counts stay small.
-pub counted : {b s : List ℕ} {at n : ℕ} {e : List ℕ} → ReaderStart b s at → NodeRoom e at n → n ≤ mostCounted
+pub counted : {b s : List ℕ} {at n : ℕ} {e : List ℕ} → ReaderStart b s at → NodeRoom e at n → n ≤ most_counted
 counted h room = omega (arith, h.short, h.token.within, room.below)
 
 pub inner_room : {s : List ℕ} {at n d mark : ℕ} {e : List ℕ} → NodeRoom e at n → Tokened s at mark d → NodeRoom e d n
 inner_room room t = record { below = omega (arith, room.below, t.skipped.up); long = room.long }
 
 module _ {N : List (List ℕ)} {s : List ℕ} {at n lost : ℕ} {e : List ℕ} where
-  pub term-true : {to : ℕ} {x : List ℕ} → Marked s at 84 to → NodesWritten n (n + 1) e x (slotBytes (slot 1 0 0)) → TermRead N s at n lost e to (n + 1) lost x
+  pub term-true : {to : ℕ} {x : List ℕ} → Marked s at 84 to → NodesWritten n (n + 1) e x (slot_bytes (slot 1 0 0)) → TermRead N s at n lost e to (n + 1) lost x
   term-true h p = record {
     value = tru;
     up = omega (arith, h.next);
@@ -62,9 +62,9 @@ module _ {N : List (List ℕ)} {s : List ℕ} {at n lost : ℕ} {e : List ℕ} w
   }
 
   -- `~` before a term.
-  pub prefix-not : {d : ℕ} {x : List ℕ} → Tokened s at 126 d → NodesWritten n (n + 1) e x (slotBytes (slot 2 0 0)) → PrefixRead N s at n lost e d (n + 1) lost x
-  prefix-not {d} t p = record {
-    place = λ i. tNot i (d - (at + 1));
+  pub prefix_not : {d : ℕ} {x : List ℕ} → Tokened s at 126 d → NodesWritten n (n + 1) e x (slot_bytes (slot 2 0 0)) → PrefixRead N s at n lost e d (n + 1) lost x
+  prefix_not {d} t p = record {
+    place = λ i. t_not i (d - (at + 1));
     value = not (d - (at + 1));
     plugs = λ v i. refl;
     text = λ r. 126 ∷ gap (d - (at + 1)) r;
@@ -72,8 +72,8 @@ module _ {N : List (List ℕ)} {s : List ℕ} {at n lost : ℕ} {e : List ℕ} w
     up = omega (arith, t.skipped.up);
     few = omega arith;
     token = token-behind t;
-    moves = tokened (λ g i. termAt (tNot i g)) t (omega arith) (λ i. refl) (λ g i. refl);
-    nodes = slotBytes (slot 2 0 0);
+    moves = tokened (λ g i. term_at (t_not i g)) t (omega arith) (λ i. refl) (λ g i. refl);
+    nodes = slot_bytes (slot 2 0 0);
     written = p;
     means = λ v. refl;
     lacks = λ v r q. refl;
@@ -81,22 +81,22 @@ module _ {N : List (List ℕ)} {s : List ℕ} {at n lost : ℕ} {e : List ℕ} w
 
   -- A keyword with its bracket before one.
   pub prefix_head : {a l : ℕ} {slots : List Slot} (h : HeadRead N s at lost a slots l) {d : ℕ} (b : Skipped s a d) {m : ℕ} {x : List ℕ}
-      → NodesWritten n m e x (bind slotBytes slots) → m ≤ n + 3 → PrefixRead N s at n lost e d m l x
+      → NodesWritten n m e x (bind slot_bytes slots) → m ≤ n + 3 → PrefixRead N s at n lost e d m l x
   prefix_head {a} {slots} h {d} b p w = record {
-    place = λ i. tModal h.value i (d - a);
+    place = λ i. t_modal h.value i (d - a);
     value = modal h.value (d - a);
     plugs = λ t i. refl;
-    text = λ r. showH h.value (gap (d - a) r);
+    text = λ r. show_h h.value (gap (d - a) r);
     shows = λ t r. refl;
     up = omega (arith, h.up, b.up);
     few = w;
     token = skipped-token b;
-    moves = then h.moves (skip (λ g i. termAt (tModal h.value i g)) (λ g i. refl) b);
-    nodes = bind slotBytes slots;
+    moves = then h.moves (skip (λ g i. term_at (t_modal h.value i g)) (λ g i. refl) b);
+    nodes = bind slot_bytes slots;
     written = p;
-    means = λ t. ap (λ v. bind slotBytes v ++ bytesOfNodes (formulaT N t)) (sym h.means) ∙ sym (head_bytes N h.value (d - a) t);
-    lacks = λ t r q. ap (λ v. earlier v (unknownIn N (length s) (namesT t r))) (head-lacks h b t r q)
-        ∙ sym (earlier-append N (length s) lost (namesH h.value (gap (d - a) (showT t r))) (namesT t r));
+    means = λ t. ap (λ v. bind slot_bytes v ++ bytes_of_nodes (formula_t N t)) (sym h.means) ∙ sym (head_bytes_lem N h.value (d - a) t);
+    lacks = λ t r q. ap (λ v. earlier v (unknown_in N (length s) (names_t t r))) (head-lacks h b t r q)
+        ∙ sym (earlier_append N (length s) lost (names_h h.value (gap (d - a) (show_t t r))) (names_t t r));
   }
 
   -- The term behind it.
@@ -116,7 +116,7 @@ module _ {N : List (List ℕ)} {s : List ℕ} {at n lost : ℕ} {e : List ℕ} w
 
     pub term-behind : (y : List ℕ) (r : Nodes) → TermAnswer N s d m l x y r → TermAnswer N s at n lost e y r
     term-behind y (Read c k left) t = behind-read t
-    term-behind y (Refused c) t = fail p.moves (fail-only p.place t)
+    term-behind y (Refused c) t = fail p.moves (fail_only p.place t)
 
 -- Prefixes behind each other.
 pub passed_none : (N : List (List ℕ)) (s : List ℕ) (at n lost : ℕ) (e : List ℕ) → Token s at → NodeRoom e at n → PrefixesPassed N s at n lost e at n lost e
@@ -131,53 +131,53 @@ pub passed_then : {N : List (List ℕ)} {s : List ℕ} {at n lost : ℕ} {e : Li
 passed_then p q = record { up = omega (arith, p.up, q.up); token = q.token; room = q.room; says = λ y r t. p.says y r (q.says y r t) }
 
 -- A refusal behind prefixes.
-pub passed-fails : {N : List (List ℕ)} {s : List ℕ} {at n lost : ℕ} {e : List ℕ} {d m l : ℕ} {x : List ℕ} → PrefixesPassed N s at n lost e d m l x
+pub passed_fails : {N : List (List ℕ)} {s : List ℕ} {at n lost : ℕ} {e : List ℕ} {d m l : ℕ} {x : List ℕ} → PrefixesPassed N s at n lost e d m l x
     → (y : List ℕ) (r : Nodes) → PrefixesAnswer N s d m l x y r → PrefixesAnswer N s at n lost e y r
-passed-fails p y (Read c k left) h = record { passed = passed_then p h.passed; atom = h.atom }
-passed-fails p y (Refused c) h = p.says y (Refused c) h
+passed_fails p y (Read c k left) h = record { passed = passed_then p h.passed; atom = h.atom }
+passed_fails p y (Refused c) h = p.says y (Refused c) h
 
 -- A place is one of an atom, or it is not.
 pub atom-there : (s : List ℕ) (at : ℕ) → Atom s at → Decides (Atom s at) true
 atom-there s at h = record { yes = λ e. h; no = λ e p. true≢false e }
 
-pub atom-neither : (s : List ℕ) (at : ℕ) → Atom s at → (peek s at ≡ 84 → ⊥) → (peek s at ≡ 40 → ⊥) → ⊥
-atom-neither s at (inl h) p q = p h
-atom-neither s at (inr h) p q = q h
+pub atom_neither : (s : List ℕ) (at : ℕ) → Atom s at → (peek s at ≡ 84 → ⊥) → (peek s at ≡ 40 → ⊥) → ⊥
+atom_neither s at (inl h) p q = p h
+atom_neither s at (inr h) p q = q h
 
 pub no-atom-there : (s : List ℕ) (at : ℕ) → (peek s at ≡ 84 → ⊥) → (peek s at ≡ 40 → ⊥) → Decides (Atom s at) false
-no-atom-there s at p q = record { yes = λ e. absurd (true≢false (sym e)); no = λ e h. atom-neither s at h p q }
+no-atom-there s at p q = record { yes = λ e. absurd (true≢false (sym e)); no = λ e h. atom_neither s at h p q }
 
 pub no-atom : {s : List ℕ} {at : ℕ} {b : Bool} → Decides (Atom s at) b → b ≡ false → NoAtom s at
-no-atom d e = record { no_true = λ p. d.no e (inl p); no-paren = λ p. d.no e (inr p) }
+no-atom d e = record { no_true = λ p. d.no e (inl p); no_paren = λ p. d.no e (inr p) }
 
 -- A formula in round brackets.
 module _ (N : List (List ℕ)) {s : List ℕ} {at : ℕ} (n lost : ℕ) (e : List ℕ) {d : ℕ} (t : Tokened s at 40 d) where
-  opened : Moves s at d (λ r. 40 ∷ gap (d - (at + 1)) r) termAt (λ i. termAt (tFirst (fParen i (d - (at + 1)))))
-  opened = tokened (λ g i. termAt (tFirst (fParen i g))) t (omega arith) (λ i. refl) (λ g i. refl)
+  opened : Moves s at d (λ r. 40 ∷ gap (d - (at + 1)) r) term_at (λ i. term_at (t_first (f_paren i (d - (at + 1)))))
+  opened = tokened (λ g i. term_at (t_first (f_paren i g))) t (omega arith) (λ i. refl) (λ g i. refl)
 
   paren-read : {to m l : ℕ} {y : List ℕ} → BracketRead N s d n lost e to m l y → TermRead N s at n lost e to m l y
   paren-read {to} h =
       let c = h.contents in
       let b = h.behind - h.end in
-      let v : Moves s h.behind to (λ r. 41 ∷ r) (λ i. afterDisjunction c.value (fParen i (d - (at + 1))) b) (plugT (paren (d - (at + 1)) c.value b))
+      let v : Moves s h.behind to (λ r. 41 ∷ r) (λ i. after_disjunction c.value (f_paren i (d - (at + 1))) b) (plug_t (paren (d - (at + 1)) c.value b))
       = marked h.shut (omega arith) (λ i. refl) in
       record {
         value = paren (d - (at + 1)) c.value b;
         up = omega (arith, c.up, c.blanks, t.skipped.up, v.up);
         few = omega (arith, c.few, c.blanks, t.skipped.up, v.up);
-        moves = then opened (then (at_only (λ i. fParen i (d - (at + 1))) c.moves) v);
+        moves = then opened (then (at_only (λ i. f_paren i (d - (at + 1))) c.moves) v);
         written = c.written;
-        lacks = c.lacks ∙ ap (λ r. earlier lost (unknownIn N (length s) (namesF c.value (gap b r)))) v.text;
+        lacks = c.lacks ∙ ap (λ r. earlier lost (unknown_in N (length s) (names_f c.value (gap b r)))) v.text;
       }
 
-  unclosed : {to : ℕ} {y : List ℕ} → Unbracketed N s d n lost e to y → Fails s at to termAt
+  unclosed : {to : ℕ} {y : List ℕ} → Unbracketed N s d n lost e to y → Fails s at to term_at
   unclosed {to} h =
       let c = h.contents in
-      fail (then opened (at_only (λ i. fParen i (d - (at + 1))) c.moves)) (stops c.token.within (λ i. refl)
-      (λ i. on-other (peek s to) 32 _ _ c.token.past ∙ (on-other (peek s to) 38 _ _ c.no-and
+      fail (then opened (at_only (λ i. f_paren i (d - (at + 1))) c.moves)) (stops c.token.within (λ i. refl)
+      (λ i. on-other (peek s to) 32 _ _ c.token.past ∙ (on-other (peek s to) 38 _ _ c.no_and
       ∙ (on-other (peek s to) 124 _ _ c.no_or ∙ on-other (peek s to) 41 _ _ h.other))))
 
   pub term-paren : (y : List ℕ) (r : Nodes) → BracketAnswer N s d n lost e y r → TermAnswer N s at n lost e y r
   term-paren y (Read c m l) h = paren-read h
-  term-paren y (Refused c) (inl h) = fail opened (fail-only (λ i. fParen i (d - (at + 1))) h)
+  term-paren y (Refused c) (inl h) = fail opened (fail_only (λ i. f_paren i (d - (at + 1))) h)
   term-paren y (Refused c) (inr h) = unclosed h

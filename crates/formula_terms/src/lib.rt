@@ -1,10 +1,10 @@
 // Reading a formula's text: the readers of terms, brackets and formulas call each other, each from a cursor to the cursor behind what it
 // read. What they make of it: the nodes of the text written out, in preorder, stored as in a prepared formula, and the first name that the table lacks.
 ghost use Rattle.std.specs.Prelude.{◌≡◌, ◌≤◌, length};
-ghost use Rattle.actl.specs.Sizes.{longestText, formulaLength};
+ghost use Rattle.actl.specs.Sizes.{longest_text, formula_length};
 ghost use Rattle.lts.specs.inner.HoldsTable.{HoldsTable};
 ghost use Rattle.lts.specs.inner.Answers.{Decides};
-ghost use Rattle.actl.specs.inner.Readers.{namesIn, ReaderStart, NoMark};
+ghost use Rattle.actl.specs.inner.Readers.{names_in, ReaderStart, NoMark};
 ghost use Rattle.actl.specs.inner.NodeBytes.{NodeRoom};
 ghost use Rattle.formula_terms.specs.inner.TermReplies.{TermAnswer, BracketAnswer, FormulaAnswer, ReadingAnswer};
 ghost use Rattle.formula_terms.specs.inner.Prefixes.{PrefixAnswer, NoAtom, Atom, PrefixesAnswer};
@@ -42,7 +42,7 @@ pub enum Reading {
 // A keyword with its square bracket, the blanks behind it, and its nodes.
 fn keyword(table: &[u8], text: &[u8], nodes: &mut Slots, c: Cursor, n: usize, lost: usize) -> Nodes
     requires { ReaderStart table.now text.now c.at × NodeRoom nodes.old c.at n × NoMark text.now c.at }
-    ensures { PrefixAnswer (namesIn table.now) text.now c.at n lost nodes.old nodes.new result }
+    ensures { PrefixAnswer (names_in table.now) text.now c.at n lost nodes.old nodes.new result }
 {
     let x = head(table, text, c, lost);
     match x {
@@ -61,7 +61,7 @@ fn keyword(table: &[u8], text: &[u8], nodes: &mut Slots, c: Cursor, n: usize, lo
 // What stands before a term: `~`, or a keyword with its square bracket.
 fn prefix(table: &[u8], text: &[u8], nodes: &mut Slots, c: Cursor, n: usize, lost: usize) -> Nodes
     requires { ReaderStart table.now text.now c.at × NodeRoom nodes.old c.at n × NoAtom text.now c.at }
-    ensures { PrefixAnswer (namesIn table.now) text.now c.at n lost nodes.old nodes.new result }
+    ensures { PrefixAnswer (names_in table.now) text.now c.at n lost nodes.old nodes.new result }
 {
     if let Match::Past(d) = c.token(text, b'~') {
         put(nodes, n, Node::Not);
@@ -86,7 +86,7 @@ fn at_atom(text: &[u8], c: Cursor) -> bool
 // All that stands before a `T` or a `(`, by a loop: prefixes within each other take no frames.
 fn further(table: &[u8], text: &[u8], nodes: &mut Slots, c: Cursor, n: usize, lost: usize) -> Nodes
     requires { ReaderStart table.now text.now c.at × NodeRoom nodes.old c.at n }
-    ensures { PrefixesAnswer (namesIn table.now) text.now c.at n lost nodes.old nodes.new result }
+    ensures { PrefixesAnswer (names_in table.now) text.now c.at n lost nodes.old nodes.new result }
 {
     let mut d = c;
     let mut k = n;
@@ -112,7 +112,7 @@ fn further(table: &[u8], text: &[u8], nodes: &mut Slots, c: Cursor, n: usize, lo
 // The same. The first prefix is read here and the others there: `prefix`, called from two places, keeps its locals out of the frames of brackets.
 fn prefixes(table: &[u8], text: &[u8], nodes: &mut Slots, c: Cursor, n: usize, lost: usize) -> Nodes
     requires { ReaderStart table.now text.now c.at × NodeRoom nodes.old c.at n }
-    ensures { PrefixesAnswer (namesIn table.now) text.now c.at n lost nodes.old nodes.new result }
+    ensures { PrefixesAnswer (names_in table.now) text.now c.at n lost nodes.old nodes.new result }
 {
     if at_atom(text, c) {
         return Nodes::Read(c, n, lost);
@@ -128,7 +128,7 @@ fn prefixes(table: &[u8], text: &[u8], nodes: &mut Slots, c: Cursor, n: usize, l
 #[cycle(bracket_formula_term)]
 fn term(table: &[u8], text: &[u8], nodes: &mut Slots, c: Cursor, n: usize, lost: usize) -> Nodes
     requires { ReaderStart table.now text.now c.at × NodeRoom nodes.old c.at n }
-    ensures { TermAnswer (namesIn table.now) text.now c.at n lost nodes.old nodes.new result }
+    ensures { TermAnswer (names_in table.now) text.now c.at n lost nodes.old nodes.new result }
 {
     let x = prefixes(table, text, nodes, c, n, lost);
     match x {
@@ -150,7 +150,7 @@ fn term(table: &[u8], text: &[u8], nodes: &mut Slots, c: Cursor, n: usize, lost:
 #[cycle(bracket_formula_term)]
 fn bracket(table: &[u8], text: &[u8], nodes: &mut Slots, c: Cursor, n: usize, lost: usize) -> Nodes
     requires { ReaderStart table.now text.now c.at × NodeRoom nodes.old c.at n }
-    ensures { BracketAnswer (namesIn table.now) text.now c.at n lost nodes.old nodes.new result }
+    ensures { BracketAnswer (names_in table.now) text.now c.at n lost nodes.old nodes.new result }
 {
     let x = formula(table, text, nodes, c, n, lost);
     match x {
@@ -169,7 +169,7 @@ fn bracket(table: &[u8], text: &[u8], nodes: &mut Slots, c: Cursor, n: usize, lo
 #[cycle(bracket_formula_term)]
 fn formula(table: &[u8], text: &[u8], nodes: &mut Slots, c: Cursor, n: usize, lost: usize) -> Chain
     requires { ReaderStart table.now text.now c.at × NodeRoom nodes.old c.at n }
-    ensures { FormulaAnswer (namesIn table.now) text.now c.at n lost nodes.old nodes.new result }
+    ensures { FormulaAnswer (names_in table.now) text.now c.at n lost nodes.old nodes.new result }
 {
     let mut d = c;
     let mut start = n;
@@ -204,8 +204,8 @@ fn formula(table: &[u8], text: &[u8], nodes: &mut Slots, c: Cursor, n: usize, lo
 
 // A whole text of at most 512 bytes.
 pub fn read_text(table: &[u8], text: &[u8], nodes: &mut [u8; FORMULA_LENGTH]) -> Reading
-    requires { HoldsTable table.now × (length text.now ≤ longestText) × (length nodes.old ≡ formulaLength) }
-    ensures { ReadingAnswer (namesIn table.now) text.now nodes.old nodes.new result }
+    requires { HoldsTable table.now × (length text.now ≤ longest_text) × (length nodes.old ≡ formula_length) }
+    ensures { ReadingAnswer (names_in table.now) text.now nodes.old nodes.new result }
 {
     let c = Cursor { at: 0 };
     if let Match::Past(_) = c.mark(text, b' ') {

@@ -10,16 +10,16 @@ use borrow.Author.Tests.{le-leb, lt-leb}
 use lib.Dec.{leb}
 use lib.ListN.{length, get_or, take, drop, set, replicate, length-drop, length-replicate, get_or-replicate}
 use lib.Seq.{get_or-take, get_or-drop, length-take-le, take_all, drop-cons, take-append-add, ext_get_or}
-use Rattle.actl.specs.Sizes.{mostNodes, nodeSlotLength, formulaLength}
+use Rattle.actl.specs.Sizes.{most_nodes, node_slot_length, formula_length}
 use Rattle.columns.specs.inner.Write.{pasted}
 use Rattle.lts.specs.inner.Lists.{up_from}
-use Rattle.lts.specs.Reply.{accepted, refusal, unless, leftIn, answers}
-use Rattle.actl.specs.Formulas.{Formula, tru, size, nodes, highestWithoutClass}
-use Rattle.actl.specs.Prepared.{formulaBytes}
-use Rattle.actl.specs.Reading.{unlessFound, withClasses}
-use Rattle.actl.specs.inner.NodeBytes.{bytesOfNodes}
-use Rattle.actl.specs.inner.Walk.{kind_of, kindsOf, kindsIn}
-use Rattle.actl.specs.inner.Writing.{preparedBytes, NodesHeld}
+use Rattle.lts.specs.Reply.{accepted, refusal, unless, left_in, answers}
+use Rattle.actl.specs.Formulas.{Formula, tru, size, nodes, highest_without_class}
+use Rattle.actl.specs.Prepared.{formula_bytes}
+use Rattle.actl.specs.Reading.{unless_found, with_classes}
+use Rattle.actl.specs.inner.NodeBytes.{bytes_of_nodes}
+use Rattle.actl.specs.inner.Walk.{kind_of, kinds_of, kinds_in}
+use Rattle.actl.specs.inner.Writing.{prepared_bytes, NodesHeld}
 use Rattle.formula_text.specs.inner.FormulaAnswers.{FormulaAnswered}
 use Rattle.formula_text.specs.declared.FormulaReply.TheVariants.{Accepted, NameUnknown, TooManyNodes, NoClass}
 use Rattle.actl.proofs.Nodes.{length-nodes}
@@ -35,18 +35,18 @@ map-numbered d g h (x ∷ l) j e =
     λ n. (ap g (sym (add-zero j)) ∙ e 0 (omega arith)) n ∷ map-numbered d g h l (suc j) (λ i w. ap g (moved i) ∙ e (suc i) (omega arith)) n
 
 -- The first bytes of b are copied, and the count is put before them.
-pub bytes-copied : (b e x : List ℕ) (n m : ℕ) → formulaLength ≤ length b → formulaLength ≤ length e → m ≡ formulaLength
-    → x ≡ take m (take formulaLength b) ++ drop m e → set x 0 n ≡ pasted e 0 (preparedBytes b n)
-bytes-copied b e x n m h k z p =
-    let f = take formulaLength b in
-    let l : length f ≡ formulaLength = length-take-le formulaLength b h in
+pub bytes_copied : (b e x : List ℕ) (n m : ℕ) → formula_length ≤ length b → formula_length ≤ length e → m ≡ formula_length
+    → x ≡ take m (take formula_length b) ++ drop m e → set x 0 n ≡ pasted e 0 (prepared_bytes b n)
+bytes_copied b e x n m h k z p =
+    let f = take formula_length b in
+    let l : length f ≡ formula_length = length-take-le formula_length b h in
     let g : f ≡ get_or f 0 0 ∷ drop 1 f = drop-cons f 0 0 (omega arith) in
-    let w : formulaLength ≡ 0 + length (preparedBytes b n) = omega (arith, length-drop 1 f) in
-    ap (λ y. set y 0 n) (p ∙ (ap (λ i. take i f ++ drop i e) z ∙ (λ i. (take_all formulaLength f (omega arith) ∙ g) i ++ drop formulaLength e)))
-    ∙ ap (λ i. preparedBytes b n ++ drop i e) w
+    let w : formula_length ≡ 0 + length (prepared_bytes b n) = omega (arith, length-drop 1 f) in
+    ap (λ y. set y 0 n) (p ∙ (ap (λ i. take i f ++ drop i e) z ∙ (λ i. (take_all formula_length f (omega arith) ∙ g) i ++ drop formula_length e)))
+    ∙ ap (λ i. prepared_bytes b n ++ drop i e) w
 
-zeros-part : (k j r : ℕ) → j + k ≤ r → take {A = ℕ} k (drop j (replicate r 0)) ≡ replicate k 0
-zeros-part k j r h =
+zeros_part : (k j r : ℕ) → j + k ≤ r → take {A = ℕ} k (drop j (replicate r 0)) ≡ replicate k 0
+zeros_part k j r h =
     let z : List ℕ = replicate r 0 in
     let l : length (drop j z) ≡ r - j = length-drop j z ∙ ap (λ n. n - j) (length-replicate {A = ℕ} r 0) in
     let long : length (take k (drop j z)) ≡ k = length-take-le k (drop j z) (omega arith) in
@@ -55,80 +55,80 @@ zeros-part k j r h =
     get_or-take k (drop j z) i 0 near ∙ (get_or-drop j z i 0 ∙ (get_or-replicate r (j + i) 0 0 (omega arith) ∙ sym (get_or-replicate k i 0 0 near))))
 
 module _ (b : List ℕ) (n : ℕ) (F : Formula)
-    (count : n ≡ size F) (made : b ≡ pasted (replicate formulaLength 0) 1 (bytesOfNodes F)) (few : n ≤ mostNodes) where
-  pub bytes-are : preparedBytes b n ≡ formulaBytes F
-  unfolding formulaBytes
+    (count : n ≡ size F) (made : b ≡ pasted (replicate formula_length 0) 1 (bytes_of_nodes F)) (few : n ≤ most_nodes) where
+  pub bytes-are : prepared_bytes b n ≡ formula_bytes F
+  unfolding formula_bytes
   bytes-are =
-      let B = bytesOfNodes F in
-      let Z : List ℕ = drop (1 + length B) (replicate formulaLength 0) in
-      let w = mostNodes * nodeSlotLength in
+      let B = bytes_of_nodes F in
+      let Z : List ℕ = drop (1 + length B) (replicate formula_length 0) in
+      let w = most_nodes * node_slot_length in
       let l = bytes-length F in
       let s : w ≡ length B + (w - length B) = omega arith in
-      let zeros = zeros-part (w - length B) (1 + length B) formulaLength (omega arith) in
+      let zeros = zeros_part (w - length B) (1 + length B) formula_length (omega arith) in
       let t : take w (B ++ Z) ≡ B ++ replicate (w - length B) 0
       = ap (λ k. take k (B ++ Z)) s ∙ (take-append-add B Z (w - length B) ∙ ap (λ x. B ++ x) zeros) in
-      ap (λ x. n ∷ drop 1 (take formulaLength x)) made ∙ (λ i. count i ∷ t i)
+      ap (λ x. n ∷ drop 1 (take formula_length x)) made ∙ (λ i. count i ∷ t i)
 
   same_count : n ≡ length (nodes F)
   same_count = count ∙ sym (length-nodes F)
 
-  kind-of : (k : ℕ) → k < n → get_or b (1 + k * nodeSlotLength) 0 ≡ kind_of (get_or (nodes F) k tru)
+  kind-of : (k : ℕ) → k < n → get_or b (1 + k * node_slot_length) 0 ≡ kind_of (get_or (nodes F) k tru)
   kind-of k h =
-      let i = k * nodeSlotLength in
+      let i = k * node_slot_length in
       let q : 1 + i ≡ suc i = omega arith in
-      sym (get_or-take formulaLength b (1 + i) 0 (omega arith))
-      ∙ (sym (get_or-drop 1 (take formulaLength b) i 0)
-      ∙ (sym (ap (λ j. get_or (preparedBytes b n) j 0) q)
+      sym (get_or-take formula_length b (1 + i) 0 (omega arith))
+      ∙ (sym (get_or-drop 1 (take formula_length b) i 0)
+      ∙ (sym (ap (λ j. get_or (prepared_bytes b n) j 0) q)
       ∙ (ap (λ l. get_or l (1 + i) 0) bytes-are ∙ (slot-of-form F k (omega (arith, count))).same_kind)))
 
-  pub kinds-are : kindsIn b n ≡ kindsOf F
-  kinds-are = ap (kindsIn b) same_count ∙ map-numbered tru (λ k. get_or b (1 + k * nodeSlotLength) 0) kind_of (nodes F) 0
-      (λ i w. ap (λ j. get_or b (1 + j * nodeSlotLength) 0) (zero-add i) ∙ kind-of i (omega (arith, same_count)))
+  pub kinds_are : kinds_in b n ≡ kinds_of F
+  kinds_are = ap (kinds_in b) same_count ∙ map-numbered tru (λ k. get_or b (1 + k * node_slot_length) 0) kind_of (nodes F) 0
+      (λ i w. ap (λ j. get_or b (1 + j * node_slot_length) 0) (zero-add i) ∙ kind-of i (omega (arith, same_count)))
 
 -- The order of the refusals.
 module _ (b : List ℕ) (n lost : ℕ) (e : List ℕ) (F : Formula) where
-  pub answer-unknown : (o : Option ℕ) → NodesHeld b n lost F o → (lost ≡ 0 → ⊥)
-      → FormulaAnswered (unlessFound o 7 (withClasses F)) e (NameUnknown (lost - 1)) e
-  answer-unknown none h z = absurd (z h.lacks)
-  answer-unknown (some a) h z =
+  pub answer_unknown : (o : Option ℕ) → NodesHeld b n lost F o → (lost ≡ 0 → ⊥)
+      → FormulaAnswered (unless_found o 7 (with_classes F)) e (NameUnknown (lost - 1)) e
+  answer_unknown none h z = absurd (z h.lacks)
+  answer_unknown (some a) h z =
       let w : lost - 1 ≡ a = omega (arith, h.lacks) in
       record { replies = ap (refusal 7) w; leaves = refl }
 
   module _ (z : lost ≡ 0) where
-    pub answer-many : (o : Option ℕ) → NodesHeld b n lost F o → 40 < n → FormulaAnswered (unlessFound o 7 (withClasses F)) e (TooManyNodes n) e
+    pub answer-many : (o : Option ℕ) → NodesHeld b n lost F o → 40 < n → FormulaAnswered (unless_found o 7 (with_classes F)) e (TooManyNodes n) e
     answer-many (some a) h w = absurd (omega (arith, h.lacks))
     answer-many none h w =
-        let t : leb (size F) mostNodes ≡ false = lt-leb (size F) mostNodes (omega (arith, h.count)) in
-        let q : withClasses F ≡ refusal 8 n
-        = ap (λ v. unless v 8 (size F) (unlessFound (highestWithoutClass F) 9 (accepted F))) t ∙ ap (refusal 8) (sym h.count) in
-        record { replies = sym (ap (answers (λ F. tt)) q); leaves = sym (ap (λ a. leftIn formulaBytes a e) q) }
+        let t : leb (size F) most_nodes ≡ false = lt-leb (size F) most_nodes (omega (arith, h.count)) in
+        let q : with_classes F ≡ refusal 8 n
+        = ap (λ v. unless v 8 (size F) (unless_found (highest_without_class F) 9 (accepted F))) t ∙ ap (refusal 8) (sym h.count) in
+        record { replies = sym (ap (answers (λ F. tt)) q); leaves = sym (ap (λ a. left_in formula_bytes a e) q) }
 
-    module _ (w : n ≤ mostNodes) (h : NodesHeld b n lost F none) where
-      few : withClasses F ≡ unlessFound (highestWithoutClass F) 9 (accepted F)
-      few = ap (λ v. unless v 8 (size F) (unlessFound (highestWithoutClass F) 9 (accepted F)))
-          (le-leb (size F) mostNodes (omega (arith, h.count)))
+    module _ (w : n ≤ most_nodes) (h : NodesHeld b n lost F none) where
+      few : with_classes F ≡ unless_found (highest_without_class F) 9 (accepted F)
+      few = ap (λ v. unless v 8 (size F) (unless_found (highest_without_class F) 9 (accepted F)))
+          (le-leb (size F) most_nodes (omega (arith, h.count)))
 
-      classless : (k : ℕ) → some k ≡ highestWithoutClass F → FormulaAnswered (withClasses F) e (NoClass k) e
+      classless : (k : ℕ) → some k ≡ highest_without_class F → FormulaAnswered (with_classes F) e (NoClass k) e
       classless k q =
-          let r : withClasses F ≡ refusal 9 k = few ∙ ap (λ o. unlessFound o 9 (accepted F)) (sym q) in
-          record { replies = sym (ap (answers (λ F. tt)) r); leaves = sym (ap (λ a. leftIn formulaBytes a e) r) }
+          let r : with_classes F ≡ refusal 9 k = few ∙ ap (λ o. unless_found o 9 (accepted F)) (sym q) in
+          record { replies = sym (ap (answers (λ F. tt)) r); leaves = sym (ap (λ a. left_in formula_bytes a e) r) }
 
-      classed : (x : List ℕ) → none ≡ highestWithoutClass F → x ≡ pasted e 0 (preparedBytes b n) → FormulaAnswered (withClasses F) e Accepted x
+      classed : (x : List ℕ) → none ≡ highest_without_class F → x ≡ pasted e 0 (prepared_bytes b n) → FormulaAnswered (with_classes F) e Accepted x
       classed x q p =
-          let r : withClasses F ≡ accepted F = few ∙ ap (λ o. unlessFound o 9 (accepted F)) (sym q) in
+          let r : with_classes F ≡ accepted F = few ∙ ap (λ o. unless_found o 9 (accepted F)) (sym q) in
           let f = bytes-are b n F h.count (h.made w) w in
           record {
             replies = sym (ap (answers (λ F. tt)) r);
-            leaves = p ∙ ((λ i. f i ++ drop (0 + length (f i)) e) ∙ (ap (λ k. formulaBytes F ++ drop k e) (zero-add (length (formulaBytes F)))
-                ∙ sym (ap (λ a. leftIn formulaBytes a e) r)));
+            leaves = p ∙ ((λ i. f i ++ drop (0 + length (f i)) e) ∙ (ap (λ k. formula_bytes F ++ drop k e) (zero-add (length (formula_bytes F)))
+                ∙ sym (ap (λ a. left_in formula_bytes a e) r)));
           }
 
-    pub answer-classless : (o : Option ℕ) → NodesHeld b n lost F o → n ≤ mostNodes
-        → (k : ℕ) → some k ≡ highestWithoutClass F → FormulaAnswered (unlessFound o 7 (withClasses F)) e (NoClass k) e
-    answer-classless (some a) h w k q = absurd (omega (arith, h.lacks))
-    answer-classless none h w k q = classless w h k q
+    pub answer_classless : (o : Option ℕ) → NodesHeld b n lost F o → n ≤ most_nodes
+        → (k : ℕ) → some k ≡ highest_without_class F → FormulaAnswered (unless_found o 7 (with_classes F)) e (NoClass k) e
+    answer_classless (some a) h w k q = absurd (omega (arith, h.lacks))
+    answer_classless none h w k q = classless w h k q
 
-    pub answer-accepted : (o : Option ℕ) → NodesHeld b n lost F o → n ≤ mostNodes → (x : List ℕ) → none ≡ highestWithoutClass F
-        → x ≡ pasted e 0 (preparedBytes b n) → FormulaAnswered (unlessFound o 7 (withClasses F)) e Accepted x
+    pub answer-accepted : (o : Option ℕ) → NodesHeld b n lost F o → n ≤ most_nodes → (x : List ℕ) → none ≡ highest_without_class F
+        → x ≡ pasted e 0 (prepared_bytes b n) → FormulaAnswered (unless_found o 7 (with_classes F)) e Accepted x
     answer-accepted (some a) h w x q p = absurd (omega (arith, h.lacks))
     answer-accepted none h w x q p = classed w h x q p

@@ -4,12 +4,12 @@ use Rattle.lts.specs.Reply.{Reply, accepted, refusal}
 use Rattle.formula_text.specs.declared.FormulaReply.{FormulaReply}
 use Rattle.formula_text.specs.declared.FormulaReply.TheVariants.{Accepted, TooLong, NotGrammatical, NameUnknown, TooManyNodes, NoClass, TableForeign, BufferShort}
 
-abbrev pub formulaReply : FormulaReply → Reply (Unit {0})
-formulaReply Accepted = accepted tt
-formulaReply (TooLong length) = refusal 5 length
-formulaReply (NotGrammatical longest) = refusal 6 longest
-formulaReply (NameUnknown offset) = refusal 7 offset
-formulaReply (TooManyNodes nodes) = refusal 8 nodes
-formulaReply (NoClass node) = refusal 9 node
-formulaReply TableForeign = refusal 10 0
-formulaReply (BufferShort needed) = refusal 14 needed
+abbrev pub formula_reply : FormulaReply → Reply (Unit {0})
+formula_reply Accepted = accepted tt
+formula_reply (TooLong length) = refusal 5 length
+formula_reply (NotGrammatical longest) = refusal 6 longest
+formula_reply (NameUnknown offset) = refusal 7 offset
+formula_reply (TooManyNodes nodes) = refusal 8 nodes
+formula_reply (NoClass node) = refusal 9 node
+formula_reply TableForeign = refusal 10 0
+formula_reply (BufferShort needed) = refusal 14 needed

@@ -1,12 +1,12 @@
 // Reading a formula's text over a prepared table.
 ghost use Rattle.std.specs.Prelude.{◌≡◌, ◌≤◌, length};
 ghost use Rattle.lts.specs.inner.HoldsTable.{HoldsTable};
-ghost use Rattle.actl.specs.Sizes.{formulaLength};
-ghost use Rattle.actl.specs.inner.Reading.{readFormula};
-ghost use Rattle.actl.specs.inner.Readers.{namesIn};
+ghost use Rattle.actl.specs.Sizes.{formula_length};
+ghost use Rattle.actl.specs.inner.Reading.{read_formula};
+ghost use Rattle.actl.specs.inner.Readers.{names_in};
 ghost use Rattle.formula_text.specs.inner.FormulaAnswers.{FormulaAnswered};
-ghost use Rattle.formula_text.specs.Replies.{formulaReply};
-ghost use Rattle.actl.specs.FormulaReading.{formulaReplied, formulaLeft};
+ghost use Rattle.formula_text.specs.Replies.{formula_reply};
+ghost use Rattle.actl.specs.FormulaReading.{formula_replied, formula_left};
 ghost use Rattle.actl.specs.ByGrammar.{FormulaByGrammar};
 
 use crate::writing::answer;
@@ -31,8 +31,8 @@ pub enum FormulaReply {
 
 // 01: "Formulas go 5, 6, 7, 8, 9." The text, over the bytes of a table.
 pub fn read_text_over(table: &[u8], text: &[u8], formula: &mut [u8]) -> FormulaReply
-    requires { HoldsTable table.now × (formulaLength ≤ length formula.old) }
-    ensures { FormulaAnswered (readFormula (namesIn table.now) text.now) formula.old result formula.new }
+    requires { HoldsTable table.now × (formula_length ≤ length formula.old) }
+    ensures { FormulaAnswered (read_formula (names_in table.now) text.now) formula.old result formula.new }
 {
     if LONGEST_TEXT < text.len() {
         return FormulaReply::TooLong(text.len());
@@ -47,9 +47,9 @@ pub fn read_text_over(table: &[u8], text: &[u8], formula: &mut [u8]) -> FormulaR
 
 // Reads a formula's text over a prepared table. 01: "Order: 14 first, then 10"; "Formulas go 5, 6, 7, 8, 9."
 pub fn read_formula(table: &[u8], text: &[u8], formula: &mut [u8]) -> FormulaReply
-    ensures result_value { formulaReply result ≡ formulaReplied table.now text.now formula.old }
-    ensures formula_after { formula.new ≡ formulaLeft table.now text.now formula.old }
-    ensures formula_by_grammar { FormulaByGrammar table.now text.now formula.old (formulaReply result) formula.new }
+    ensures result_value { formula_reply result ≡ formula_replied table.now text.now formula.old }
+    ensures formula_after { formula.new ≡ formula_left table.now text.now formula.old }
+    ensures formula_by_grammar { FormulaByGrammar table.now text.now formula.old (formula_reply result) formula.new }
 {
     if table.len() < TABLE_LENGTH {
         return FormulaReply::BufferShort(TABLE_LENGTH);

@@ -1,8 +1,8 @@
 // The answer behind the grammar, and the prepared bytes: what reading left goes into the lent buffer.
 ghost use Rattle.std.specs.Prelude.{◌≡◌, ◌≤◌, length};
-ghost use Rattle.actl.specs.Sizes.{mostNodes, formulaLength};
+ghost use Rattle.actl.specs.Sizes.{most_nodes, formula_length};
 ghost use Rattle.columns.specs.inner.Write.{pasted};
-ghost use Rattle.actl.specs.inner.Writing.{preparedBytes};
+ghost use Rattle.actl.specs.inner.Writing.{prepared_bytes};
 ghost use Rattle.formula_text.specs.inner.FormulaAnswers.{FormulaAnsweredWith};
 
 use crate::FormulaReply;
@@ -12,8 +12,8 @@ use formula_classes::{Classless, highest_classless};
 
 // The node count, then the nodes and the zeros behind them.
 fn write_bytes(nodes: &[u8], n: usize, formula: &mut [u8])
-    requires { (length nodes.now ≡ formulaLength) × (n ≤ mostNodes) × (formulaLength ≤ length formula.old) }
-    ensures { formula.new ≡ pasted formula.old 0 (preparedBytes nodes.now n) }
+    requires { (length nodes.now ≡ formula_length) × (n ≤ most_nodes) × (formula_length ≤ length formula.old) }
+    ensures { formula.new ≡ pasted formula.old 0 (prepared_bytes nodes.now n) }
 {
     copy(&nodes[..FORMULA_LENGTH], formula);
     formula[0] = n as u8;
@@ -26,7 +26,7 @@ pub fn answer(
     lost: usize,
     formula: &mut [u8],
 ) -> FormulaReply
-    requires { (length nodes.now ≡ formulaLength) × (formulaLength ≤ length formula.old) }
+    requires { (length nodes.now ≡ formula_length) × (formula_length ≤ length formula.old) }
     ensures { FormulaAnsweredWith nodes.now n lost formula.old result formula.new }
 {
     if lost != 0 {

@@ -2,17 +2,17 @@
 ghost use Rattle.std.specs.Prelude.{true, ◌≡◌, ◌+◌, length, false};
 ghost use Rattle.lts.specs.Steps.{labels};
 ghost use Rattle.lts.specs.inner.HoldsTable.{HoldsTable};
-ghost use Rattle.lts.specs.inner.Prepared.{tableIn};
+ghost use Rattle.lts.specs.inner.Prepared.{table_in};
 ghost use Rattle.actl.specs.inner.HoldsFormula.{HoldsFormula};
-ghost use Rattle.actl.specs.Sizes.{longestText};
-ghost use Rattle.actl.specs.Prepared.{slotWithin};
-ghost use Rattle.formulas.specs.inner.Access.{slotOfNode};
+ghost use Rattle.actl.specs.Sizes.{longest_text};
+ghost use Rattle.actl.specs.Prepared.{slot_within};
+ghost use Rattle.formulas.specs.inner.Access.{slot_of_node};
 ghost use Rattle.formula_pieces.specs.inner.Adds.{Room, Over};
-ghost use Rattle.formula_walk.specs.inner.Walk.{Walks, Stack, drained, rested, stack_of, opening, writtenAt, armAfter, pendingAfter, TextAdded};
+ghost use Rattle.formula_walk.specs.inner.Walk.{Walks, Stack, drained, rested, stack_of, opening, written_at, arm_after, pending_after, TextAdded};
 
 use formula_keywords::{put_keyword, put_until_then};
 use formula_pieces::text::put;
-use formulas::node::{Condition, Node, node_at, node_count};
+use formulas::node::{Condition, Node, node_at_lem, node_count};
 
 // Two bytes for each node.
 const PENDING: usize = 80;
@@ -64,7 +64,7 @@ fn close(pending: &[u8], top: usize, out: &mut [u8], at: usize) -> Place
 // A `|`: its own byte is pending behind its left arm, a `)` behind its right one.
 fn open(arm: bool, pending: &mut [u8], top: usize, out: &mut [u8], at: usize) -> Place
     requires { Stack pending.old (top + 2) × Room out.old at 1 }
-    ensures { Walks (opening arm 3) (pendingAfter 3 arm (stack_of pending.old top)) false
+    ensures { Walks (opening arm 3) (pending_after 3 arm (stack_of pending.old top)) false
         top at out.old out.new pending.old pending.new result }
 {
     if arm {
@@ -86,9 +86,9 @@ fn write_node(
     at: usize,
 ) -> Place
     requires over { Over table.now out.old at 1250 × Stack pending.old (top + 2) }
-    requires node_value { slotWithin (labels (tableIn table.now)) (slotOfNode node) ≡ true }
-    ensures { Walks (writtenAt (tableIn table.now).names (slotOfNode node) arm (stack_of pending.old top))
-        (pendingAfter (slotOfNode node).kind arm (stack_of pending.old top)) (armAfter (slotOfNode node).kind)
+    requires node_value { slot_within (labels (table_in table.now)) (slot_of_node node) ≡ true }
+    ensures { Walks (written_at (table_in table.now).names (slot_of_node node) arm (stack_of pending.old top))
+        (pending_after (slot_of_node node).kind arm (stack_of pending.old top)) (arm_after (slot_of_node node).kind)
         top at out.old out.new pending.old pending.new result }
 {
     match node {
@@ -112,8 +112,8 @@ fn write_node(
 
 // All of the text, from the start of `out`; its length.
 pub fn write_nodes(table: &[u8], formula: &[u8], out: &mut [u8]) -> usize
-    requires holds_table { HoldsTable table.now × (length out.old ≡ longestText) }
-    requires holds_formula { HoldsFormula (labels (tableIn table.now)) formula.now }
+    requires holds_table { HoldsTable table.now × (length out.old ≡ longest_text) }
+    requires holds_formula { HoldsFormula (labels (table_in table.now)) formula.now }
     ensures { TextAdded table.now formula.now out.old out.new result }
 {
     let count = node_count(formula);
@@ -123,7 +123,7 @@ pub fn write_nodes(table: &[u8], formula: &[u8], out: &mut [u8]) -> usize
     let mut arm = false;
     let mut k: usize = 0;
     while k < count {
-        let node = node_at(formula, k);
+        let node = node_at_lem(formula, k);
         let next = write_node(table, node, arm, &mut pending, top, out, at);
         at = next.at;
         top = next.top;

@@ -2,7 +2,7 @@
 ghost use Rattle.std.specs.Prelude.{◌≡◌};
 ghost use Rattle.lts.specs.inner.Steps.{Carried};
 ghost use Rattle.actl.specs.Actions as actions;
-ghost use Rattle.formulas.specs.inner.Access.{condIn};
+ghost use Rattle.formulas.specs.inner.Access.{cond_in};
 
 use crate::node::Condition;
 use table_steps::is_silent;
@@ -20,7 +20,7 @@ pub fn in_set(set: u64, label: usize) -> bool
 
 pub fn meets(condition: Condition, label: usize) -> bool
     requires { Carried label }
-    ensures { result ≡ actions.meets (condIn condition) label }
+    ensures { result ≡ actions.meets (cond_in condition) label }
 {
     match condition {
         Condition::Silent => is_silent(label),

@@ -2,11 +2,11 @@
 ghost use Rattle.std.specs.Prelude.{◌≡◌, true, ◌+◌, ◌*◌, ◌<◌, ◌≤◌, length, get_or};
 ghost use Rattle.columns.specs.Bytes.{low_first};
 ghost use Rattle.columns.specs.inner.Write.{pasted};
-ghost use Rattle.actl.specs.Sizes.{mostNodes, nodeSlotLength, formulaLength};
+ghost use Rattle.actl.specs.Sizes.{most_nodes, node_slot_length, formula_length};
 ghost use Rattle.actl.specs.inner.Prepared.{slot_at};
-ghost use Rattle.actl.specs.Prepared.{slot, nextSlot};
+ghost use Rattle.actl.specs.Prepared.{slot, next_slot};
 ghost use Rattle.actl.specs.inner.NodeBytes.{put_at};
-ghost use Rattle.formulas.specs.inner.Access.{condIn, slotOfNode};
+ghost use Rattle.formulas.specs.inner.Access.{cond_in, slot_of_node};
 ghost use Rattle.actl.specs.inner.Shaped.{shaped};
 
 use actl::sizes::NODE_SLOT;
@@ -33,32 +33,32 @@ pub enum Node {
 
 // The masks in the slot of node k.
 pub fn first_mask(formula: &[u8], k: usize) -> u64
-    requires { (formulaLength ≤ length formula.now) × (k < mostNodes) }
+    requires { (formula_length ≤ length formula.now) × (k < most_nodes) }
     ensures { result ≡ (slot_at formula.now k).first }
 {
     word(formula, 2 + k * NODE_SLOT)
 }
 
 pub fn second_mask(formula: &[u8], k: usize) -> u64
-    requires { (formulaLength ≤ length formula.now) × (k < mostNodes) }
+    requires { (formula_length ≤ length formula.now) × (k < most_nodes) }
     ensures { result ≡ (slot_at formula.now k).second }
 {
     word(formula, 10 + k * NODE_SLOT)
 }
 
 pub fn node_count(formula: &[u8]) -> usize
-    requires { formulaLength ≤ length formula.now }
+    requires { formula_length ≤ length formula.now }
     ensures { result ≡ get_or formula.now 0 0 }
 {
     formula[0] as usize
 }
 
 // Node k of a formula. `shaped` holds of every node's slot (proofs/Laws/Prepared.antt).
-pub fn node_at(formula: &[u8], k: usize) -> Node
-    requires formula_length_in_bounds { formulaLength ≤ length formula.now }
-    requires k_lt_most_nodes { k < mostNodes }
+pub fn node_at_lem(formula: &[u8], k: usize) -> Node
+    requires formula_length_in_bounds { formula_length ≤ length formula.now }
+    requires k_lt_most_nodes { k < most_nodes }
     requires k_value { shaped (slot_at formula.now k) ≡ true }
-    ensures { slotOfNode result ≡ slot_at formula.now k }
+    ensures { slot_of_node result ≡ slot_at formula.now k }
 {
     match formula[1 + k * NODE_SLOT] {
         1 => Node::True,
@@ -94,7 +94,7 @@ fn slot_with(kind: u8, first: u64, second: u64) -> Slot
 // The slot of EX or AX: the kind of the silent step, and of a set the kind behind it.
 fn next_slot(kind: u8, condition: Condition) -> Slot
     requires { kind < 255 }
-    ensures { slot result.kind result.first result.second ≡ nextSlot kind (condIn condition) }
+    ensures { slot result.kind result.first result.second ≡ next_slot kind (cond_in condition) }
 {
     match condition {
         Condition::Silent => slot_with(kind, 0, 0),
@@ -103,7 +103,7 @@ fn next_slot(kind: u8, condition: Condition) -> Slot
 }
 
 fn slot_of(node: Node) -> Slot
-    ensures { slot result.kind result.first result.second ≡ slotOfNode node }
+    ensures { slot result.kind result.first result.second ≡ slot_of_node node }
 {
     match node {
         Node::True => slot_with(1, 0, 0),
@@ -130,10 +130,10 @@ fn put_mask(formula: &mut [u8], at: usize, mask: u64)
     }
 }
 
-// Writes node k where `node_at` reads it.
+// Writes node k where `node_at_lem` reads it.
 pub fn put_node(formula: &mut [u8], k: usize, node: Node)
-    requires { 1 + k * nodeSlotLength + nodeSlotLength ≤ length formula.old }
-    ensures { formula.new ≡ put_at k (slotOfNode node) formula.old }
+    requires { 1 + k * node_slot_length + node_slot_length ≤ length formula.old }
+    ensures { formula.new ≡ put_at k (slot_of_node node) formula.old }
 {
     let slot = slot_of(node);
     let at = 1 + k * NODE_SLOT;

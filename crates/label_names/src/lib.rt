@@ -2,18 +2,18 @@
 // of names. A slot has 16 bytes: the name's length, its bytes, zeros. A name is compared where it stands, and none is copied. Nothing else
 // knows the bytes of a name; two slots of a prepared table are compared whole, by `table_check`.
 ghost use Rattle.std.specs.Prelude.{◌≡◌, ◌+◌, ◌*◌, ◌≤◌, ◌<◌, suc, length};
-ghost use Rattle.lts.specs.Sizes.{mostLabels, nameSlotLength, tableLength};
-ghost use Rattle.columns.specs.Bytes.{sameBytes};
+ghost use Rattle.lts.specs.Sizes.{most_labels, name_slot_length, table_length};
+ghost use Rattle.columns.specs.Bytes.{same_bytes};
 ghost use Rattle.lts.specs.Steps.{labels};
-ghost use Rattle.lts.specs.inner.Sizes.{longestName};
-ghost use Rattle.lts.specs.Names.{isLower, isNameByte, lookup};
-ghost use Rattle.lts.specs.Directions.{labelDirection, directionCode, sameDirection};
-ghost use Rattle.lts.specs.inner.NameEnds.{stemEnd, nameEnd, nameDirection};
-ghost use Rattle.lts.specs.inner.Prepared.{tableIn};
+ghost use Rattle.lts.specs.inner.Sizes.{longest_name};
+ghost use Rattle.lts.specs.Names.{is_lower, is_name_byte, lookup};
+ghost use Rattle.lts.specs.Directions.{label_direction, direction_code, same_direction};
+ghost use Rattle.lts.specs.inner.NameEnds.{stem_end, name_end, name_direction};
+ghost use Rattle.lts.specs.inner.Prepared.{table_in};
 ghost use Rattle.lts.specs.inner.HoldsTable.{HoldsTable};
-ghost use Rattle.lts.specs.inner.Slots.{storedName, storedNames};
-ghost use Rattle.tables.specs.inner.Access.{foundIn};
-ghost use Rattle.label_names.specs.inner.Names.{directionIn, NameStands};
+ghost use Rattle.lts.specs.inner.Slots.{stored_name, stored_names};
+ghost use Rattle.tables.specs.inner.Access.{found_in};
+ghost use Rattle.label_names.specs.inner.Names.{direction_in, NameStands};
 
 use byte_words::same::same_parts;
 use lts::sizes::{HEAD, NAME_BYTES_AT, NAME_SLOT, TRANSITIONS_AT};
@@ -43,13 +43,13 @@ pub struct NameSpan {
 }
 
 fn is_lower(b: usize) -> bool
-    ensures { result ≡ isLower b }
+    ensures { result ≡ is_lower b }
 {
     97 <= b && b <= 122
 }
 
 fn is_name_byte(b: usize) -> bool
-    ensures { result ≡ isNameByte b }
+    ensures { result ≡ is_name_byte b }
 {
     if is_lower(b) {
         return true;
@@ -63,7 +63,7 @@ fn is_name_byte(b: usize) -> bool
 // The place behind the longest name at `from`, its mark left out; `from` if none stands there. 01: "A name has 1 to 12 bytes"
 fn stem_end(text: &[u8], from: usize) -> usize
     requires { from ≤ length text.now }
-    ensures { result ≡ stemEnd text.now from }
+    ensures { result ≡ stem_end text.now from }
 {
     if text.len() <= from {
         return from;
@@ -88,7 +88,7 @@ fn stem_end(text: &[u8], from: usize) -> usize
 // The longest name that stands at `from`; it ends there if none does. 02: "A name may end in one `?` or `!` beyond its 12 bytes"
 pub fn read_name(text: &[u8], from: usize) -> NameRead
     requires { from ≤ length text.now }
-    ensures { (result.end ≡ nameEnd text.now from) × (directionIn result.direction ≡ nameDirection text.now from) }
+    ensures { (result.end ≡ name_end text.now from) × (direction_in result.direction ≡ name_direction text.now from) }
 {
     let end = stem_end(text, from);
     if end == from {
@@ -123,7 +123,7 @@ pub fn read_name(text: &[u8], from: usize) -> NameRead
 
 // Where the bytes of the name in slot k of a prepared table stand.
 pub fn name_span(table: &[u8], k: usize) -> NameSpan
-    requires { (tableLength ≤ length table.now) × (k < mostLabels) }
+    requires { (table_length ≤ length table.now) × (k < most_labels) }
     ensures { NameStands table.now k result }
 {
     let at = NAME_BYTES_AT + k * NAME_SLOT;
@@ -135,8 +135,8 @@ pub fn name_span(table: &[u8], k: usize) -> NameSpan
 
 // The direction of label k + 1 of a prepared table.
 pub fn label_direction(table: &[u8], k: usize) -> Direction
-    requires { HoldsTable table.now × (k < labels (tableIn table.now)) }
-    ensures { directionIn result ≡ labelDirection (tableIn table.now).names (suc k) }
+    requires { HoldsTable table.now × (k < labels (table_in table.now)) }
+    ensures { direction_in result ≡ label_direction (table_in table.now).names (suc k) }
 {
     let span = name_span(table, k);
     let at = span.from;
@@ -147,7 +147,7 @@ pub fn label_direction(table: &[u8], k: usize) -> Direction
 
 // Numbers tell directions apart.
 fn direction_code(d: Direction) -> u8
-    ensures { result ≡ directionCode (directionIn d) }
+    ensures { result ≡ direction_code (direction_in d) }
 {
     match d {
         Direction::Neither => 0,
@@ -157,15 +157,15 @@ fn direction_code(d: Direction) -> u8
 }
 
 pub fn same_direction(a: Direction, b: Direction) -> bool
-    ensures { result ≡ sameDirection (directionIn a) (directionIn b) }
+    ensures { result ≡ same_direction (direction_in a) (direction_in b) }
 {
     direction_code(a) == direction_code(b)
 }
 
 // Whether the name in slot k is `name`; a beginning of it is another name.
 fn same_name(slots: &[u8], k: usize, name: &[u8]) -> bool
-    requires { (k * nameSlotLength + nameSlotLength ≤ length slots.now) × (length name.now ≤ longestName) }
-    ensures { result ≡ sameBytes (storedName slots.now k) name.now }
+    requires { (k * name_slot_length + name_slot_length ≤ length slots.now) × (length name.now ≤ longest_name) }
+    ensures { result ≡ same_bytes (stored_name slots.now k) name.now }
 {
     let at = k * NAME_SLOT;
     let size = byte(slots, at);
@@ -179,8 +179,8 @@ fn same_name(slots: &[u8], k: usize, name: &[u8]) -> bool
 
 // The number of the label, of those in the first `count` slots, that has a name.
 pub fn find(slots: &[u8], count: usize, name: &[u8]) -> Lookup
-    requires { (count * nameSlotLength ≤ length slots.now) × (length name.now ≤ longestName) }
-    ensures { foundIn result ≡ lookup (storedNames slots.now count) name.now }
+    requires { (count * name_slot_length ≤ length slots.now) × (length name.now ≤ longest_name) }
+    ensures { found_in result ≡ lookup (stored_names slots.now count) name.now }
 {
     let mut k: usize = 0;
     while k < count {
@@ -194,8 +194,8 @@ pub fn find(slots: &[u8], count: usize, name: &[u8]) -> Lookup
 
 // The number of the label of a prepared table that has a name.
 pub fn find_label(table: &[u8], name: &[u8]) -> Lookup
-    requires { (tableLength ≤ length table.now) × ((labels (tableIn table.now) ≤ mostLabels) × (length name.now ≤ longestName)) }
-    ensures { foundIn result ≡ lookup (tableIn table.now).names name.now }
+    requires { (table_length ≤ length table.now) × ((labels (table_in table.now) ≤ most_labels) × (length name.now ≤ longest_name)) }
+    ensures { found_in result ≡ lookup (table_in table.now).names name.now }
 {
     let count = label_count(table);
     find(&table[HEAD..TRANSITIONS_AT], count, name)

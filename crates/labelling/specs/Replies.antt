@@ -5,7 +5,7 @@ use Rattle.formula_check.specs.Inputs.{unprepared}
 use Rattle.labelling.specs.declared.VerdictReply.{VerdictReply}
 use Rattle.labelling.specs.declared.VerdictReply.TheVariants.{Holds, Fails, Refused}
 
-abbrev pub verdictReply : VerdictReply → Reply ℕ
-verdictReply Holds = accepted 1
-verdictReply Fails = accepted 0
-verdictReply (Refused why) = unprepared why
+abbrev pub verdict_reply : VerdictReply → Reply ℕ
+verdict_reply Holds = accepted 1
+verdict_reply Fails = accepted 0
+verdict_reply (Refused why) = unprepared why

@@ -11,12 +11,12 @@ mod steps;
 
 ghost use Rattle.std.specs.Prelude.{◌≡◌};
 ghost use Rattle.lts.specs.Steps.{labels};
-ghost use Rattle.lts.specs.inner.Prepared.{tableIn};
+ghost use Rattle.lts.specs.inner.Prepared.{table_in};
 ghost use Rattle.lts.specs.inner.HoldsTable.{HoldsTable};
 ghost use Rattle.labelling.specs.inner.Nodes.{AtStart};
 ghost use Rattle.actl.specs.inner.HoldsFormula.{HoldsFormula};
-ghost use Rattle.satisfaction.specs.VerdictAsked.{verdictReplied, VerdictAnswered};
-ghost use Rattle.labelling.specs.Replies.{verdictReply};
+ghost use Rattle.satisfaction.specs.VerdictAsked.{verdict_replied, VerdictAnswered};
+ghost use Rattle.labelling.specs.Replies.{verdict_reply};
 
 // What `verdict` answers. specs/Replies.antt lists the number and the figure of each case.
 #[derive(Drop)]
@@ -29,7 +29,7 @@ pub enum VerdictReply {
 // Whether a prepared formula holds at the start of a prepared table.
 fn holds_at_start(table: &[u8], formula: &[u8]) -> bool
     requires holds_table { HoldsTable table.now }
-    requires holds_formula { HoldsFormula (labels (tableIn table.now)) formula.now }
+    requires holds_formula { HoldsFormula (labels (table_in table.now)) formula.now }
     ensures { AtStart table.now formula.now result }
 {
     let mut steps = [0u16; STEPS];
@@ -45,8 +45,8 @@ fn holds_at_start(table: &[u8], formula: &[u8]) -> bool
 
 // 1 exactly if the formula holds at the start by Definition 3, and else 0; 14, 10 in this order.
 pub fn verdict(table: &[u8], formula: &[u8]) -> VerdictReply
-    ensures result_value { verdictReply result ≡ verdictReplied table.now formula.now }
-    ensures verdict_answered { VerdictAnswered table.now formula.now (verdictReply result) }
+    ensures result_value { verdict_reply result ≡ verdict_replied table.now formula.now }
+    ensures verdict_answered { VerdictAnswered table.now formula.now (verdict_reply result) }
 {
     if let Inputs::Refused(why) = check_inputs(table, formula) {
         return VerdictReply::Refused(why);

@@ -1,12 +1,12 @@
 // Where every node of a prepared formula holds: from the last node to the first, so that arms come before their node.
 ghost use Rattle.std.specs.Prelude.{◌≡◌, ◌+◌, ◌<◌, length, get_or};
-ghost use Rattle.actl.specs.Sizes.{mostNodes};
-ghost use Rattle.actl.specs.inner.Sizes.{nodePositions};
+ghost use Rattle.actl.specs.Sizes.{most_nodes};
+ghost use Rattle.actl.specs.inner.Sizes.{node_positions};
 ghost use Rattle.lts.specs.Steps.{labels};
-ghost use Rattle.lts.specs.inner.Prepared.{tableIn};
+ghost use Rattle.lts.specs.inner.Prepared.{table_in};
 ghost use Rattle.lts.specs.inner.HoldsTable.{HoldsTable};
 ghost use Rattle.table_steps.specs.inner.StepArray.{StepsOf};
-ghost use Rattle.until_search.specs.inner.Flags.{nodeHolds, Flags};
+ghost use Rattle.until_search.specs.inner.Flags.{node_holds, Flags};
 ghost use Rattle.labelling.specs.inner.Rows.{row_at, RowIn, RowOf};
 ghost use Rattle.until_search.specs.inner.Links.{Linked};
 ghost use Rattle.labelling.specs.inner.Nodes.{RowPut, ArmsLabelled, NodeRow, NodesLabelled};
@@ -15,7 +15,7 @@ ghost use Rattle.actl.specs.inner.HoldsFormula.{HoldsFormula, ArmsEnd};
 use crate::steps::label_at_once;
 use actl::sizes::{NODE_POSITIONS, NODES};
 use formula_classes::right_arm;
-use formulas::node::{Node, node_at, node_count};
+use formulas::node::{Node, node_at_lem, node_count};
 use lts::sizes::{FIRSTS, STATES, STEPS};
 use tables::prepared::state_count;
 use until_search::links::entering;
@@ -34,10 +34,10 @@ fn label_node(
     found: &mut [bool; STATES],
 )
     requires holds_table { HoldsTable table.now }
-    requires steps_of { StepsOf (tableIn table.now) steps.now firsts.now }
-    requires linked { Linked (tableIn table.now) links.now × RowIn arm × RowIn other }
-    ensures { Flags (tableIn table.now).states
-        (nodeHolds (tableIn table.now) node (row_at flags.now arm) (row_at flags.now other)) found.new }
+    requires steps_of { StepsOf (table_in table.now) steps.now firsts.now }
+    requires linked { Linked (table_in table.now) links.now × RowIn arm × RowIn other }
+    ensures { Flags (table_in table.now).states
+        (node_holds (table_in table.now) node (row_at flags.now arm) (row_at flags.now other)) found.new }
 {
     *found = label_at_once(steps, firsts, state_count(table), node, flags, arm, other);
     match node {
@@ -59,8 +59,8 @@ fn row_of(k: usize) -> usize
 }
 
 fn put_row(flags: &mut [bool; NODE_POSITIONS], k: usize, found: &[bool; STATES])
-    requires k_lt_most_nodes { k < mostNodes }
-    requires flags_len { length flags.old ≡ nodePositions }
+    requires k_lt_most_nodes { k < most_nodes }
+    requires flags_len { length flags.old ≡ node_positions }
     ensures { RowPut k found.now flags.old flags.new }
 {
     let mut s = 0;
@@ -85,7 +85,7 @@ fn row_from_arms(
     requires { ArmsLabelled table.now steps.now firsts.now links.now formula.now ends.now flags.now k }
     ensures { NodeRow table.now formula.now k found.new }
 {
-    let node = node_at(formula, k);
+    let node = node_at_lem(formula, k);
     let arm = row_of(k + 1);
     let other = row_of(right_arm(ends, k));
     label_node(table, steps, firsts, links, node, flags, arm, other, found);
@@ -101,10 +101,10 @@ pub fn label_nodes(
     flags: &mut [bool; NODE_POSITIONS],
 )
     requires holds_table { HoldsTable table.now }
-    requires steps_of { StepsOf (tableIn table.now) steps.now firsts.now }
-    requires holds_formula { HoldsFormula (labels (tableIn table.now)) formula.now }
-    requires arms_end { ArmsEnd (labels (tableIn table.now)) formula.now ends.now }
-    requires flags_len { length flags.old ≡ nodePositions }
+    requires steps_of { StepsOf (table_in table.now) steps.now firsts.now }
+    requires holds_formula { HoldsFormula (labels (table_in table.now)) formula.now }
+    requires arms_end { ArmsEnd (labels (table_in table.now)) formula.now ends.now }
+    requires flags_len { length flags.old ≡ node_positions }
     ensures { NodesLabelled table.now formula.now flags.new }
 {
     let mut links = [0u16; STEPS];

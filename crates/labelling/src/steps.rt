@@ -1,11 +1,11 @@
 // What holds at a state by the steps that leave it, idle steps included. The arms' rows stand among the flags of all nodes, and are not copied.
 ghost use Rattle.std.specs.Prelude.{◌≡◌, ◌&&◌, ◌<◌, ◌≤◌};
-ghost use Rattle.lts.specs.Sizes.{mostStates};
+ghost use Rattle.lts.specs.Sizes.{most_states};
 ghost use Rattle.lts.specs.inner.Steps.{Carried};
-ghost use Rattle.table_steps.specs.inner.StepArray.{stepsIn, StepsFit};
+ghost use Rattle.table_steps.specs.inner.StepArray.{steps_in, StepsFit};
 ghost use Rattle.actl.specs.Actions as actions;
-ghost use Rattle.formulas.specs.inner.Access.{condIn};
-ghost use Rattle.until_search.specs.inner.Flags.{asWanted, someStep, at_once, Flags};
+ghost use Rattle.formulas.specs.inner.Access.{cond_in};
+ghost use Rattle.until_search.specs.inner.Flags.{as_wanted, some_step, at_once, Flags};
 ghost use Rattle.labelling.specs.inner.Rows.{row_at, RowIn};
 
 use actl::sizes::NODE_POSITIONS;
@@ -15,7 +15,7 @@ use table_steps::{label_of, leaving, state_of};
 
 // The flag of state s in the row that begins at `at`.
 fn flag(flags: &[bool; NODE_POSITIONS], at: usize, s: usize) -> bool
-    requires { RowIn at × (s < mostStates) }
+    requires { RowIn at × (s < most_states) }
     ensures { result ≡ row_at flags.now at s }
 {
     flags[at + s]
@@ -23,7 +23,7 @@ fn flag(flags: &[bool; NODE_POSITIONS], at: usize, s: usize) -> bool
 
 fn leads(wanted: bool, condition: Condition, label: usize, there: bool) -> bool
     requires { Carried label }
-    ensures { result ≡ asWanted wanted (actions.meets (condIn condition) label && there) }
+    ensures { result ≡ as_wanted wanted (actions.meets (cond_in condition) label && there) }
 {
     if there {
         formulas::conditions::meets(condition, label) == wanted
@@ -43,8 +43,8 @@ fn some_step(
     s: usize,
 ) -> bool
     requires steps_fit { StepsFit steps.now firsts.now }
-    requires s_lt_most_states { (s < mostStates) × RowIn arm }
-    ensures { result ≡ someStep wanted (condIn condition) (row_at flags.now arm) (stepsIn steps.now firsts.now s) }
+    requires s_lt_most_states { (s < most_states) × RowIn arm }
+    ensures { result ≡ some_step wanted (cond_in condition) (row_at flags.now arm) (steps_in steps.now firsts.now s) }
 {
     let span = leaving(firsts, s);
     let end = span.to;
@@ -72,8 +72,8 @@ fn at_once(
     s: usize,
 ) -> bool
     requires steps_fit { StepsFit steps.now firsts.now }
-    requires s_lt_most_states { (s < mostStates) × RowIn arm × RowIn other }
-    ensures { result ≡ at_once node (row_at flags.now arm) (row_at flags.now other) s (stepsIn steps.now firsts.now s) }
+    requires s_lt_most_states { (s < most_states) × RowIn arm × RowIn other }
+    ensures { result ≡ at_once node (row_at flags.now arm) (row_at flags.now other) s (steps_in steps.now firsts.now s) }
 {
     match node {
         Node::True => true,
@@ -99,8 +99,8 @@ pub fn label_at_once(
     other: usize,
 ) -> [bool; STATES]
     requires steps_fit { StepsFit steps.now firsts.now }
-    requires states_le_most_states { (states ≤ mostStates) × RowIn arm × RowIn other }
-    ensures { Flags states (λ s. at_once node (row_at flags.now arm) (row_at flags.now other) s (stepsIn steps.now firsts.now s)) result }
+    requires states_le_most_states { (states ≤ most_states) × RowIn arm × RowIn other }
+    ensures { Flags states (λ s. at_once node (row_at flags.now arm) (row_at flags.now other) s (steps_in steps.now firsts.now s)) result }
 {
     let mut found = [false; STATES];
     let mut s = 0;

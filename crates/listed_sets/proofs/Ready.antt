@@ -6,23 +6,23 @@ use Prim.Native.Nat.{ℕ}
 use native.Mathlib.Omega.{arith}
 use Rattle.lts.specs.Steps.{Table}
 use Rattle.actl.specs.Formulas.{Formula}
-use Rattle.automaton.specs.Positions.{rootAt}
+use Rattle.automaton.specs.Positions.{root_at}
 use Rattle.breadth_first.specs.inner.Finding.{Live}
-use Rattle.breadth_first.specs.inner.Search.{frontierOf}
+use Rattle.breadth_first.specs.inner.Search.{frontier_of}
 use Rattle.breadth_first.specs.inner.Searched.{code, SearchReady}
-use Rattle.breadth_first.proofs.Laws.OpenPlaces.{bit-here}
+use Rattle.breadth_first.proofs.Laws.OpenPlaces.{bit_here}
 use Rattle.breadth_first.proofs.Laws.SearchRows.{code-few, open_is}
 use Rattle.listed_sets.specs.inner.Arrays.{SetArrays}
 
 pub set-arrays : {t : Table} {F : Formula} {queue slots steps firsts masks live : List ℕ} {finals : List Bool} → SearchReady t F queue slots steps firsts masks finals
     → Live slots live → SetArrays t F masks live finals
 set-arrays {t} {F} {queue} {slots} {live = live} z l = record {
-  in-range = z.in-range;
+  in_range = z.in_range;
   few = z.few;
-  masks-of = z.masks-of;
-  masks-fit = z.masks-fit;
-  finals-of = z.finals-of;
+  masks_of_lem = z.masks_of_lem;
+  masks_fit = z.masks_fit;
+  finals_of = z.finals_of;
   live_at = λ p i.
-      sym (bit-here live p.place p.state (omega (arith, i.1, z.in-range.few-states)) live)
-      ∙ (l (code p) (code-few t F z.in-range z.few p i) ∙ open_is t F z.in-range z.few (rootAt t ∷ []) (frontierOf queue slots 1) z.root-found p i);
+      sym (bit_here live p.place p.state (omega (arith, i.1, z.in_range.few_states)) live)
+      ∙ (l (code p) (code-few t F z.in_range z.few p i) ∙ open_is t F z.in_range z.few (root_at t ∷ []) (frontier_of queue slots 1) z.root_found p i);
 }

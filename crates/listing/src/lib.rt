@@ -1,9 +1,9 @@
 // Rows and edges in lent places: written and read, each in its place.
 ghost use Rattle.std.specs.Prelude.{◌≡◌, ◌+◌, ◌*◌, ◌≤◌, ◌<◌, length};
-ghost use Rattle.automaton.specs.Bytes.{rowLength, edgeLength, bit_of, edge_at};
+ghost use Rattle.automaton.specs.Bytes.{row_length, edge_length, bit_of, edge_at};
 ghost use Rattle.columns.specs.Bytes.{low_first};
 ghost use Rattle.columns.specs.inner.Write.{pasted};
-ghost use Rattle.listing.specs.inner.Places.{row_of, edgeTo, putRow, putEdge, RowRead, EdgeRead};
+ghost use Rattle.listing.specs.inner.Places.{row_of, edge_to, put_row, put_edge, RowRead, EdgeRead};
 
 use automaton::sizes::{EDGE_LENGTH, ROW_LENGTH};
 
@@ -36,9 +36,9 @@ fn wide(b: u8) -> usize
 
 // Row n, in its place.
 pub fn put_row(out: &mut [u8], n: usize, place: usize, state: usize, is_final: bool)
-    requires row_length_in_bounds { n * rowLength + rowLength ≤ length out.old }
+    requires row_length_in_bounds { n * row_length + row_length ≤ length out.old }
     requires place_bound { (place < 256) × (state < 256) }
-    ensures { out.new ≡ putRow n (row_of place state is_final) out.old }
+    ensures { out.new ≡ put_row n (row_of place state is_final) out.old }
 {
     let at = n * ROW_LENGTH;
     out[at] = place as u8;
@@ -57,9 +57,9 @@ pub fn put_pair(out: &mut [u8], at: usize, x: usize)
 
 // Edge n, in its place.
 pub fn put_edge(out: &mut [u8], n: usize, row: usize, label: usize, target: usize)
-    requires edge_length_in_bounds { n * edgeLength + edgeLength ≤ length out.old }
+    requires edge_length_in_bounds { n * edge_length + edge_length ≤ length out.old }
     requires label_bound { label < 256 }
-    ensures { out.new ≡ putEdge n (edgeTo row label target) out.old }
+    ensures { out.new ≡ put_edge n (edge_to row label target) out.old }
 {
     let at = n * EDGE_LENGTH;
     put_pair(out, at, row);
@@ -69,7 +69,7 @@ pub fn put_edge(out: &mut [u8], n: usize, row: usize, label: usize, target: usiz
 
 // The row that stands in place i.
 pub fn row_at(rows: &[u8], i: usize) -> Row
-    requires { i * rowLength + rowLength ≤ length rows.now }
+    requires { i * row_length + row_length ≤ length rows.now }
     ensures { RowRead rows.now i result }
 {
     let at = i * ROW_LENGTH;
@@ -82,7 +82,7 @@ pub fn row_at(rows: &[u8], i: usize) -> Row
 
 // The edge that stands in place j.
 pub fn edge_at(edges: &[u8], j: usize) -> Edge
-    requires { j * edgeLength + edgeLength ≤ length edges.now }
+    requires { j * edge_length + edge_length ≤ length edges.now }
     ensures { EdgeRead (edge_at edges.now j) result }
 {
     let at = j * EDGE_LENGTH;

@@ -1,17 +1,17 @@
 // The listing as text, by the bytes of rows and edges.
 ghost use Rattle.std.specs.Prelude.{◌≡◌, true, false, ◌+◌, ◌*◌, ◌≤◌, length};
-ghost use Rattle.automaton.specs.Bytes.{rowLength, edgeLength};
-ghost use Rattle.explanations.specs.Printed.{refusalLine};
-ghost use Rattle.explanations.specs.inner.Printed.{listingText, TextWritten};
-ghost use Rattle.listing_text.specs.inner.Lines.{summaryOf, lineNumbers, LineFits, LineWritten, LinesFit, LinesWritten};
+ghost use Rattle.automaton.specs.Bytes.{row_length, edge_length};
+ghost use Rattle.explanations.specs.Printed.{refusal_line};
+ghost use Rattle.explanations.specs.inner.Printed.{listing_text, TextWritten};
+ghost use Rattle.listing_text.specs.inner.Lines.{summary_of, line_numbers, LineFits, LineWritten, LinesFit, LinesWritten};
 
 use columns::write::write_numbers;
 use listing::{edge_at, row_at};
 
 // What the line of a row has.
 fn row_numbers(rows: &[u8], i: usize) -> [u64; 4]
-    requires { i * rowLength + rowLength ≤ length rows.now }
-    ensures { result ≡ lineNumbers true rows.now i }
+    requires { i * row_length + row_length ≤ length rows.now }
+    ensures { result ≡ line_numbers true rows.now i }
 {
     let row = row_at(rows, i);
     [
@@ -24,8 +24,8 @@ fn row_numbers(rows: &[u8], i: usize) -> [u64; 4]
 
 // What the line of an edge has; the last number is not printed.
 fn edge_numbers(edges: &[u8], j: usize) -> [u64; 4]
-    requires { j * edgeLength + edgeLength ≤ length edges.now }
-    ensures { result ≡ lineNumbers false edges.now j }
+    requires { j * edge_length + edge_length ≤ length edges.now }
+    ensures { result ≡ line_numbers false edges.now j }
 {
     let edge = edge_at(edges, j);
     [edge.row as u64, edge.label as u64, edge.target as u64, 0]
@@ -66,9 +66,9 @@ pub fn write_listing(
     edges: &[u8],
     out: &mut [u8],
 ) -> usize
-    requires row_length_in_bounds { (rowcount * rowLength ≤ length rows.now) × (edgecount * edgeLength ≤ length edges.now) × (rowcount ≤ 65536) }
+    requires row_length_in_bounds { (rowcount * row_length ≤ length rows.now) × (edgecount * edge_length ≤ length edges.now) × (rowcount ≤ 65536) }
     requires edgecount_in_bounds { rowcount * 25 + edgecount * 19 + 162 ≤ length out.old }
-    ensures { TextWritten (listingText (summaryOf verdict class rowcount edgecount) rows.now edges.now) out.old out.new result }
+    ensures { TextWritten (listing_text (summary_of verdict class rowcount edgecount) rows.now edges.now) out.old out.new result }
 {
     let values = [verdict, class, rowcount as u64, edgecount as u64];
     let first = write_numbers(values, 4, out, 0);
@@ -79,7 +79,7 @@ pub fn write_listing(
 // Writes a refusal's line at the start of `out`, and answers its length.
 pub fn write_refusal(number: u32, figure: u64, out: &mut [u8]) -> usize
     requires { 81 ≤ length out.old }
-    ensures { TextWritten (refusalLine number figure) out.old out.new result }
+    ensures { TextWritten (refusal_line number figure) out.old out.new result }
 {
     write_numbers([number as u64, figure, 0, 0], 2, out, 0)
 }

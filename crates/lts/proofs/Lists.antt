@@ -9,66 +9,66 @@ use native.Mathlib.Nat.{add-zero, add-suc, suc-add, zero-add}
 use native.Mathlib.Omega.{arith}
 use lib.ListN.{length, get_or}
 use lib.Seq.{slice}
-use Rattle.lts.specs.inner.Lists.{up_from, consIf, keep}
+use Rattle.lts.specs.inner.Lists.{up_from, cons_if, keep}
 use Rattle.lts.specs.Lists.{every}
 use Rattle.lts.specs.Lists.{any_of, Rising, bind}
 use Rattle.lts.proofs.Booleans.{and-true-of, and-true-to, or-true-left, or-true-of, or_true_right}
 
 -- The numbers from k.
-pub upFrom-of : (k n : ℕ) {x : ℕ} → Memᴰ x (up_from k n) → (k ≤ x) × (x < k + n)
-upFrom-of k zero m = absurd (Memᴰ.not-nil m)
-upFrom-of k (suc n) {x} m = step (upFrom-of (suc k) n) (Memᴰ.cases_cons m)
+pub up_from-of : (k n : ℕ) {x : ℕ} → Memᴰ x (up_from k n) → (k ≤ x) × (x < k + n)
+up_from-of k zero m = absurd (Memᴰ.not-nil m)
+up_from-of k (suc n) {x} m = step (up_from-of (suc k) n) (Memᴰ.cases_cons m)
   where
     step : (Memᴰ x (up_from (suc k) n) → (suc k ≤ x) × (x < suc k + n)) → (x ≡ k) ⊎ Memᴰ x (up_from (suc k) n) → (k ≤ x) × (x < k + suc n)
     step h (inl e) = (omega arith, omega arith)
     step h (inr d) = let b = h d in (omega arith, omega arith)
 
-pub upFrom-to : (k n : ℕ) (x : ℕ) → k ≤ x → x < k + n → Memᴰ x (up_from k n)
-upFrom-to k zero x l m = absurd (omega arith)
-upFrom-to k (suc n) x l m = step (x - k) (omega arith) (λ a b. upFrom-to (suc k) n x a b)
+pub up_from-to : (k n : ℕ) (x : ℕ) → k ≤ x → x < k + n → Memᴰ x (up_from k n)
+up_from-to k zero x l m = absurd (omega arith)
+up_from-to k (suc n) x l m = step (x - k) (omega arith) (λ a b. up_from-to (suc k) n x a b)
   where
     step : (d : ℕ) → x ≡ k + d → (suc k ≤ x → x < suc k + n → Memᴰ x (up_from (suc k) n)) → Memᴰ x (up_from k (suc n))
     step zero e h = let z : x ≡ k = omega arith in Memᴰ.head z
     step (suc d) e h = Memᴰ.tail (h (omega arith) (omega arith))
 
-pub upFrom-rising : (k n : ℕ) → Rising ◌<◌ (up_from k n)
-upFrom-rising k zero = tt
-upFrom-rising k (suc n) = (λ y m. (upFrom-of (suc k) n m).0, upFrom-rising (suc k) n)
+pub up_from-rising : (k n : ℕ) → Rising ◌<◌ (up_from k n)
+up_from-rising k zero = tt
+up_from-rising k (suc n) = (λ y m. (up_from-of (suc k) n m).0, up_from-rising (suc k) n)
 
-upFrom-suc : (k n : ℕ) → up_from k (suc n) ≡ up_from k n ++ ((k + n) ∷ [])
-upFrom-suc k zero = rw add-zero
-upFrom-suc k (suc n) = ap (λ l. k ∷ l) (rw (add-suc, ← suc-add) (upFrom-suc (suc k) n))
+up_from-suc : (k n : ℕ) → up_from k (suc n) ≡ up_from k n ++ ((k + n) ∷ [])
+up_from-suc k zero = rw add-zero
+up_from-suc k (suc n) = ap (λ l. k ∷ l) (rw (add-suc, ← suc-add) (up_from-suc (suc k) n))
 
-pub upFrom-length : (k n : ℕ) → length (up_from k n) ≡ n
-upFrom-length k zero = refl
-upFrom-length k (suc n) = ap suc (upFrom-length (suc k) n)
+pub up_from-length : (k n : ℕ) → length (up_from k n) ≡ n
+up_from-length k zero = refl
+up_from-length k (suc n) = ap suc (up_from-length (suc k) n)
 
-pub upFrom-at : (k n i d : ℕ) → i < n → get_or (up_from k n) i d ≡ k + i
-upFrom-at k zero i d h = absurd (omega arith)
-upFrom-at k (suc n) zero d h = rw add-zero
-upFrom-at k (suc n) (suc i) d h = rw (add-suc, ← suc-add) (upFrom-at (suc k) n i d (omega arith))
+pub up_from-at : (k n i d : ℕ) → i < n → get_or (up_from k n) i d ≡ k + i
+up_from-at k zero i d h = absurd (omega arith)
+up_from-at k (suc n) zero d h = rw add-zero
+up_from-at k (suc n) (suc i) d h = rw (add-suc, ← suc-add) (up_from-at (suc k) n i d (omega arith))
 
-pub upFrom-snoc : (n : ℕ) → up_from 0 (suc n) ≡ up_from 0 n ++ (n ∷ [])
-upFrom-snoc n = rw zero-add at (upFrom-suc 0 n)
+pub up_from_snoc : (n : ℕ) → up_from 0 (suc n) ≡ up_from 0 n ++ (n ∷ [])
+up_from_snoc n = rw zero-add at (up_from-suc 0 n)
 
 module _ {A : Type 0} where
   -- Those that pass.
-  consIf-of : (b : Bool) {x y : A} {l : List A} → Memᴰ y (consIf b x l) → ((y ≡ x) × (b ≡ true)) ⊎ Memᴰ y l
-  consIf-of false m = inr m
-  consIf-of true m = elim (Memᴰ.cases_cons m) [ inl e ↦ inl (e, refl) | inr d ↦ inr d ]
+  cons_if-of : (b : Bool) {x y : A} {l : List A} → Memᴰ y (cons_if b x l) → ((y ≡ x) × (b ≡ true)) ⊎ Memᴰ y l
+  cons_if-of false m = inr m
+  cons_if-of true m = elim (Memᴰ.cases_cons m) [ inl e ↦ inl (e, refl) | inr d ↦ inr d ]
 
-  consIf-more : (b : Bool) (x : A) {y : A} {l : List A} → Memᴰ y l → Memᴰ y (consIf b x l)
-  consIf-more false x m = m
-  consIf-more true x m = Memᴰ.tail m
+  cons_if-more : (b : Bool) (x : A) {y : A} {l : List A} → Memᴰ y l → Memᴰ y (cons_if b x l)
+  cons_if-more false x m = m
+  cons_if-more true x m = Memᴰ.tail m
 
-  consIf-head : (b : Bool) {x y : A} (l : List A) → b ≡ true → y ≡ x → Memᴰ y (consIf b x l)
-  consIf-head false l e d = absurd (false≢true e)
-  consIf-head true l e d = Memᴰ.head d
+  cons_if-head : (b : Bool) {x y : A} (l : List A) → b ≡ true → y ≡ x → Memᴰ y (cons_if b x l)
+  cons_if-head false l e d = absurd (false≢true e)
+  cons_if-head true l e d = Memᴰ.head d
 
   module _ (p : A → Bool) where
     pub keep-of : (l : List A) {y : A} → Memᴰ y (keep p l) → Memᴰ y l × (p y ≡ true)
     keep-of [] m = absurd (Memᴰ.not-nil m)
-    keep-of (x ∷ l) {y} m = step (keep-of l) (consIf-of (p x) m)
+    keep-of (x ∷ l) {y} m = step (keep-of l) (cons_if-of (p x) m)
       where
         step : (Memᴰ y (keep p l) → Memᴰ y l × (p y ≡ true)) → ((y ≡ x) × (p x ≡ true)) ⊎ Memᴰ y (keep p l) → Memᴰ y (x ∷ l) × (p y ≡ true)
         step h (inl (e, d)) = (Memᴰ.head e, ap p e ∙ d)
@@ -79,14 +79,14 @@ module _ {A : Type 0} where
     keep-to (x ∷ l) {y} m e = step (λ d. keep-to l d e) (Memᴰ.cases_cons m)
       where
         step : (Memᴰ y l → Memᴰ y (keep p l)) → (y ≡ x) ⊎ Memᴰ y l → Memᴰ y (keep p (x ∷ l))
-        step h (inl d) = consIf-head (p x) (keep p l) (ap p (sym d) ∙ e) d
-        step h (inr d) = consIf-more (p x) x (h d)
+        step h (inl d) = cons_if-head (p x) (keep p l) (ap p (sym d) ∙ e) d
+        step h (inr d) = cons_if-more (p x) x (h d)
 
     pub keep-rising : (R : A → A → Type 0) (l : List A) → Rising R l → Rising R (keep p l)
     keep-rising R [] r = tt
     keep-rising R (x ∷ l) r = step (p x) (keep-rising R l r.1)
       where
-        step : (b : Bool) → Rising R (keep p l) → Rising R (consIf b x (keep p l))
+        step : (b : Bool) → Rising R (keep p l) → Rising R (cons_if b x (keep p l))
         step true d = (λ y m. r.0 y (keep-of l m).0, d)
         step false d = d
 
@@ -108,23 +108,23 @@ module _ {A : Type 0} where
 
   -- Order.
   module _ (R : A → A → Type 0) where
-    pub rising-append : (l m : List A) → Rising R l → Rising R m → ((x y : A) → Memᴰ x l → Memᴰ y m → R x y) → Rising R (l ++ m)
-    rising-append [] m r s h = s
-    rising-append (x ∷ l) m r s h = (λ y d. step y (Memᴰ.append_cases l d), rising-append l m r.1 s (λ a b c d. h a b (Memᴰ.tail c) d))
+    pub rising_append : (l m : List A) → Rising R l → Rising R m → ((x y : A) → Memᴰ x l → Memᴰ y m → R x y) → Rising R (l ++ m)
+    rising_append [] m r s h = s
+    rising_append (x ∷ l) m r s h = (λ y d. step y (Memᴰ.append_cases l d), rising_append l m r.1 s (λ a b c d. h a b (Memᴰ.tail c) d))
       where
         step : (y : A) → Memᴰ y l ⊎ Memᴰ y m → R x y
         step y (inl d) = r.0 y d
         step y (inr d) = h x y (Memᴰ.head refl) d
 
-  pub rising-weaken : (R S : A → A → Type 0) → ((x y : A) → R x y → S x y) → (l : List A) → Rising R l → Rising S l
-  rising-weaken R S h [] r = tt
-  rising-weaken R S h (x ∷ l) r = (λ y m. h x y (r.0 y m), rising-weaken R S h l r.1)
+  pub rising_weaken : (R S : A → A → Type 0) → ((x y : A) → R x y → S x y) → (l : List A) → Rising R l → Rising S l
+  rising_weaken R S h [] r = tt
+  rising_weaken R S h (x ∷ l) r = (λ y m. h x y (r.0 y m), rising_weaken R S h l r.1)
 
   -- By number.
-  pub getD-mem : (l : List A) (i : ℕ) (d : A) → i < length l → Memᴰ (get_or l i d) l
-  getD-mem [] i d h = absurd (omega arith)
-  getD-mem (x ∷ l) zero d h = Memᴰ.head refl
-  getD-mem (x ∷ l) (suc i) d h = Memᴰ.tail (getD-mem l i d (omega arith))
+  pub get_d_mem : (l : List A) (i : ℕ) (d : A) → i < length l → Memᴰ (get_or l i d) l
+  get_d_mem [] i d h = absurd (omega arith)
+  get_d_mem (x ∷ l) zero d h = Memᴰ.head refl
+  get_d_mem (x ∷ l) (suc i) d h = Memᴰ.tail (get_d_mem l i d (omega arith))
 
 module _ {A B : Type 0} where
   pub map_of : (f : A → B) (l : List A) {y : B} → Memᴰ y (map f l) → (x : A) × Memᴰ x l × (y ≡ f x)
@@ -148,13 +148,13 @@ module _ {A B : Type 0} where
   )
 
   -- A split of a map is a split of the list.
-  pub map-split : (f : A → B) (l : List A) (pre post : List B) (y : B) → map f l ≡ pre ++ (y ∷ post)
+  pub map_split : (f : A → B) (l : List A) (pre post : List B) (y : B) → map f l ≡ pre ++ (y ∷ post)
       → (p : List A) × (x : A) × (q : List A) × (l ≡ p ++ (x ∷ q)) × (map f p ≡ pre) × (f x ≡ y)
-  map-split f [] [] post y e = let z : ◌≡◌ {A = ℕ} 0 1 = cc in absurd (omega arith)
-  map-split f [] (b ∷ pre) post y e = let z : ◌≡◌ {A = ℕ} 0 1 = cc in absurd (omega arith)
-  map-split f (a ∷ l) [] post y e = ([], a, l, refl, refl, (cc))
-  map-split f (a ∷ l) (b ∷ pre) post y e =
-      let r : map f l ≡ pre ++ (y ∷ post) = cc in more (map-split f l pre post y r)
+  map_split f [] [] post y e = let z : ◌≡◌ {A = ℕ} 0 1 = cc in absurd (omega arith)
+  map_split f [] (b ∷ pre) post y e = let z : ◌≡◌ {A = ℕ} 0 1 = cc in absurd (omega arith)
+  map_split f (a ∷ l) [] post y e = ([], a, l, refl, refl, (cc))
+  map_split f (a ∷ l) (b ∷ pre) post y e =
+      let r : map f l ≡ pre ++ (y ∷ post) = cc in more (map_split f l pre post y r)
     where
       more : (p : List A) × (x : A) × (q : List A) × (l ≡ p ++ (x ∷ q)) × (map f p ≡ pre) × (f x ≡ y)
           → (p : List A) × (x : A) × (q : List A) × (a ∷ l ≡ p ++ (x ∷ q)) × (map f p ≡ b ∷ pre) × (f x ≡ y)
@@ -172,9 +172,9 @@ module _ {A B : Type 0} where
   bind_to f {y} (Memᴰ.head {x = z} {xs = l} e) m = Memᴰ.append_left (bind f l) (subst (λ x. Memᴰ y (f x)) e m)
   bind_to f (Memᴰ.tail {x = z} d) m = Memᴰ.append_right (f z) (bind_to f d m)
 
-  pub bind-append : (f : A → List B) (l m : List A) → bind f (l ++ m) ≡ bind f l ++ bind f m
-  bind-append f [] m = refl
-  bind-append f (x ∷ l) m = ap (λ z. f x ++ z) (bind-append f l m) ∙ sym (append_assoc (f x) (bind f l) (bind f m))
+  pub bind_append : (f : A → List B) (l m : List A) → bind f (l ++ m) ≡ bind f l ++ bind f m
+  bind_append f [] m = refl
+  bind_append f (x ∷ l) m = ap (λ z. f x ++ z) (bind_append f l m) ∙ sym (append_assoc (f x) (bind f l) (bind f m))
 
   pub bind-same : (f g : A → List B) (l : List A) → ((x : A) → Memᴰ x l → f x ≡ g x) → bind f l ≡ bind g l
   bind-same f g [] h = refl
@@ -183,22 +183,22 @@ module _ {A B : Type 0} where
   pub bind-rising : (f : A → List B) (S : A → A → Type 0) (R : B → B → Type 0) (l : List A) → Rising S l
       → ((x : A) → Memᴰ x l → Rising R (f x)) → ((x y : A) → S x y → (a b : B) → Memᴰ a (f x) → Memᴰ b (f y) → R a b) → Rising R (bind f l)
   bind-rising f S R [] r i h = tt
-  bind-rising f S R (x ∷ l) r i h = rising-append R (f x) (bind f l) (i x (Memᴰ.head refl)) (bind-rising f S R l r.1 (λ y m. i y (Memᴰ.tail m)) h) across
+  bind-rising f S R (x ∷ l) r i h = rising_append R (f x) (bind f l) (i x (Memᴰ.head refl)) (bind-rising f S R l r.1 (λ y m. i y (Memᴰ.tail m)) h) across
     where
       across : (a b : B) → Memᴰ a (f x) → Memᴰ b (bind f l) → R a b
       across a b m n = let (z, c, d) = bind-of f l n in h x z (r.0 z c) a b m d
 
-  pub map-append : (f : A → B) (l m : List A) → map f (l ++ m) ≡ map f l ++ map f m
-  map-append f [] m = refl
-  map-append f (x ∷ l) m = ap (λ z. f x ∷ z) (map-append f l m)
+  pub map_append : (f : A → B) (l m : List A) → map f (l ++ m) ≡ map f l ++ map f m
+  map_append f [] m = refl
+  map_append f (x ∷ l) m = ap (λ z. f x ∷ z) (map_append f l m)
 
 -- A list that rises is given by its members.
 module _ {A : Type 0} (R : A → A → Type 0) (never : (x y : A) → R x y → R y x → ⊥) where
-  pub rising-unique : (l m : List A) → Rising R l → Rising R m → ((x : A) → Memᴰ x l → Memᴰ x m) → ((x : A) → Memᴰ x m → Memᴰ x l) → l ≡ m
-  rising-unique [] [] r s f g = refl
-  rising-unique [] (y ∷ m) r s f g = absurd (Memᴰ.not-nil (g y (Memᴰ.head refl)))
-  rising-unique (x ∷ l) [] r s f g = absurd (Memᴰ.not-nil (f x (Memᴰ.head refl)))
-  rising-unique (x ∷ l) (y ∷ m) r s f g = join (rising-unique l m r.1 s.1)
+  pub rising_unique : (l m : List A) → Rising R l → Rising R m → ((x : A) → Memᴰ x l → Memᴰ x m) → ((x : A) → Memᴰ x m → Memᴰ x l) → l ≡ m
+  rising_unique [] [] r s f g = refl
+  rising_unique [] (y ∷ m) r s f g = absurd (Memᴰ.not-nil (g y (Memᴰ.head refl)))
+  rising_unique (x ∷ l) [] r s f g = absurd (Memᴰ.not-nil (f x (Memᴰ.head refl)))
+  rising_unique (x ∷ l) (y ∷ m) r s f g = join (rising_unique l m r.1 s.1)
     where
       heads : (x ≡ y) ⊎ Memᴰ x m → (y ≡ x) ⊎ Memᴰ y l → x ≡ y
       heads (inl e) b = e
@@ -222,9 +222,9 @@ module _ {A : Type 0} (R : A → A → Type 0) (never : (x y : A) → R x y → 
           λ i. same_head i ∷ t i
 
 -- Numbers in two parts; a list for none of them; those that pass, where they stand together.
-pub upFrom-append : (k m n : ℕ) → up_from k (m + n) ≡ up_from k m ++ up_from (k + m) n
-upFrom-append k zero n = rw (zero-add, add-zero)
-upFrom-append k (suc m) n = rw (suc-add, add-suc) (ap (λ l. k ∷ l) (rw suc-add at (upFrom-append (suc k) m n)))
+pub up_from_append : (k m n : ℕ) → up_from k (m + n) ≡ up_from k m ++ up_from (k + m) n
+up_from_append k zero n = rw (zero-add, add-zero)
+up_from_append k (suc m) n = rw (suc-add, add-suc) (ap (λ l. k ∷ l) (rw suc-add at (up_from_append (suc k) m n)))
 
 pub bind-none : {A B : Type 0} (f : A → List B) (l : List A) → ((x : A) → Memᴰ x l → f x ≡ []) → bind f l ≡ []
 bind-none f [] h = refl
@@ -237,13 +237,13 @@ module _ {A : Type 0} (p : A → Bool) (d : A) where
   keep-slice [] zero zero h k f g e = refl
   keep-slice [] (suc a) zero h k f g e = absurd (omega arith)
   keep-slice [] a (suc b) h k f g e = absurd (omega arith)
-  keep-slice (x ∷ l) zero zero h k f g e = ap (λ z. consIf z x (keep p l)) (e 0 (omega arith) (omega arith))
+  keep-slice (x ∷ l) zero zero h k f g e = ap (λ z. cons_if z x (keep p l)) (e 0 (omega arith) (omega arith))
       ∙ keep-slice l zero zero (omega arith) (omega arith) (λ i u. absurd (omega arith)) (λ i u v. absurd (omega arith)) (λ i u v. e (suc i) (omega arith) (omega arith))
   keep-slice (x ∷ l) (suc a) zero h k f g e = absurd (omega arith)
-  keep-slice (x ∷ l) zero (suc b) h k f g e = ap (λ z. consIf z x (keep p l)) (g 0 (omega arith) (omega arith))
+  keep-slice (x ∷ l) zero (suc b) h k f g e = ap (λ z. cons_if z x (keep p l)) (g 0 (omega arith) (omega arith))
       ∙ ap (λ z. x ∷ z) (keep-slice l zero b (omega arith) (omega arith) (λ i u. absurd (omega arith)) (λ i u v. g (suc i) (omega arith) (omega arith))
       (λ i u v. e (suc i) (omega arith) (omega arith)))
-  keep-slice (x ∷ l) (suc a) (suc b) h k f g e = ap (λ z. consIf z x (keep p l)) (f 0 (omega arith))
+  keep-slice (x ∷ l) (suc a) (suc b) h k f g e = ap (λ z. cons_if z x (keep p l)) (f 0 (omega arith))
       ∙ keep-slice l a b (omega arith) (omega arith) (λ i u. f (suc i) (omega arith)) (λ i u v. g (suc i) (omega arith) (omega arith)) (λ i u v. e (suc i) (omega arith) (omega arith))
 
 -- Order and members by number.
@@ -253,12 +253,12 @@ module _ {A : Type 0} (d : A) where
   mem_index (Memᴰ.tail m) = let (i, b, e) = mem_index m in (suc i, omega arith, e)
 
   module _ (R : A → A → Type 0) where
-    pub rising-index : (l : List A) → Rising R l → (i j : ℕ) → i < j → j < length l → R (get_or l i d) (get_or l j d)
-    rising-index [] r i j h k = absurd (omega arith)
-    rising-index (x ∷ l) r zero zero h k = absurd (omega arith)
-    rising-index (x ∷ l) r zero (suc j) h k = r.0 (get_or l j d) (getD-mem l j d (omega arith))
-    rising-index (x ∷ l) r (suc i) zero h k = absurd (omega arith)
-    rising-index (x ∷ l) r (suc i) (suc j) h k = rising-index l r.1 i j (omega arith) (omega arith)
+    pub rising_index : (l : List A) → Rising R l → (i j : ℕ) → i < j → j < length l → R (get_or l i d) (get_or l j d)
+    rising_index [] r i j h k = absurd (omega arith)
+    rising_index (x ∷ l) r zero zero h k = absurd (omega arith)
+    rising_index (x ∷ l) r zero (suc j) h k = r.0 (get_or l j d) (get_d_mem l j d (omega arith))
+    rising_index (x ∷ l) r (suc i) zero h k = absurd (omega arith)
+    rising_index (x ∷ l) r (suc i) (suc j) h k = rising_index l r.1 i j (omega arith) (omega arith)
 
     -- Any two by number.
     pub rising-pairs : (l : List A) → ((i j : ℕ) → i < j → j < length l → R (get_or l i d) (get_or l j d)) → Rising R l
@@ -269,10 +269,10 @@ module _ {A : Type 0} (d : A) where
     )
 
     -- Neighbours suffice.
-    pub rising-adjacent : ((x y z : A) → R x y → R y z → R x z) → (l : List A) → ((i : ℕ) → suc i < length l → R (get_or l i d) (get_or l (suc i) d)) → Rising R l
-    rising-adjacent tr [] h = tt
-    rising-adjacent tr (x ∷ []) h = (λ y m. absurd (Memᴰ.not-nil m), tt)
-    rising-adjacent tr (x ∷ z ∷ l) h = join (rising-adjacent tr (z ∷ l) (λ i b. h (suc i) (omega arith)))
+    pub rising_adjacent : ((x y z : A) → R x y → R y z → R x z) → (l : List A) → ((i : ℕ) → suc i < length l → R (get_or l i d) (get_or l (suc i) d)) → Rising R l
+    rising_adjacent tr [] h = tt
+    rising_adjacent tr (x ∷ []) h = (λ y m. absurd (Memᴰ.not-nil m), tt)
+    rising_adjacent tr (x ∷ z ∷ l) h = join (rising_adjacent tr (z ∷ l) (λ i b. h (suc i) (omega arith)))
       where
         first : Rising R (z ∷ l) → (y : A) → (y ≡ z) ⊎ Memᴰ y l → R x y
         first r y (inl e) = subst (R x) (sym e) (h 0 (omega arith))

@@ -4,11 +4,11 @@ use Rattle.std.specs.Prelude.{Bool, false, ◌||◌, List, [], ◌∷◌, ℕ, e
 pub data Marks : Type 0 where
   unmarked marked : Marks
 
-abbrev pub isMark : ℕ → Bool
-isMark b = eqb b 63 || eqb b 33
+abbrev pub is_mark : ℕ → Bool
+is_mark b = eqb b 63 || eqb b 33
 
 -- The byte b is a mark, and nothing stands behind it.
-abbrev pub isLastMark : Marks → ℕ → List ℕ → Bool
-isLastMark unmarked b l = false
-isLastMark marked b [] = isMark b
-isLastMark marked b (c ∷ l) = false
+abbrev pub is_last_mark : Marks → ℕ → List ℕ → Bool
+is_last_mark unmarked b l = false
+is_last_mark marked b [] = is_mark b
+is_last_mark marked b (c ∷ l) = false

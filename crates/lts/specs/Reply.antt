@@ -16,9 +16,9 @@ abbrev pub overwritten : List ℕ → List ℕ → List ℕ
 overwritten bytes buffer = bytes ++ drop (length bytes) buffer
 
 -- A lent buffer afterwards: written if the call accepted, else as it was.
-abbrev pub leftIn : {A : Type 0} → (A → List ℕ) → Reply A → List ℕ → List ℕ
-leftIn bytes (accepted a) buffer = overwritten (bytes a) buffer
-leftIn bytes (refusal number figure) buffer = buffer
+abbrev pub left_in : {A : Type 0} → (A → List ℕ) → Reply A → List ℕ → List ℕ
+left_in bytes (accepted a) buffer = overwritten (bytes a) buffer
+left_in bytes (refusal number figure) buffer = buffer
 
 -- A reply that keeps a part of the values.
 abbrev pub answers : {A B : Type 0} → (A → B) → Reply A → Reply B

@@ -2,24 +2,24 @@
 use Rattle.std.specs.Prelude.{ℕ, ◌+◌, ◌*◌}
 
 -- 01: "states (1 to 256), labels (0 to 40), transitions (0 to 1,024)"
-abbrev pub mostStates : ℕ
-mostStates = 256
+abbrev pub most_states : ℕ
+most_states = 256
 
-abbrev pub mostLabels : ℕ
-mostLabels = 40
+abbrev pub most_labels : ℕ
+most_labels = 40
 
-abbrev pub mostTransitions : ℕ
-mostTransitions = 1024
+abbrev pub most_transitions : ℕ
+most_transitions = 1024
 
-abbrev pub nameSlotLength : ℕ
-nameSlotLength = 16
+abbrev pub name_slot_length : ℕ
+name_slot_length = 16
 
-abbrev pub transitionLength : ℕ
-transitionLength = 3
+abbrev pub transition_length : ℕ
+transition_length = 3
 
-abbrev pub tableLength : ℕ
-tableLength = 6 + mostLabels * nameSlotLength + mostTransitions * transitionLength
+abbrev pub table_length : ℕ
+table_length = 6 + most_labels * name_slot_length + most_transitions * transition_length
 
 -- The longest text of a table: its lines with their LFs.
-abbrev pub longestTableText : ℕ
-longestTableText = 25 + (mostLabels * 21 + mostTransitions * 19)
+abbrev pub longest_table_text : ℕ
+longest_table_text = 25 + (most_labels * 21 + most_transitions * 19)

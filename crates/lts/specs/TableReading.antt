@@ -1,17 +1,17 @@
--- What `read_table` answers and leaves.
+-- What `read_table_lem` answers and leaves.
 use Rattle.std.specs.Prelude.{List, ℕ, leb, length}
-use Rattle.lts.specs.Sizes.{tableLength}
-use Rattle.lts.specs.Reply.{Reply, unless, leftIn, answers}
+use Rattle.lts.specs.Sizes.{table_length}
+use Rattle.lts.specs.Reply.{Reply, unless, left_in, answers}
 use Rattle.lts.specs.Steps.{Table}
-use Rattle.lts.specs.Reading.{readTable}
-use Rattle.lts.specs.Prepared.{tableBytes}
+use Rattle.lts.specs.Reading.{read_table}
+use Rattle.lts.specs.Prepared.{table_bytes}
 
 -- 01: "Order: 14 first". `text` is the table's text, `buffer` what is lent for the prepared table.
-unfoldable pub tableReading : List ℕ → List ℕ → Reply Table
-tableReading text buffer = unless (leb tableLength (length buffer)) 14 tableLength (readTable text)
+unfoldable pub table_reading : List ℕ → List ℕ → Reply Table
+table_reading text buffer = unless (leb table_length (length buffer)) 14 table_length (read_table text)
 
-abbrev pub tableReplied : List ℕ → List ℕ → Reply (Unit {0})
-tableReplied text buffer = answers (λ t. tt) (tableReading text buffer)
+abbrev pub table_replied : List ℕ → List ℕ → Reply (Unit {0})
+table_replied text buffer = answers (λ t. tt) (table_reading text buffer)
 
-abbrev pub tableLeft : List ℕ → List ℕ → List ℕ
-tableLeft text buffer = leftIn tableBytes (tableReading text buffer) buffer
+abbrev pub table_left : List ℕ → List ℕ → List ℕ
+table_left text buffer = left_in table_bytes (table_reading text buffer) buffer

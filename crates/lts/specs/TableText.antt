@@ -2,16 +2,16 @@
 use Rattle.std.specs.Prelude.{List, [], ◌∷◌, ◌++◌, ℕ, suc, length}
 use Rattle.lts.specs.Lists.{bind}
 use Rattle.lts.specs.Steps.{Step, Table, labels}
-use Rattle.lts.specs.Text.{ended, headerLine, labelLine, transitionLine}
+use Rattle.lts.specs.Text.{ended, header_line, label_line, transition_line}
 
-abbrev pub labelLines : ℕ → List (List ℕ) → List ℕ
-labelLines k [] = []
-labelLines k (n ∷ names) = ended (labelLine k n) ++ labelLines (suc k) names
+abbrev pub label_lines : ℕ → List (List ℕ) → List ℕ
+label_lines k [] = []
+label_lines k (n ∷ names) = ended (label_line k n) ++ label_lines (suc k) names
 
-abbrev pub transitionLines : List Step → List ℕ
-transitionLines l = bind (λ st. ended (transitionLine st)) l
+abbrev pub transition_lines : List Step → List ℕ
+transition_lines l = bind (λ st. ended (transition_line st)) l
 
-unfoldable pub tableText : Table → List ℕ
-tableText t =
-    ended (headerLine t.states (labels t) (length t.transitions) t.start)
-    ++ (labelLines 1 t.names ++ transitionLines t.transitions)
+unfoldable pub table_text : Table → List ℕ
+table_text t =
+    ended (header_line t.states (labels t) (length t.transitions) t.start)
+    ++ (label_lines 1 t.names ++ transition_lines t.transitions)

@@ -1,9 +1,9 @@
 // Partition refinement (Moore) of a deterministic table: round by round, until a round changes nothing. A block is named by its lowest state.
 ghost use Rattle.std.specs.Prelude.{◌≡◌, List, ◌&&◌, ℕ, suc, ◌+◌, ◌*◌, ◌<◌, ◌≤◌, eqb, length, take, drop, get_or};
 ghost use Rattle.lts.specs.inner.Answers.{Decides};
-ghost use Rattle.deterministic.specs.Sizes.{mostSets, mostLetters, workLength};
+ghost use Rattle.deterministic.specs.Sizes.{most_sets, most_letters, work_length};
 ghost use Rattle.deterministic.specs.inner.Blocks.{blocks};
-ghost use Rattle.deterministic.specs.inner.Arrays.{arrayTable};
+ghost use Rattle.deterministic.specs.inner.Arrays.{array_table};
 ghost use Rattle.merging.specs.inner.Rounds.{Named, Ended, Rounded, Merged};
 ghost use Rattle.packed_steps.specs.inner.Packed.{entry_at, Packed, Sized};
 ghost use Rattle.merging.specs.inner.Alike.{Ready, SameIn, Alike, IsBlock, First};
@@ -17,9 +17,9 @@ const NAMES: usize = SETS + 1;
 
 // The old block of the target in column i of state k.
 fn block_at(work: &[u8], old: &[u16; NAMES], i: usize, k: usize) -> u16
-    requires k_in_bounds { (i * mostSets + k) * 2 + 2 ≤ length work.now }
-    requires i_lt_most_letters { (i < mostLetters) × ((k < mostSets) × (entry_at work.now (i * mostSets + k) ≤ mostSets)) }
-    ensures { result ≡ get_or old.now (entry_at work.now (i * mostSets + k)) 0 }
+    requires k_in_bounds { (i * most_sets + k) * 2 + 2 ≤ length work.now }
+    requires i_lt_most_letters { (i < most_letters) × ((k < most_sets) × (entry_at work.now (i * most_sets + k) ≤ most_sets)) }
+    ensures { result ≡ get_or old.now (entry_at work.now (i * most_sets + k)) 0 }
 {
     old[entry_at(work, i * SETS + k)]
 }
@@ -117,7 +117,7 @@ fn round(
 ) -> bool
     requires { Ready work.now n many old.now × (Named n old.now × Ended n new.old) }
     ensures by_index { (next : List ℕ) (columns : ℕ) → Sized next n columns → Packed next n columns work.now many
-        → Rounded (arrayTable next marks.now n columns) (take n old.now) (take n new.new) result }
+        → Rounded (array_table next marks.now n columns) (take n old.now) (take n new.new) result }
     ensures ended { Ended n new.new }
 {
     let mut steady = true;
@@ -134,10 +134,10 @@ fn round(
 // Each turn is two rounds, there and back. After n rounds nothing changes.
 fn settle(work: &[u8], marks: &[bool; SETS], n: usize, many: usize) -> [u16; NAMES]
     requires by_index { (next : List ℕ) × (columns : ℕ) × (Sized next n columns × Packed next n columns work.now many) }
-    requires work_length_in_bounds { workLength ≤ length work.now }
+    requires work_length_in_bounds { work_length ≤ length work.now }
     ensures by_index_2 { (next : List ℕ) (columns : ℕ) → Sized next n columns → Packed next n columns work.now many
-        → Merged (arrayTable next marks.now n columns) result }
-    ensures result_len { length result ≡ suc mostSets }
+        → Merged (array_table next marks.now n columns) result }
+    ensures result_len { length result ≡ suc most_sets }
 {
     let mut here = [0u16; NAMES];
     let mut there = [0u16; NAMES];
@@ -158,8 +158,8 @@ fn settle(work: &[u8], marks: &[bool; SETS], n: usize, many: usize) -> [u16; NAM
 
 // The blocks of the states alone.
 fn of_states(names: &[u16; NAMES]) -> [u16; SETS]
-    requires { length names.now ≡ suc mostSets }
-    ensures { result ≡ take mostSets names.now }
+    requires { length names.now ≡ suc most_sets }
+    ensures { result ≡ take most_sets names.now }
 {
     let mut blocks = [0u16; SETS];
     let mut k: usize = 0;
@@ -178,12 +178,12 @@ pub fn merge(
     columns: usize,
     work: &mut [u8],
 ) -> [u16; SETS]
-    requires n_le_most_sets { n ≤ mostSets }
-    requires le_columns { (1 ≤ columns) × (columns ≤ mostLetters) }
-    requires work_length_in_bounds { workLength ≤ length work.old }
-    ensures result_value { take n result ≡ blocks (arrayTable next.now marks.now n columns) }
+    requires n_le_most_sets { n ≤ most_sets }
+    requires le_columns { (1 ≤ columns) × (columns ≤ most_letters) }
+    requires work_length_in_bounds { work_length ≤ length work.old }
+    ensures result_value { take n result ≡ blocks (array_table next.now marks.now n columns) }
     ensures by_index { (k : ℕ) → k < n → get_or result k 0 ≤ k }
-    ensures work_len_unchanged { (length work.new ≡ length work.old) × (drop workLength work.new ≡ drop workLength work.old) }
+    ensures work_len_unchanged { (length work.new ≡ length work.old) × (drop work_length work.new ≡ drop work_length work.old) }
 {
     let many = pack(&next[..], n, columns, work);
     let names = settle(work, marks, n, many);

@@ -5,9 +5,9 @@ ghost use Rattle.std.specs.Prelude.{◌≡◌, ◌++◌, ℕ, ◌*◌, ◌<◌, 
 ghost use Rattle.columns.specs.Bytes.{low_first};
 ghost use Rattle.columns.specs.inner.Write.{pasted};
 ghost use Rattle.lts.specs.Reply.{overwritten};
-ghost use Rattle.deterministic.specs.Sizes.{mostSets, mostLetters, smallestLength};
-ghost use Rattle.deterministic.specs.Bytes.{automatonBytes};
-ghost use Rattle.deterministic.specs.inner.Arrays.{arrayTable};
+ghost use Rattle.deterministic.specs.Sizes.{most_sets, most_letters, smallest_length};
+ghost use Rattle.deterministic.specs.Bytes.{automaton_bytes};
+ghost use Rattle.deterministic.specs.inner.Arrays.{array_table};
 ghost use Rattle.deterministic.specs.inner.Blocks.{numbered};
 ghost use Rattle.block_numbers.specs.inner.Found.{Fits, IsFound};
 
@@ -20,7 +20,7 @@ use listing::put_pair;
 fn lend(next: &[u16], blocks: &[u16]) {}
 
 fn lengths(next: &[u16; NEXT], blocks: &[u16; SETS])
-    ensures { (length next.now ≡ mostSets * mostLetters) × (length blocks.now ≡ mostSets) }
+    ensures { (length next.now ≡ most_sets * most_letters) × (length blocks.now ≡ most_sets) }
 {
     lend(next, blocks);
 }
@@ -48,9 +48,9 @@ fn write_found(
 )
     requires fits { Fits next.now blocks.now n columns }
     requires found { IsFound next.now blocks.now n columns rows.now numbers.now found.rows found.edges }
-    requires smallest_length_in_bounds { smallestLength ≤ length out.old }
+    requires smallest_length_in_bounds { smallest_length ≤ length out.old }
     ensures { out.new
-        ≡ overwritten (automatonBytes (numbered (arrayTable next.now marks.now n columns) (take n blocks.now))) out.old }
+        ≡ overwritten (automaton_bytes (numbered (array_table next.now marks.now n columns) (take n blocks.now))) out.old }
 {
     put_counts(out, found.rows, found.edges);
     write_marks(marks, rows, found.rows, out);
@@ -66,12 +66,12 @@ pub fn write_numbered(
     columns: usize,
     out: &mut [u8],
 )
-    requires n_nonzero { (0 < n) × (n ≤ mostSets) }
-    requires le_columns { (1 ≤ columns) × (columns ≤ mostLetters) }
+    requires n_nonzero { (0 < n) × (n ≤ most_sets) }
+    requires le_columns { (1 ≤ columns) × (columns ≤ most_letters) }
     requires by_index { (k : ℕ) → k < n → get_or blocks.now k 0 < n }
-    requires smallest_length_in_bounds { smallestLength ≤ length out.old }
+    requires smallest_length_in_bounds { smallest_length ≤ length out.old }
     ensures { out.new
-        ≡ overwritten (automatonBytes (numbered (arrayTable next.now marks.now n columns) (take n blocks.now))) out.old }
+        ≡ overwritten (automaton_bytes (numbered (array_table next.now marks.now n columns) (take n blocks.now))) out.old }
 {
     lengths(next, blocks);
     let mut rows = [0u16; SETS];

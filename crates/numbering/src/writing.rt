@@ -2,10 +2,10 @@
 ghost use Rattle.std.specs.Prelude.{◌≡◌, [], ◌∷◌, ℕ, ◌+◌, ◌*◌, ◌<◌, ◌≤◌, length, get_or};
 ghost use Rattle.columns.specs.inner.Write.{pasted};
 ghost use Rattle.automaton.specs.Bytes.{bit_of};
-ghost use Rattle.deterministic.specs.Sizes.{mostSets, mostLetters};
-ghost use Rattle.deterministic.specs.inner.Arrays.{letterOf};
+ghost use Rattle.deterministic.specs.Sizes.{most_sets, most_letters};
+ghost use Rattle.deterministic.specs.inner.Arrays.{letter_of};
 ghost use Rattle.block_numbers.specs.inner.Found.{Inside};
-ghost use Rattle.numbering.specs.inner.Written.{Put, marksOf, stepIn, stepsIn, edgesIn, Numbered, RowFits};
+ghost use Rattle.numbering.specs.inner.Written.{Put, marks_of, step_in, steps_in, edges_in, Numbered, RowFits};
 
 use deterministic::sizes::{LETTERS, NEXT, SETS};
 use lts::sizes::IDLE;
@@ -19,8 +19,8 @@ fn bit(b: bool) -> u8
 
 // The letter of a column: the idle step has the last one.
 fn letter(c: usize, columns: usize) -> usize
-    requires { (c < columns) × (columns ≤ mostLetters) }
-    ensures value { result ≡ letterOf columns c }
+    requires { (c < columns) × (columns ≤ most_letters) }
+    ensures value { result ≡ letter_of columns c }
     ensures upper_bound { result < 256 }
 {
     if c + 1 == columns { IDLE } else { c }
@@ -28,9 +28,9 @@ fn letter(c: usize, columns: usize) -> usize
 
 // The marks of the first `count` rows, behind the two counts.
 pub fn write_marks(marks: &[bool; SETS], rows: &[u16; SETS], count: usize, out: &mut [u8])
-    requires rows_len { (length rows.now ≡ mostSets) × ((count ≤ mostSets) × (4 + count ≤ length out.old)) }
-    requires by_index { (i : ℕ) → i < count → get_or rows.now i 0 < mostSets }
-    ensures { out.new ≡ pasted out.old 4 (marksOf marks.now rows.now count) }
+    requires rows_len { (length rows.now ≡ most_sets) × ((count ≤ most_sets) × (4 + count ≤ length out.old)) }
+    requires by_index { (i : ℕ) → i < count → get_or rows.now i 0 < most_sets }
+    ensures { out.new ≡ pasted out.old 4 (marks_of marks.now rows.now count) }
 {
     let mut i: usize = 0;
     while i < count {
@@ -63,11 +63,11 @@ fn write_step(
     out: &mut [u8],
     at: usize,
 ) -> usize
-    requires n_le_most_sets { (n ≤ mostSets) × Inside blocks.now n }
-    requires row_lt_most_sets { (row < mostSets) × ((first + c < mostSets * mostLetters) × ((c < columns) × (columns ≤ mostLetters))) }
+    requires n_le_most_sets { (n ≤ most_sets) × Inside blocks.now n }
+    requires row_lt_most_sets { (row < most_sets) × ((first + c < most_sets * most_letters) × ((c < columns) × (columns ≤ most_letters))) }
     requires numbered { Numbered next.now blocks.now numbers.now n columns (first + c) }
-    requires c_in_bounds { at + length (stepIn next.now blocks.now numbers.now n columns row first c) ≤ length out.old }
-    ensures { Put (stepIn next.now blocks.now numbers.now n columns row first c) out.old at out.new result }
+    requires c_in_bounds { at + length (step_in next.now blocks.now numbers.now n columns row first c) ≤ length out.old }
+    ensures { Put (step_in next.now blocks.now numbers.now n columns row first c) out.old at out.new result }
 {
     let target = wide(next[first + c]);
     if n <= target {
@@ -91,11 +91,11 @@ fn write_row(
     out: &mut [u8],
     at: usize,
 ) -> usize
-    requires n_le_most_sets { (n ≤ mostSets) × Inside blocks.now n }
-    requires row_lt_most_sets { (row < mostSets) × (columns ≤ mostLetters) }
+    requires n_le_most_sets { (n ≤ most_sets) × Inside blocks.now n }
+    requires row_lt_most_sets { (row < most_sets) × (columns ≤ most_letters) }
     requires row_fits { RowFits next.now blocks.now numbers.now n columns block }
-    requires columns_in_bounds { at + length (stepsIn next.now blocks.now numbers.now n columns row (block * mostLetters) 0 columns) ≤ length out.old }
-    ensures { Put (stepsIn next.now blocks.now numbers.now n columns row (block * mostLetters) 0 columns)
+    requires columns_in_bounds { at + length (steps_in next.now blocks.now numbers.now n columns row (block * most_letters) 0 columns) ≤ length out.old }
+    ensures { Put (steps_in next.now blocks.now numbers.now n columns row (block * most_letters) 0 columns)
         out.old at out.new result }
 {
     let first = block * LETTERS;
@@ -119,12 +119,12 @@ pub fn write_edges(
     count: usize,
     out: &mut [u8],
 )
-    requires n_le_most_sets { (n ≤ mostSets) × Inside blocks.now n }
-    requires count_le_most_sets { (count ≤ mostSets) × (columns ≤ mostLetters) }
+    requires n_le_most_sets { (n ≤ most_sets) × Inside blocks.now n }
+    requires count_le_most_sets { (count ≤ most_sets) × (columns ≤ most_letters) }
     requires by_index { (i : ℕ) → i < count → RowFits next.now blocks.now numbers.now n columns (get_or rows.now i 0) }
-    requires count_in_bounds { 4 + count + length (edgesIn next.now blocks.now numbers.now n columns rows.now 0 count) ≤ length out.old }
+    requires count_in_bounds { 4 + count + length (edges_in next.now blocks.now numbers.now n columns rows.now 0 count) ≤ length out.old }
     ensures { out.new
-        ≡ pasted out.old (4 + count) (edgesIn next.now blocks.now numbers.now n columns rows.now 0 count) }
+        ≡ pasted out.old (4 + count) (edges_in next.now blocks.now numbers.now n columns rows.now 0 count) }
 {
     let mut end = 4 + count;
     let mut i: usize = 0;

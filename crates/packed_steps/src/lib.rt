@@ -1,8 +1,8 @@
 // The steps of a table as refinement reads them: in lent bytes, column by column, two bytes for each state. A column in which no state leads to a
 // state is left out.
 ghost use Rattle.std.specs.Prelude.{◌≡◌, false, cond, ◌+◌, ◌*◌, ◌<◌, ◌≤◌, length, drop};
-ghost use Rattle.deterministic.specs.Sizes.{mostSets, mostLetters, workLength};
-ghost use Rattle.packed_steps.specs.inner.Packed.{entry_at, EntryPut, targetIn, Nowhere, ColumnTo, Packed, Sized};
+ghost use Rattle.deterministic.specs.Sizes.{most_sets, most_letters, work_length};
+ghost use Rattle.packed_steps.specs.inner.Packed.{entry_at, EntryPut, target_in, Nowhere, ColumnTo, Packed, Sized};
 
 use deterministic::sizes::{LETTERS, SETS};
 use table_steps::wide;
@@ -23,7 +23,7 @@ pub fn entry_at(work: &[u8], p: usize) -> usize
 }
 
 fn put_entry(work: &mut [u8], p: usize, x: usize)
-    requires p_bound { (p < mostSets * mostLetters) × (workLength ≤ length work.old) }
+    requires p_bound { (p < most_sets * most_letters) × (work_length ≤ length work.old) }
     requires x_bound { x < 65536 }
     ensures { EntryPut work.old p x work.new }
 {
@@ -34,9 +34,9 @@ fn put_entry(work: &mut [u8], p: usize, x: usize)
 
 // Where the block of a target is looked up: at its own number, and behind all states if it is none.
 fn target_in(to: usize, n: usize) -> usize
-    requires { n ≤ mostSets }
-    ensures value { result ≡ targetIn n to }
-    ensures upper_bound { result ≤ mostSets }
+    requires { n ≤ most_sets }
+    ensures value { result ≡ target_in n to }
+    ensures upper_bound { result ≤ most_sets }
 {
     if to < n { to } else { SETS }
 }
@@ -49,8 +49,8 @@ fn leads(before: bool, to: usize, n: usize) -> bool
 
 // Column c of the table becomes column i of the bytes; whether some state leads to a state by it.
 fn pack_column(next: &[u16], n: usize, c: usize, i: usize, work: &mut [u8]) -> bool
-    requires next_len { (length next.now ≡ mostSets * mostLetters) × (n ≤ mostSets) }
-    requires c_lt_most_letters { (c < mostLetters) × ((i < mostLetters) × (workLength ≤ length work.old)) }
+    requires next_len { (length next.now ≡ most_sets * most_letters) × (n ≤ most_sets) }
+    requires c_lt_most_letters { (c < most_letters) × ((i < most_letters) × (work_length ≤ length work.old)) }
     ensures column_to { ColumnTo next.now n c i n work.old work.new }
     ensures nowhere { result ≡ false → Nowhere next.now n c n }
 {
@@ -66,7 +66,7 @@ fn pack_column(next: &[u16], n: usize, c: usize, i: usize, work: &mut [u8]) -> b
 }
 
 fn one_more(many: usize, some: bool) -> usize
-    requires { many < mostLetters }
+    requires { many < most_letters }
     ensures { result ≡ cond some (many + 1) many }
 {
     if some { many + 1 } else { many }
@@ -74,9 +74,9 @@ fn one_more(many: usize, some: bool) -> usize
 
 // How many columns there are in the bytes.
 pub fn pack(next: &[u16], n: usize, columns: usize, work: &mut [u8]) -> usize
-    requires { Sized next.now n columns × (workLength ≤ length work.old) }
+    requires { Sized next.now n columns × (work_length ≤ length work.old) }
     ensures packed { Packed next.now n columns work.new result }
-    ensures work_len_unchanged { (length work.new ≡ length work.old) × (drop workLength work.new ≡ drop workLength work.old) }
+    ensures work_len_unchanged { (length work.new ≡ length work.old) × (drop work_length work.new ≡ drop work_length work.old) }
 {
     let mut many: usize = 0;
     let mut c: usize = 0;

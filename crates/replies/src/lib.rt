@@ -1,14 +1,14 @@
 // The number and the figure of each reply, which the C interface hands out: of reading, of verdicts, of building and of words.
 ghost use Rattle.std.specs.Prelude.{◌≡◌};
-ghost use Rattle.table_text.specs.Replies.{tableReply};
-ghost use Rattle.formula_text.specs.Replies.{formulaReply};
-ghost use Rattle.formula_check.specs.Inputs.{unpreparedNumber, unpreparedFigure};
-ghost use Rattle.labelling.specs.Replies.{verdictReply};
-ghost use Rattle.verdicts.specs.Replies.{verdictsReply};
-ghost use Rattle.building.specs.Replies.{buildReply};
-ghost use Rattle.words.specs.Replies.{wordReply};
+ghost use Rattle.table_text.specs.Replies.{table_reply};
+ghost use Rattle.formula_text.specs.Replies.{formula_reply};
+ghost use Rattle.formula_check.specs.Inputs.{unprepared_number, unprepared_figure};
+ghost use Rattle.labelling.specs.Replies.{verdict_reply};
+ghost use Rattle.verdicts.specs.Replies.{verdicts_reply};
+ghost use Rattle.building.specs.Replies.{build_reply};
+ghost use Rattle.words.specs.Replies.{word_reply};
 ghost use Rattle.replies.specs.inner.Says.{Says};
-ghost use Rattle.replies.specs.Interface.{edgesIn};
+ghost use Rattle.replies.specs.Interface.{edges_in};
 
 use building::BuildReply;
 use formula_check::inputs::Unprepared;
@@ -35,7 +35,7 @@ pub fn numbered(number: u32, figure: usize) -> Answer
 }
 
 pub fn unprepared_answer(why: Unprepared) -> Answer
-    ensures { (result.number ≡ unpreparedNumber why) × (result.figure ≡ unpreparedFigure why) }
+    ensures { (result.number ≡ unprepared_number why) × (result.figure ≡ unprepared_figure why) }
 {
     match why {
         Unprepared::TableForeign => numbered(10, 0),
@@ -45,7 +45,7 @@ pub fn unprepared_answer(why: Unprepared) -> Answer
 }
 
 pub fn table_answer(reply: TableReply) -> Answer
-    ensures { Says (λ _. 0) (tableReply reply) result }
+    ensures { Says (λ _. 0) (table_reply reply) result }
 {
     match reply {
         TableReply::Accepted => numbered(0, 0),
@@ -58,7 +58,7 @@ pub fn table_answer(reply: TableReply) -> Answer
 }
 
 pub fn formula_answer(reply: FormulaReply) -> Answer
-    ensures { Says (λ _. 0) (formulaReply reply) result }
+    ensures { Says (λ _. 0) (formula_reply reply) result }
 {
     match reply {
         FormulaReply::Accepted => numbered(0, 0),
@@ -73,7 +73,7 @@ pub fn formula_answer(reply: FormulaReply) -> Answer
 }
 
 pub fn verdict_answer(reply: VerdictReply) -> Answer
-    ensures { Says (λ holds. holds) (verdictReply reply) result }
+    ensures { Says (λ holds. holds) (verdict_reply reply) result }
 {
     match reply {
         VerdictReply::Holds => numbered(0, 1),
@@ -83,7 +83,7 @@ pub fn verdict_answer(reply: VerdictReply) -> Answer
 }
 
 pub fn verdicts_answer(reply: VerdictsReply) -> Answer
-    ensures { Says (λ joint. joint) (verdictsReply reply) result }
+    ensures { Says (λ joint. joint) (verdicts_reply reply) result }
 {
     match reply {
         VerdictsReply::HoldsAtAll => numbered(0, 1),
@@ -94,7 +94,7 @@ pub fn verdicts_answer(reply: VerdictsReply) -> Answer
 }
 
 pub fn build_answer(reply: BuildReply) -> Answer
-    ensures { Says (λ counts. counts.rows) (buildReply reply) result }
+    ensures { Says (λ counts. counts.rows) (build_reply reply) result }
 {
     match reply {
         BuildReply::Built(rows, _) => numbered(0, rows),
@@ -106,7 +106,7 @@ pub fn build_answer(reply: BuildReply) -> Answer
 
 // The count of edges of a build; what stood there if it was refused.
 pub fn build_edges(reply: BuildReply, before: u64) -> u64
-    ensures { result ≡ edgesIn before (buildReply reply) }
+    ensures { result ≡ edges_in before (build_reply reply) }
 {
     match reply {
         BuildReply::Built(_, edges) => edges as u64,
@@ -117,7 +117,7 @@ pub fn build_edges(reply: BuildReply, before: u64) -> u64
 }
 
 pub fn word_answer(reply: WordReply) -> Answer
-    ensures { Says (λ accepted. accepted) (wordReply reply) result }
+    ensures { Says (λ accepted. accepted) (word_reply reply) result }
 {
     match reply {
         WordReply::Accepted => numbered(0, 1),

@@ -9,25 +9,25 @@ use native.Mathlib.Omega.{arith}
 use lib.ListN.{length}
 use Rattle.satisfaction.specs.inner.Count.{plus, count}
 
-plus-le : (b : Bool) (m n : ℕ) → m ≤ n → plus b m ≤ suc n
-plus-le true m n h = omega arith
-plus-le false m n h = omega arith
+plus_le : (b : Bool) (m n : ℕ) → m ≤ n → plus b m ≤ suc n
+plus_le true m n h = omega arith
+plus_le false m n h = omega arith
 
-plus-mono : (a b : Bool) (m n : ℕ) → (a ≡ true → b ≡ true) → m ≤ n → plus a m ≤ plus b n
-plus-mono true true m n h k = omega arith
-plus-mono true false m n h k = absurd (true≢false (sym (h refl)))
-plus-mono false true m n h k = omega arith
-plus-mono false false m n h k = k
+plus_mono : (a b : Bool) (m n : ℕ) → (a ≡ true → b ≡ true) → m ≤ n → plus a m ≤ plus b n
+plus_mono true true m n h k = omega arith
+plus_mono true false m n h k = absurd (true≢false (sym (h refl)))
+plus_mono false true m n h k = omega arith
+plus_mono false false m n h k = k
 
 module _ {A : Type 0} where
-  pub count-le : (p : A → Bool) (l : List A) → count p l ≤ length l
-  count-le p [] = omega arith
-  count-le p (x ∷ l) = plus-le (p x) (count p l) (length l) (count-le p l)
+  pub count_le : (p : A → Bool) (l : List A) → count p l ≤ length l
+  count_le p [] = omega arith
+  count_le p (x ∷ l) = plus_le (p x) (count p l) (length l) (count_le p l)
 
   module _ (p q : A → Bool) (more : (x : A) → p x ≡ true → q x ≡ true) where
-    pub count-mono : (l : List A) → count p l ≤ count q l
-    count-mono [] = omega arith
-    count-mono (x ∷ l) = plus-mono (p x) (q x) (count p l) (count q l) (more x) (count-mono l)
+    pub count_mono : (l : List A) → count p l ≤ count q l
+    count_mono [] = omega arith
+    count_mono (x ∷ l) = plus_mono (p x) (q x) (count p l) (count q l) (more x) (count_mono l)
 
     -- Either nothing further passes, or the count is more.
     abbrev Same : List A → Type 0
@@ -44,6 +44,6 @@ module _ {A : Type 0} where
         step true b d e (inl k) = inl (same (λ z. d) k)
         step true true d e (inr h) = inr (omega arith)
         step true false d e (inr h) = absurd (true≢false (sym (more x d) ∙ e))
-        step false true d e h = inr (omega (arith, count-mono l))
+        step false true d e h = inr (omega (arith, count_mono l))
         step false false d e (inl k) = inl (same (λ z. absurd (true≢false (sym z ∙ e))) k)
         step false false d e (inr h) = inr h

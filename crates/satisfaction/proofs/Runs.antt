@@ -57,8 +57,8 @@ module _ (t : Table) where
   Path s (st ∷ p) = (st.from ≡ s) × IsStep t st × Path st.to p
 
   -- A finite path is the beginning of an unending run.
-  pub path-extends : (d : Step) (s : ℕ) (p : List Step) → Path s p → (r : Run t s) × ((i : ℕ) → i < length p → r.step i ≡ get_or p i d)
-  path-extends d s [] h = (any-run s, λ i l. absurd (omega arith))
-  path-extends d s (st ∷ p) h =
-      let (r, e) = path-extends d st.to p h.2 in
+  pub path_extends : (d : Step) (s : ℕ) (p : List Step) → Path s p → (r : Run t s) × ((i : ℕ) → i < length p → r.step i ≡ get_or p i d)
+  path_extends d s [] h = (any-run s, λ i l. absurd (omega arith))
+  path_extends d s (st ∷ p) h =
+      let (r, e) = path_extends d st.to p h.2 in
       (onto (st, h.0, h.1) r, λ i. elim i [ zero ↦ λ l. refl | suc j ↦ λ l. e j (omega arith) ])

@@ -1,9 +1,9 @@
 -- Definition 3 of document 000: satisfaction, over unending paths. 01: "Where a path there is a row of states only, ours is a row of steps".
 use Rattle.std.specs.Prelude.{◌≡◌, ◌⊎◌, true, ℕ, ◌<◌}
 use Rattle.lts.specs.Steps.{Table}
-use Rattle.lts.specs.Idle.{idleLabel}
+use Rattle.lts.specs.Idle.{idle_label}
 use Rattle.actl.specs.Actions.{in_set, meets, passes}
-use Rattle.actl.specs.Formulas.{Formula, tru, not, or, ex, ax, eu, euThen}
+use Rattle.actl.specs.Formulas.{Formula, tru, not, or, ex, ax, eu, eu_then}
 use Rattle.satisfaction.specs.Runs.{RunWith}
 
 -- s ⊨ f, if idle steps carry label i. The first arm of document 000's until is "true" in 01's fragment and says nothing.
@@ -21,7 +21,7 @@ SatWith i t (ax c f) s = (p : RunWith i t s) → (meets c (p.step 0).label ≡ t
 -- s ⊨ ∃(true_χ U f): for some path from s and some n, π(n) ⊨ f, and each step before is silent or in κ(χ)
 SatWith i t (eu a f) s = (p : RunWith i t s) × (n : ℕ) × ((j : ℕ) → j < n → passes a (p.step j).label ≡ true) × SatWith i t f (p.step n).from
 -- s ⊨ ∃(true_χ U_χ' f): the same, and then one step in κ(χ') that leads to f
-SatWith i t (euThen a b f) s = (p : RunWith i t s) × (n : ℕ) × ((j : ℕ) → j < n → passes a (p.step j).label ≡ true) × (in_set b (p.step n).label ≡ true) × SatWith i t f (p.step n).to
+SatWith i t (eu_then a b f) s = (p : RunWith i t s) × (n : ℕ) × ((j : ℕ) → j < n → passes a (p.step j).label ≡ true) × (in_set b (p.step n).label ≡ true) × SatWith i t f (p.step n).to
 
 abbrev pub Sat : Table → Formula → ℕ → Type 0
-Sat t f s = SatWith idleLabel t f s
+Sat t f s = SatWith idle_label t f s

@@ -3,13 +3,13 @@ use Rattle.std.specs.Prelude.{◌≡◌, true, ℕ}
 use Rattle.lts.specs.Steps.{Step, Table, IsStep}
 use Rattle.actl.specs.Actions.{Action, Mask, in_set, labels}
 use Rattle.actl.specs.Formulas.{Formula, not, or, ex, eu}
-use Rattle.actl.specs.Meaning.{labelsOf}
+use Rattle.actl.specs.Meaning.{labels_of}
 use Rattle.satisfaction.specs.Runs.{Run}
 use Rattle.satisfaction.specs.Satisfaction.{Sat}
 
 -- The mask of `*`: every label of the table.
-abbrev pub allLabels : Table → Mask
-allLabels t = labelsOf t.names Action.any
+abbrev pub all_labels : Table → Mask
+all_labels t = labels_of t.names Action.any
 
 -- 000: "φ ∧ φ' for ¬(¬φ ∨ ¬φ')"
 abbrev pub both : Formula → Formula → Formula
@@ -24,12 +24,12 @@ abbrev pub everywhere : Mask → Formula → Formula
 everywhere a f = not (somewhere a (not f))
 
 -- 000: "⟨χ⟩φ for ∃X_χ φ". The mask m is κ(χ).
-abbrev pub afterSome : Mask → Formula → Formula
-afterSome m f = ex (labels m) f
+abbrev pub after_some : Mask → Formula → Formula
+after_some m f = ex (labels m) f
 
 -- 000: "[χ]φ for ¬∃X_χ¬φ"
-abbrev pub afterEvery : Mask → Formula → Formula
-afterEvery m f = not (afterSome m (not f))
+abbrev pub after_every : Mask → Formula → Formula
+after_every m f = not (after_some m (not f))
 
 -- The state r is on some path from s.
 abbrev pub Reachable : Table → ℕ → ℕ → Type 0

@@ -3,13 +3,13 @@ use Rattle.std.specs.Prelude.{◌≡◌, ◌↔◌, List, ℕ}
 use Rattle.lts.specs.Reply.{Reply, accepted, refusal}
 use Rattle.lts.specs.Steps.{Table}
 use Rattle.actl.specs.Formulas.{Formula}
-use Rattle.actl.specs.FormulaReading.{onPrepared}
+use Rattle.actl.specs.FormulaReading.{on_prepared}
 use Rattle.actl.specs.InPrepared.{InPrepared}
 use Rattle.satisfaction.specs.Satisfaction.{Sat}
 use Rattle.satisfaction.specs.inner.Holds.{verdict}
 
-unfoldable pub verdictReplied : List ℕ → List ℕ → Reply ℕ
-verdictReplied table formula = onPrepared table formula (λ t F. accepted (verdict t F))
+unfoldable pub verdict_replied : List ℕ → List ℕ → Reply ℕ
+verdict_replied table formula = on_prepared table formula (λ t F. accepted (verdict t F))
 
 -- An answer is 1 exactly if something is so, and 0 exactly if it is not.
 abbrev pub TellsWhether : Type 0 → ℕ → Type 0

@@ -9,9 +9,9 @@ mod beside;
 
 ghost use Rattle.std.specs.Prelude.{◌≡◌, ◌≤◌, length};
 ghost use Rattle.explanations.specs.Demands.{FromPrepared};
-ghost use Rattle.deterministic.specs.Sizes.{smallestLength, workLength};
-ghost use Rattle.deterministic.specs.SmallestAsked.{smallestReplied, smallestRows, smallestEdges, smallestLeft, smallestWork, cleared, SmallestAnswered};
-ghost use Rattle.smallest.specs.Replies.{smallestReply};
+ghost use Rattle.deterministic.specs.Sizes.{smallest_length, work_length};
+ghost use Rattle.deterministic.specs.SmallestAsked.{smallest_replied, smallest_rows, smallest_edges, smallest_left, smallest_work, cleared, SmallestAnswered};
+ghost use Rattle.smallest.specs.Replies.{smallest_reply};
 ghost use Rattle.smallest.specs.inner.Answered.{Answered};
 
 // What `smallest` answers: the counts of rows and edges, or a refusal. specs/Replies.antt lists the number and the figure of each case.
@@ -26,7 +26,7 @@ pub enum SmallestReply {
 
 // 01, of a work buffer: all zero after the call.
 fn clear(work: &mut [u8])
-    requires { workLength ≤ length work.old }
+    requires { work_length ≤ length work.old }
     ensures { work.new ≡ cleared work.old }
 {
     let mut i: usize = 0;
@@ -45,7 +45,7 @@ fn answer(
     out: &mut [u8],
     work: &mut [u8],
 ) -> SmallestReply
-    requires { (smallestLength ≤ length out.old) × (workLength ≤ length work.old) }
+    requires { (smallest_length ≤ length out.old) × (work_length ≤ length work.old) }
     ensures { Answered table.now formula.now rows.old edges.old out.old work.old
         result rows.new edges.new out.new work.new }
 {
@@ -65,13 +65,13 @@ pub fn smallest(
     out: &mut [u8],
     work: &mut [u8],
 ) -> SmallestReply
-    ensures result_value { smallestReply result ≡ smallestReplied table.now formula.now rows.old edges.old out.old work.old }
-    ensures rows_after { rows.new ≡ smallestRows table.now formula.now rows.old edges.old out.old work.old }
-    ensures edges_after { edges.new ≡ smallestEdges table.now formula.now rows.old edges.old out.old work.old }
-    ensures out_after { out.new ≡ smallestLeft table.now formula.now rows.old edges.old out.old work.old }
-    ensures work_after { work.new ≡ smallestWork table.now formula.now rows.old edges.old out.old work.old }
-    ensures from_prepared { FromPrepared table.now formula.now (smallestReply result) rows.new edges.new }
-    ensures smallest_answered { SmallestAnswered table.now formula.now (smallestReply result) rows.new edges.new out.new }
+    ensures result_value { smallest_reply result ≡ smallest_replied table.now formula.now rows.old edges.old out.old work.old }
+    ensures rows_after { rows.new ≡ smallest_rows table.now formula.now rows.old edges.old out.old work.old }
+    ensures edges_after { edges.new ≡ smallest_edges table.now formula.now rows.old edges.old out.old work.old }
+    ensures out_after { out.new ≡ smallest_left table.now formula.now rows.old edges.old out.old work.old }
+    ensures work_after { work.new ≡ smallest_work table.now formula.now rows.old edges.old out.old work.old }
+    ensures from_prepared { FromPrepared table.now formula.now (smallest_reply result) rows.new edges.new }
+    ensures smallest_answered { SmallestAnswered table.now formula.now (smallest_reply result) rows.new edges.new out.new }
 {
     if table.len() < TABLE_LENGTH {
         return SmallestReply::Refused(Unprepared::BufferShort(TABLE_LENGTH));

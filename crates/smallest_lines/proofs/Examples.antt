@@ -2,29 +2,29 @@
 use mathlib.Core.Path.{◌≡◌, refl}
 use mathlib.Core.List.{[], ◌∷◌}
 use Rattle.columns.specs.Ascii.{ascii}
-use Rattle.columns.specs.Columns.{column, digitsWithin}
-use Rattle.lts.specs.Names.{findFrom}
+use Rattle.columns.specs.Columns.{column, digits_within}
+use Rattle.lts.specs.Names.{find_from}
 use Rattle.lts.specs.Steps.{silent}
 use Rattle.lts.specs.Text.{ended}
-use Rattle.lts.specs.Reading.{readTableWith, readLabelsWith, readTransitions}
-use Rattle.lts.specs.inner.Steps.{stepsFrom}
-use Rattle.lts.proofs.Examples.{lines, M-lines}
+use Rattle.lts.specs.Reading.{read_table_with, read_labels_with, read_transitions}
+use Rattle.lts.specs.inner.Steps.{steps_from}
+use Rattle.lts.proofs.Examples.{lines, M_lines}
 use Rattle.actl.specs.Actions.{in_set, mask_of, meets, passes}
-use Rattle.actl.specs.Formulas.{class_of, highestWithoutClass}
-use Rattle.actl.specs.inner.Reading.{readFormula}
+use Rattle.actl.specs.Formulas.{class_of, highest_without_class}
+use Rattle.actl.specs.inner.Reading.{read_formula}
 use Rattle.satisfaction.specs.inner.Holds.{holds, within}
-use Rattle.automaton.specs.inner.Search.{finalOf, final, leadsOf, leads, targets, canFinish, movesToAmong, movesOnAmong, movesFromAmong}
+use Rattle.automaton.specs.inner.Search.{final_of, final, leads_of, leads, targets, can_finish, moves_to_among, moves_on_among, moves_from_among}
 use Rattle.automaton.specs.inner.Search.{number_of as numberOfRow, visit as visitRow, visits as visitRows}
-use Rattle.automaton.specs.inner.Search.{expandAmong, searchAmong, positionsAmong, movesUptoAmong, listing}
+use Rattle.automaton.specs.inner.Search.{expand_among, search_among, positions_among, moves_upto_among, listing}
 use Rattle.deterministic.specs.inner.Blocks.{signature, refine, refined, blocks, numbered}
 use Rattle.deterministic.specs.inner.Lists.{same_lists}
-use Rattle.deterministic.specs.inner.Search.{number_of, movesFrom, visit, visits, expand, search, found, movesUpto, automatonOf}
-use Rattle.deterministic.specs.inner.Subsets.{setOf, start_set, stepSet, finalSet, nonempty, sets, smallest}
-use Rattle.smallest_text.specs.Text.{automatonText}
-use Rattle.smallest_lines.specs.SmallestText.{lentSmallest, smallestText}
+use Rattle.deterministic.specs.inner.Search.{number_of, moves_from, visit, visits, expand, search, found, moves_upto, automaton_of}
+use Rattle.deterministic.specs.inner.Subsets.{set_of, start_set, step_set, final_set, nonempty, sets, smallest}
+use Rattle.smallest_text.specs.Text.{automaton_text}
+use Rattle.smallest_lines.specs.SmallestText.{lent_smallest, smallest_text}
 
 -- Of `EU[*;ack] T` over table M, whose listing has two edges by one label from a row.
-smallest-of-M : smallestText M-lines (ended (ascii "EU[*;ack] T"))
+smallest-of_M : smallest_text M_lines (ended (ascii "EU[*;ack] T"))
     ≡ lines (
     "     3     3"
     ∷ "     0     0"
@@ -34,21 +34,21 @@ smallest-of-M : smallestText M-lines (ended (ascii "EU[*;ack] T"))
     ∷ "     1     2     2"
     ∷ "     2     1     1"
     ∷ [])
-unfolding smallestText lentSmallest automatonText smallest numbered sets found search expand visits visit movesFrom movesUpto number_of automatonOf same_lists setOf start_set stepSet
-    finalSet nonempty blocks refined refine signature listing positionsAmong searchAmong expandAmong visitRows visitRow movesUptoAmong movesFromAmong movesOnAmong movesToAmong
-    numberOfRow canFinish targets leads leadsOf final finalOf holds within stepsFrom meets passes in_set class_of silent readTableWith readLabelsWith readTransitions column
-    digitsWithin readFormula findFrom mask_of highestWithoutClass
-smallest-of-M = refl
+unfolding smallest_text lent_smallest automaton_text smallest numbered sets found search expand visits visit moves_from moves_upto number_of automaton_of same_lists set_of start_set step_set
+    final_set nonempty blocks refined refine signature listing positions_among search_among expand_among visitRows visitRow moves_upto_among moves_from_among moves_on_among moves_to_among
+    numberOfRow can_finish targets leads leads_of final final_of holds within steps_from meets passes in_set class_of silent read_table_with read_labels_with read_transitions column
+    digits_within read_formula find_from mask_of highest_without_class
+smallest-of_M = refl
 
 -- No word: one state, not final.
-none-of-M : smallestText M-lines (ascii "EX[ack] T") ≡ lines ("     1     0" ∷ "     0     0" ∷ [])
-unfolding smallestText lentSmallest automatonText smallest numbered sets found search expand visits visit movesFrom movesUpto number_of automatonOf same_lists setOf start_set stepSet
-    finalSet nonempty blocks refined refine signature listing positionsAmong searchAmong expandAmong visitRows visitRow movesUptoAmong movesFromAmong movesOnAmong movesToAmong
-    numberOfRow canFinish targets leads leadsOf final finalOf holds within stepsFrom meets passes in_set class_of silent readTableWith readLabelsWith readTransitions column
-    digitsWithin readFormula findFrom mask_of highestWithoutClass
-none-of-M = refl
+none-of_M : smallest_text M_lines (ascii "EX[ack] T") ≡ lines ("     1     0" ∷ "     0     0" ∷ [])
+unfolding smallest_text lent_smallest automaton_text smallest numbered sets found search expand visits visit moves_from moves_upto number_of automaton_of same_lists set_of start_set step_set
+    final_set nonempty blocks refined refine signature listing positions_among search_among expand_among visitRows visitRow moves_upto_among moves_from_among moves_on_among moves_to_among
+    numberOfRow can_finish targets leads leads_of final final_of holds within steps_from meets passes in_set class_of silent read_table_with read_labels_with read_transitions column
+    digits_within read_formula find_from mask_of highest_without_class
+none-of_M = refl
 
 -- A refusal prints one line.
-refusal-line : smallestText [] [] ≡ lines ("     1     1" ∷ [])
-unfolding smallestText lentSmallest readTableWith column digitsWithin
+refusal-line : smallest_text [] [] ≡ lines ("     1     1" ∷ [])
+unfolding smallest_text lent_smallest read_table_with column digits_within
 refusal-line = refl

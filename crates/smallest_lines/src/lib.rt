@@ -1,11 +1,11 @@
 // What the program `print_smallest` writes for its two files: the text of the smallest deterministic automaton, or the refusal's line.
 ghost use Rattle.std.specs.Prelude.{◌≡◌, ◌≤◌, length};
-ghost use Rattle.deterministic.specs.Sizes.{smallestLength};
+ghost use Rattle.deterministic.specs.Sizes.{smallest_length};
 ghost use Rattle.explanations.specs.inner.Printed.{TextWritten};
 ghost use Rattle.files.specs.inner.Writing.{PrefixLength};
-ghost use Rattle.smallest_lines.specs.SmallestText.{lentSmallest};
+ghost use Rattle.smallest_lines.specs.SmallestText.{lent_smallest};
 ghost use Rattle.smallest_lines.specs.inner.Asking.{Found, Asked};
-ghost use Rattle.smallest_lines.specs.inner.FileText.{smallestTextLength, countedText, fileText};
+ghost use Rattle.smallest_lines.specs.inner.FileText.{smallest_text_length, counted_text, file_text};
 
 use actl::sizes::FORMULA_LENGTH;
 use deterministic::sizes::{NEXT, SETS, SMALLEST_LENGTH, WORK_LENGTH};
@@ -33,7 +33,7 @@ fn find(table: &[u8], formula: &[u8], automaton: &mut [u8]) -> Answer
 
 // Reads both texts, and asks for the automaton of what was read.
 fn ask(tabletext: &[u8], formulatext: &[u8], automaton: &mut [u8]) -> Answer
-    requires { smallestLength ≤ length automaton.old }
+    requires { smallest_length ≤ length automaton.old }
     ensures { Asked tabletext.now formulatext.now automaton.old automaton.new result }
 {
     let mut table = [0u8; TABLE_LENGTH];
@@ -47,8 +47,8 @@ fn ask(tabletext: &[u8], formulatext: &[u8], automaton: &mut [u8]) -> Answer
 
 // The text about a formula of `counted` bytes, of which `text` is the beginning.
 fn write_text(tablefile: &[u8], text: &[u8], counted: usize, out: &mut [u8]) -> usize
-    requires { length out.old ≡ smallestTextLength }
-    ensures text_written { TextWritten (countedText counted (lentSmallest tablefile.now text.now)) out.old out.new result }
+    requires { length out.old ≡ smallest_text_length }
+    ensures text_written { TextWritten (counted_text counted (lent_smallest tablefile.now text.now)) out.old out.new result }
     ensures prefix_length { PrefixLength result out.new }
 {
     let mut automaton = [0u8; SMALLEST_LENGTH];
@@ -66,7 +66,7 @@ pub fn write_smallest_of(
     scanned: Scanned,
     out: &mut [u8; SMALLEST_TEXT_LENGTH],
 ) -> usize
-    ensures text_written { TextWritten (fileText tablefile.now head.now scanned) out.old out.new result }
+    ensures text_written { TextWritten (file_text tablefile.now head.now scanned) out.old out.new result }
     ensures prefix_length { PrefixLength result out.new }
 {
     let length = text_length(scanned);

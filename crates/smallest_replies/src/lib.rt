@@ -1,8 +1,8 @@
 // The number and the figure of each reply of the entry `smallest`.
 ghost use Rattle.std.specs.Prelude.{◌≡◌};
-ghost use Rattle.smallest.specs.Replies.{smallestReply};
+ghost use Rattle.smallest.specs.Replies.{smallest_reply};
 ghost use Rattle.replies.specs.inner.Says.{Says};
-ghost use Rattle.replies.specs.Interface.{edgesIn};
+ghost use Rattle.replies.specs.Interface.{edges_in};
 
 use deterministic::sizes::SETS;
 use replies::{Answer, numbered, unprepared_answer};
@@ -12,7 +12,7 @@ use smallest::SmallestReply;
 const SETS_FIGURE: usize = SETS + 1;
 
 pub fn smallest_answer(reply: SmallestReply) -> Answer
-    ensures { Says (λ counts. counts.rows) (smallestReply reply) result }
+    ensures { Says (λ counts. counts.rows) (smallest_reply reply) result }
 {
     match reply {
         SmallestReply::Built(rows, _) => numbered(0, rows),
@@ -25,7 +25,7 @@ pub fn smallest_answer(reply: SmallestReply) -> Answer
 
 // The count of edges of a build with the smallest automaton beside it; what stood there if it was refused.
 pub fn smallest_edges(reply: SmallestReply, before: u64) -> u64
-    ensures { result ≡ edgesIn before (smallestReply reply) }
+    ensures { result ≡ edges_in before (smallest_reply reply) }
 {
     match reply {
         SmallestReply::Built(_, edges) => edges as u64,

@@ -2,9 +2,9 @@
 ghost use Rattle.std.specs.Prelude.{◌≡◌, [], ◌∷◌, ◌++◌, ◌+◌, ◌*◌, ◌≤◌, ◌<◌, length};
 ghost use Rattle.deterministic.specs.Automata.{Automaton};
 ghost use Rattle.explanations.specs.inner.Printed.{TextWritten};
-ghost use Rattle.smallest_text.specs.Text.{automatonText};
-ghost use Rattle.smallest_text.specs.inner.Held.{AutomatonIn, longestText};
-ghost use Rattle.smallest_text.specs.inner.Lines.{pair_at, threeAt, stateText, stepText, LinesFit, LinesWritten};
+ghost use Rattle.smallest_text.specs.Text.{automaton_text};
+ghost use Rattle.smallest_text.specs.inner.Held.{AutomatonIn, longest_text};
+ghost use Rattle.smallest_text.specs.inner.Lines.{pair_at, three_at, state_text, step_text, LinesFit, LinesWritten};
 
 use columns::write::write_numbers;
 
@@ -25,7 +25,7 @@ fn pair_at(bytes: &[u8], k: usize) -> usize
 // The three bytes at a place, as numbers; the last number is not printed.
 fn three_at(bytes: &[u8], k: usize) -> [u64; 4]
     requires { k + 3 ≤ length bytes.now }
-    ensures { result ≡ threeAt bytes.now k ++ (0 ∷ []) }
+    ensures { result ≡ three_at bytes.now k ++ (0 ∷ []) }
 {
     [wide(bytes[k]), wide(bytes[k + 1]), wide(bytes[k + 2]), 0]
 }
@@ -34,7 +34,7 @@ fn three_at(bytes: &[u8], k: usize) -> [u64; 4]
 fn write_states(smallest: &[u8], states: usize, out: &mut [u8], at: usize) -> usize
     requires states_in_bounds { (4 + states ≤ length smallest.now) × (states ≤ 65536) }
     requires lines_fit { LinesFit 13 states at out.old }
-    ensures { LinesWritten (stateText smallest.now) 13 states at out.old out.new result }
+    ensures { LinesWritten (state_text smallest.now) 13 states at out.old out.new result }
 {
     let mut end = at;
     let mut i: usize = 0;
@@ -50,7 +50,7 @@ fn write_states(smallest: &[u8], states: usize, out: &mut [u8], at: usize) -> us
 fn write_edges(smallest: &[u8], first: usize, edges: usize, out: &mut [u8], at: usize) -> usize
     requires edges_in_bounds { first + edges * 3 ≤ length smallest.now }
     requires lines_fit { LinesFit 19 edges at out.old }
-    ensures { LinesWritten (stepText smallest.now first) 19 edges at out.old out.new result }
+    ensures { LinesWritten (step_text smallest.now first) 19 edges at out.old out.new result }
 {
     let mut end = at;
     let mut j: usize = 0;
@@ -64,8 +64,8 @@ fn write_edges(smallest: &[u8], first: usize, edges: usize, out: &mut [u8], at: 
 // Writes the text of the automaton in the bytes at the start of `out`, and answers its length.
 pub fn write_smallest(smallest: &[u8], out: &mut [u8]) -> usize
     requires automaton_in { (d : Automaton) × AutomatonIn d smallest.now }
-    requires longest_text_in_bounds { longestText + 81 ≤ length out.old }
-    ensures { (d : Automaton) → AutomatonIn d smallest.now → TextWritten (automatonText d) out.old out.new result }
+    requires longest_text_in_bounds { longest_text + 81 ≤ length out.old }
+    ensures { (d : Automaton) → AutomatonIn d smallest.now → TextWritten (automaton_text d) out.old out.new result }
 {
     let states = pair_at(smallest, 0);
     let edges = pair_at(smallest, 2);

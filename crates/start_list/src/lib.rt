@@ -1,10 +1,10 @@
 // The search for the first wrong entry of a list of starts.
 ghost use Rattle.std.specs.Prelude.{◌≡◌, cond, ◌≤◌, min, length};
 ghost use Rattle.std.proofs.Math.Option.{none, some};
-ghost use Rattle.lts.specs.Sizes.{mostStates};
-ghost use Rattle.tables.specs.inner.Access.{foundIn};
-ghost use Rattle.starts.specs.Starts.{isRight, wrongStart};
-ghost use Rattle.starts.specs.inner.Search.{earlier, enoughStarts};
+ghost use Rattle.lts.specs.Sizes.{most_states};
+ghost use Rattle.tables.specs.inner.Access.{found_in};
+ghost use Rattle.starts.specs.Starts.{is_right, wrong_start};
+ghost use Rattle.starts.specs.inner.Search.{earlier, enough_starts};
 
 use lts::sizes::STATES;
 use tables::lookup::Lookup;
@@ -14,14 +14,14 @@ use tables::prepared::byte;
 const ENOUGH_STARTS: usize = STATES + 1;
 
 fn is_right(states: usize, least: usize, s: usize) -> bool
-    ensures { result ≡ isRight states least s }
+    ensures { result ≡ is_right states least s }
 {
     least <= s && s < states
 }
 
 // Of the indices of two wrong entries the first.
 fn first_of(found: Lookup, i: usize) -> Lookup
-    ensures { foundIn result ≡ earlier (foundIn found) (some i) }
+    ensures { found_in result ≡ earlier (found_in found) (some i) }
 {
     match found {
         Lookup::At(first) => Lookup::At(first),
@@ -31,7 +31,7 @@ fn first_of(found: Lookup, i: usize) -> Lookup
 
 // What is found once entry i was looked at.
 fn found_with(found: Lookup, right: bool, i: usize) -> Lookup
-    ensures { foundIn result ≡ earlier (foundIn found) (cond right none (some i)) }
+    ensures { found_in result ≡ earlier (found_in found) (cond right none (some i)) }
 {
     if right {
         return found;
@@ -41,7 +41,7 @@ fn found_with(found: Lookup, right: bool, i: usize) -> Lookup
 
 // How many entries are looked at.
 fn entries(starts: &[u8]) -> usize
-    ensures { result ≡ min (length starts.now) enoughStarts }
+    ensures { result ≡ min (length starts.now) enough_starts }
 {
     if starts.len() < ENOUGH_STARTS {
         starts.len()
@@ -52,8 +52,8 @@ fn entries(starts: &[u8]) -> usize
 
 // 02: "an entry not above the one before it or naming a state the table lacks, the first such index"
 pub fn wrong_start(states: usize, starts: &[u8]) -> Lookup
-    requires { states ≤ mostStates }
-    ensures { foundIn result ≡ wrongStart states starts.now }
+    requires { states ≤ most_states }
+    ensures { found_in result ≡ wrong_start states starts.now }
 {
     let end = entries(starts);
     let mut found = Lookup::Nowhere;

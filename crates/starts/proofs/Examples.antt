@@ -4,22 +4,22 @@ use mathlib.Core.List.{[], ◌∷◌}
 use mathlib.Core.Option.{none, some}
 use Prim.Native.Nat.{ℕ}
 use Rattle.lts.specs.Steps.{silent}
-use Rattle.lts.specs.inner.Steps.{stepsFrom}
+use Rattle.lts.specs.inner.Steps.{steps_from}
 use Rattle.lts.proofs.Examples.{M}
 use Rattle.actl.specs.Actions.{labels, in_set, meets, passes}
-use Rattle.actl.specs.Formulas.{tru, not, ex, euThen}
+use Rattle.actl.specs.Formulas.{tru, not, ex, eu_then}
 use Rattle.satisfaction.specs.inner.Holds.{holds, within}
-use Rattle.starts.specs.Starts.{wrongStart}
-use Rattle.starts.specs.VerdictsAsked.{verdictsAt, joint}
+use Rattle.starts.specs.Starts.{wrong_start}
+use Rattle.starts.specs.VerdictsAsked.{verdicts_at, joint}
 
 -- `EU[*;ack] T` holds at 0 and 1, and not at 2.
-each_start : verdictsAt M (euThen 6 4 tru) (0 ∷ 1 ∷ 2 ∷ []) ≡ 1 ∷ 1 ∷ 0 ∷ []
-unfolding holds within stepsFrom passes in_set silent
+each_start : verdicts_at M (eu_then 6 4 tru) (0 ∷ 1 ∷ 2 ∷ []) ≡ 1 ∷ 1 ∷ 0 ∷ []
+unfolding holds within steps_from passes in_set silent
 each_start = refl
 
 -- `EX[ack] T` holds at 1 alone, where M does not start.
-listed-not-start : verdictsAt M (ex (labels 4) tru) (1 ∷ []) ≡ 1 ∷ []
-unfolding holds within stepsFrom meets in_set silent
+listed-not-start : verdicts_at M (ex (labels 4) tru) (1 ∷ []) ≡ 1 ∷ []
+unfolding holds within steps_from meets in_set silent
 listed-not-start = refl
 
 -- "whether it holds at all of them", "For an empty list the joint answer is yes."
@@ -29,30 +29,30 @@ not-at-all = refl
 at_all : joint (1 ∷ 1 ∷ []) ≡ 1
 at_all = refl
 
-at_none : joint (verdictsAt M (not tru) []) ≡ 1
+at_none : joint (verdicts_at M (not tru) []) ≡ 1
 at_none = refl
 
 -- The first entry that is wrong: equal to the one before, below it, no state of three.
-none-wrong : wrongStart 3 (0 ∷ 1 ∷ 2 ∷ []) ≡ none
-unfolding wrongStart
+none-wrong : wrong_start 3 (0 ∷ 1 ∷ 2 ∷ []) ≡ none
+unfolding wrong_start
 none-wrong = refl
 
-nothing-listed : wrongStart 3 [] ≡ none
-unfolding wrongStart
-nothing-listed = refl
+nothing_listed : wrong_start 3 [] ≡ none
+unfolding wrong_start
+nothing_listed = refl
 
-equal-neighbours : wrongStart 3 (0 ∷ 1 ∷ 1 ∷ []) ≡ some 2
-unfolding wrongStart
-equal-neighbours = refl
+equal_neighbours : wrong_start 3 (0 ∷ 1 ∷ 1 ∷ []) ≡ some 2
+unfolding wrong_start
+equal_neighbours = refl
 
-falling : wrongStart 3 (2 ∷ 1 ∷ 0 ∷ []) ≡ some 1
-unfolding wrongStart
+falling : wrong_start 3 (2 ∷ 1 ∷ 0 ∷ []) ≡ some 1
+unfolding wrong_start
 falling = refl
 
-count-listed : wrongStart 3 (3 ∷ 0 ∷ []) ≡ some 0
-unfolding wrongStart
+count-listed : wrong_start 3 (3 ∷ 0 ∷ []) ≡ some 0
+unfolding wrong_start
 count-listed = refl
 
-last-state : wrongStart 256 (0 ∷ 255 ∷ []) ≡ none
-unfolding wrongStart
+last-state : wrong_start 256 (0 ∷ 255 ∷ []) ≡ none
+unfolding wrong_start
 last-state = refl

@@ -9,8 +9,8 @@ use native.Mathlib.Omega.{arith}
 use lib.Dec.{leb, ltb}
 use lib.ListN.{length, get_or}
 use borrow.Author.Tests.{leb-true, leb-false, ltb-true, ltb-false}
-use Rattle.lts.specs.Sizes.{mostStates}
-use Rattle.starts.specs.Starts.{RightAt, FirstWrong, wrongFrom, wrongStart}
+use Rattle.lts.specs.Sizes.{most_states}
+use Rattle.starts.specs.Starts.{RightAt, FirstWrong, wrong_from, wrong_start}
 
 module _ (states : ℕ) where
   -- The same of the rest of a list, whose first entry is to be at least `least`.
@@ -47,7 +47,7 @@ module _ (states : ℕ) where
   abbrev Searched : ℕ → ℕ → List ℕ → Option ℕ → Type 0
   Searched least i l o = ((o ≡ none) × AllFrom least l) ⊎ ((j : ℕ) × (o ≡ some (i + j)) × FirstFrom least l j)
 
-  searched : (least i : ℕ) (l : List ℕ) → Searched least i l (wrongFrom states least i l)
+  searched : (least i : ℕ) (l : List ℕ) → Searched least i l (wrong_from states least i l)
   searched least i [] = inl (refl, λ j h. absurd (omega arith))
   searched least i (s ∷ l) = by (leb least s) refl (ltb s states) refl (searched (suc s) (suc i) l)
     where
@@ -66,8 +66,8 @@ module _ (states : ℕ) where
           before zero b = here least s l h k
           before (suc m) b = later least s l m (f.first m (omega arith))
 
-      by : (a : Bool) → leb least s ≡ a → (b : Bool) → ltb s states ≡ b → Searched (suc s) (suc i) l (wrongFrom states (suc s) (suc i) l)
-          → Searched least i (s ∷ l) (cond (a && b) (wrongFrom states (suc s) (suc i) l) (some i))
+      by : (a : Bool) → leb least s ≡ a → (b : Bool) → ltb s states ≡ b → Searched (suc s) (suc i) l (wrong_from states (suc s) (suc i) l)
+          → Searched least i (s ∷ l) (cond (a && b) (wrong_from states (suc s) (suc i) l) (some i))
       by true d true e r = on (leb-true least s d) (ltb-true s states e) r
       by true d false e r = inr (stop (λ q. omega (arith, q.right.stands, ltb-false s states e)))
       by false d b e r = inr (stop (λ q. omega (arith, q.begins refl, leb-false least s d)))
@@ -76,8 +76,8 @@ module _ (states : ℕ) where
     whole : {i : ℕ} → RightAt states starts i → RightFrom 0 starts i
     whole r = record { begins = λ e. omega arith; right = r }
 
-    from_start : Searched 0 0 starts (wrongStart states starts)
-    unfolding wrongStart
+    from_start : Searched 0 0 starts (wrong_start states starts)
+    unfolding wrong_start
     from_start = searched 0 0 starts
 
     first_of : {j : ℕ} → FirstFrom 0 starts j → FirstWrong states starts j
@@ -96,8 +96,8 @@ module _ (states : ℕ) where
     found_none : {i : ℕ} {B : Type 0} → ◌≡◌ {A = Option ℕ} (some i) none → B
     found_none e = let z : ◌≡◌ {A = ℕ} 0 1 = cc in absurd (omega arith)
 
-    pub wrong_first : (i : ℕ) → (wrongStart states starts ≡ some i) ↔ FirstWrong states starts i
-    wrong_first i = by (wrongStart states starts) from_start
+    pub wrong_first : (i : ℕ) → (wrong_start states starts ≡ some i) ↔ FirstWrong states starts i
+    wrong_first i = by (wrong_start states starts) from_start
       where
         by : (o : Option ℕ) → Searched 0 0 starts o → (o ≡ some i) ↔ FirstWrong states starts i
         by o (inl (e, all)) = (λ d. found_none (sym d ∙ e), λ f. absurd (f.wrong (all i f.listed).right))
@@ -106,8 +106,8 @@ module _ (states : ℕ) where
           λ g. e ∙ ap some (omega (arith, same_first (first_of f) g)),
         )
 
-    pub wrong-nowhere : (wrongStart states starts ≡ none) ↔ ((i : ℕ) → i < length starts → RightAt states starts i)
-    wrong-nowhere = by (wrongStart states starts) from_start
+    pub wrong-nowhere : (wrong_start states starts ≡ none) ↔ ((i : ℕ) → i < length starts → RightAt states starts i)
+    wrong-nowhere = by (wrong_start states starts) from_start
       where
         by : (o : Option ℕ) → Searched 0 0 starts o → (o ≡ none) ↔ ((i : ℕ) → i < length starts → RightAt states starts i)
         by o (inl (e, all)) = (λ d i b. (all i b).right, λ h. e)
@@ -119,16 +119,16 @@ module _ (states : ℕ) where
     risen (suc i) h = omega (arith, risen i (λ j b. h j (omega arith)), (h (suc i) (omega arith)).above i refl)
 
     -- 02: "up to 256 states". A longer list has a wrong entry among its first 257.
-    pub too_many : states ≤ mostStates → mostStates < length starts → (i : ℕ) × (wrongStart states starts ≡ some i) × (i ≤ mostStates)
-    too_many few many = by (wrongStart states starts) from_start
+    pub too_many : states ≤ most_states → most_states < length starts → (i : ℕ) × (wrong_start states starts ≡ some i) × (i ≤ most_states)
+    too_many few many = by (wrong_start states starts) from_start
       where
-        not-all : ((j : ℕ) → j ≤ mostStates → RightAt states starts j) → ⊥
-        not-all h = omega (arith, risen mostStates h, (h mostStates (omega arith)).stands)
+        not-all : ((j : ℕ) → j ≤ most_states → RightAt states starts j) → ⊥
+        not-all h = omega (arith, risen most_states h, (h most_states (omega arith)).stands)
 
-        by : (o : Option ℕ) → Searched 0 0 starts o → (i : ℕ) × (o ≡ some i) × (i ≤ mostStates)
+        by : (o : Option ℕ) → Searched 0 0 starts o → (i : ℕ) × (o ≡ some i) × (i ≤ most_states)
         by o (inl (e, all)) = absurd (not-all (λ j b. (all j (omega arith)).right))
-        by o (inr (j, e, f)) = (0 + j, e, early (leb j mostStates) refl)
+        by o (inr (j, e, f)) = (0 + j, e, early (leb j most_states) refl)
           where
-            early : (b : Bool) → leb j mostStates ≡ b → 0 + j ≤ mostStates
-            early true d = omega (arith, leb-true j mostStates d)
-            early false d = absurd (not-all (λ m c. (f.first m (omega (arith, leb-false j mostStates d))).right))
+            early : (b : Bool) → leb j most_states ≡ b → 0 + j ≤ most_states
+            early true d = omega (arith, leb-true j most_states d)
+            early false d = absurd (not-all (λ m c. (f.first m (omega (arith, leb-false j most_states d))).right))

@@ -4,15 +4,15 @@ use Rattle.std.proofs.Math.Option.{Option, none, some}
 use Rattle.lts.specs.Steps.{Table}
 
 -- 02: "a table with that start"
-abbrev pub startingAt : Table → ℕ → Table
-startingAt t s = record { states = t.states; names = t.names; transitions = t.transitions; start = s }
+abbrev pub starting_at : Table → ℕ → Table
+starting_at t s = record { states = t.states; names = t.names; transitions = t.transitions; start = s }
 
 -- The same in prepared bytes: docs/FORMATS.md has the start in byte 5.
-abbrev pub startByte : ℕ
-startByte = 5
+abbrev pub start_byte : ℕ
+start_byte = 5
 
-abbrev pub withStart : List ℕ → ℕ → List ℕ
-withStart table s = set table startByte s
+abbrev pub with_start : List ℕ → ℕ → List ℕ
+with_start table s = set table start_byte s
 
 -- An entry is right if it is above the one before it and the table, of so many states, has the state.
 pub record RightAt (states : ℕ) (starts : List ℕ) (i : ℕ) : Type 0 where
@@ -26,12 +26,12 @@ pub record FirstWrong (states : ℕ) (starts : List ℕ) (i : ℕ) : Type 0 wher
   pub first : (j : ℕ) → j < i → RightAt states starts j
 
 -- The same as a search. `least` is what the next entry may be at the least, i how many came before.
-abbrev pub isRight : ℕ → ℕ → ℕ → Bool
-isRight states least s = leb least s && ltb s states
+abbrev pub is_right : ℕ → ℕ → ℕ → Bool
+is_right states least s = leb least s && ltb s states
 
-abbrev pub wrongFrom : ℕ → ℕ → ℕ → List ℕ → Option ℕ
-wrongFrom states least i [] = none
-wrongFrom states least i (s ∷ l) = cond (isRight states least s) (wrongFrom states (suc s) (suc i) l) (some i)
+abbrev pub wrong_from : ℕ → ℕ → ℕ → List ℕ → Option ℕ
+wrong_from states least i [] = none
+wrong_from states least i (s ∷ l) = cond (is_right states least s) (wrong_from states (suc s) (suc i) l) (some i)
 
-unfoldable pub wrongStart : ℕ → List ℕ → Option ℕ
-wrongStart states starts = wrongFrom states 0 0 starts
+unfoldable pub wrong_start : ℕ → List ℕ → Option ℕ
+wrong_start states starts = wrong_from states 0 0 starts

@@ -1,11 +1,11 @@
 // Whether bytes are a prepared table: the counts, each name's slot, each transition's slot, and zeros in the slots that are not used.
 ghost use Rattle.std.specs.Prelude.{◌≡◌, ◌+◌, ◌*◌, ◌≤◌, ◌<◌, length};
-ghost use Rattle.lts.specs.Sizes.{mostLabels, mostTransitions, tableLength};
+ghost use Rattle.lts.specs.Sizes.{most_labels, most_transitions, table_length};
 ghost use Rattle.lts.specs.Steps.{labels};
-ghost use Rattle.lts.specs.inner.Prepared.{tableIn, name_at, transitionAt, preparedTable};
+ghost use Rattle.lts.specs.inner.Prepared.{table_in, name_at, transition_at, prepared_table};
 ghost use Rattle.lts.specs.inner.Answers.{Counted, Decides, is_some};
 ghost use Rattle.table_check.specs.inner.Filled.{HeldBefore, NamesFilled, TransitionsFilled};
-ghost use Rattle.table_check.specs.inner.Keys.{stepKey, SlotHeld};
+ghost use Rattle.table_check.specs.inner.Keys.{step_key, SlotHeld};
 ghost use Rattle.lts.specs.inner.Check.{ZerosFrom, CountsHeld, NameHeld, NewName, NamesHeld, TransitionsHeld};
 
 use byte_words::words::word;
@@ -17,7 +17,7 @@ use lts::sizes::{
 use tables::prepared::{label_count, start_state, state_count, transition_at, transition_count};
 
 pub fn is_prepared(table: &[u8]) -> bool
-    ensures { result ≡ is_some (preparedTable table.now) }
+    ensures { result ≡ is_some (prepared_table table.now) }
 {
     if table.len() < TABLE_LENGTH {
         return false;
@@ -33,7 +33,7 @@ pub fn is_prepared(table: &[u8]) -> bool
 
 // Whether the name slots are as they must be: the names, and zeros behind them.
 fn names_filled(table: &[u8]) -> bool
-    requires { (tableLength ≤ length table.now) × (labels (tableIn table.now) ≤ mostLabels) }
+    requires { (table_length ≤ length table.now) × (labels (table_in table.now) ≤ most_labels) }
     ensures { Decides (NamesFilled table.now) result }
 {
     if !names_held(table) {
@@ -44,7 +44,7 @@ fn names_filled(table: &[u8]) -> bool
 
 // The same of the transition slots.
 fn transitions_filled(table: &[u8]) -> bool
-    requires { (tableLength ≤ length table.now) × (length (tableIn table.now).transitions ≤ mostTransitions) }
+    requires { (table_length ≤ length table.now) × (length (table_in table.now).transitions ≤ most_transitions) }
     ensures { Decides (TransitionsFilled table.now) result }
 {
     if !transitions_held(table) {
@@ -72,8 +72,8 @@ pub fn zeros(bytes: &[u8], from: usize, to: usize) -> bool
 }
 
 fn counts_held(table: &[u8]) -> bool
-    requires { tableLength ≤ length table.now }
-    ensures { Decides (CountsHeld (tableIn table.now)) result }
+    requires { table_length ≤ length table.now }
+    ensures { Decides (CountsHeld (table_in table.now)) result }
 {
     let states = state_count(table);
     if states < 1 {
@@ -95,7 +95,7 @@ fn counts_held(table: &[u8]) -> bool
 }
 
 fn names_held(table: &[u8]) -> bool
-    requires { (tableLength ≤ length table.now) × (labels (tableIn table.now) ≤ mostLabels) }
+    requires { (table_length ≤ length table.now) × (labels (table_in table.now) ≤ most_labels) }
     ensures { Decides (NamesHeld table.now) result }
 {
     let n = label_count(table);
@@ -113,7 +113,7 @@ fn names_held(table: &[u8]) -> bool
 }
 
 fn name_held(table: &[u8], k: usize) -> bool
-    requires { (tableLength ≤ length table.now) × (k < mostLabels) }
+    requires { (table_length ≤ length table.now) × (k < most_labels) }
     ensures { Decides (NameHeld table.now k) result }
 {
     let span = name_span(table, k);
@@ -131,7 +131,7 @@ fn name_held(table: &[u8], k: usize) -> bool
 
 // Whether no slot before slot k holds its name.
 fn new_name(table: &[u8], k: usize) -> bool
-    requires { (tableLength ≤ length table.now) × ((k < mostLabels) × HeldBefore table.now (k + 1)) }
+    requires { (table_length ≤ length table.now) × ((k < most_labels) × HeldBefore table.now (k + 1)) }
     ensures { Decides (NewName table.now k) result }
 {
     let mut j: usize = 0;
@@ -146,7 +146,7 @@ fn new_name(table: &[u8], k: usize) -> bool
 
 // Whether two slots hold one name: then they have the same bytes, as zeros stand behind a name. Eight bytes are compared at once.
 fn same_slot(table: &[u8], j: usize, k: usize) -> bool
-    requires table_length_in_bounds { (tableLength ≤ length table.now) × ((j < mostLabels) × (k < mostLabels)) }
+    requires table_length_in_bounds { (table_length ≤ length table.now) × ((j < most_labels) × (k < most_labels)) }
     requires name_held { NameHeld table.now j × NameHeld table.now k }
     ensures { Decides (name_at table.now j ≡ name_at table.now k) result }
 {
@@ -160,7 +160,7 @@ fn same_slot(table: &[u8], j: usize, k: usize) -> bool
 
 // Keys rise from slot to slot, so the last one tells whether all transitions leave states.
 fn transitions_held(table: &[u8]) -> bool
-    requires { (tableLength ≤ length table.now) × (length (tableIn table.now).transitions ≤ mostTransitions) }
+    requires { (table_length ≤ length table.now) × (length (table_in table.now).transitions ≤ most_transitions) }
     ensures { Decides (TransitionsHeld table.now) result }
 {
     let n = transition_count(table);
@@ -179,7 +179,7 @@ fn transitions_held(table: &[u8]) -> bool
 }
 
 fn slot_held(table: &[u8], states: usize, most: usize, least: usize, k: usize) -> bool
-    requires { (tableLength ≤ length table.now) × (k < mostTransitions) }
+    requires { (table_length ≤ length table.now) × (k < most_transitions) }
     ensures { Decides (SlotHeld table.now states most least k) result }
 {
     let here = transition_at(table, k);
@@ -194,8 +194,8 @@ fn slot_held(table: &[u8], states: usize, most: usize, least: usize, k: usize) -
 
 // The transition in slot k as one number: they rise as these do.
 fn step_key(table: &[u8], k: usize) -> usize
-    requires { (tableLength ≤ length table.now) × (k < mostTransitions) }
-    ensures { Counted 16777216 (stepKey (transitionAt table.now k)) result }
+    requires { (table_length ≤ length table.now) × (k < most_transitions) }
+    ensures { Counted 16777216 (step_key (transition_at table.now k)) result }
 {
     let here = transition_at(table, k);
     (here.from * 256 + here.label) * 256 + here.to

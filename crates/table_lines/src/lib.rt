@@ -1,8 +1,8 @@
 // The lines of a table's text: what each says, where the next one starts, and whether its numbers are in range.
 ghost use Rattle.std.specs.Prelude.{◌≡◌, ◌+◌, ◌<◌, ◌≤◌, eqb, length, get_or};
-ghost use Rattle.lts.specs.Reading.{headerInRange, stepInRange};
+ghost use Rattle.lts.specs.Reading.{header_in_range, step_in_range};
 ghost use Rattle.table_lines.specs.inner.LineReplies.{pair_at, header, HeaderAnswer, LabelAnswer, TransitionAnswer};
-ghost use Rattle.tables.specs.inner.Access.{stepIn};
+ghost use Rattle.tables.specs.inner.Access.{step_in};
 
 use columns::Column;
 use columns::small::small_at;
@@ -164,7 +164,7 @@ pub fn transition_line(text: &[u8], at: usize) -> TransitionLine
 }
 
 pub fn header_in_range(c: HeaderFields) -> bool
-    ensures { result ≡ headerInRange (header c) }
+    ensures { result ≡ header_in_range (header c) }
 {
     if c.states < 1 {
         return false;
@@ -182,7 +182,7 @@ pub fn header_in_range(c: HeaderFields) -> bool
 }
 
 pub fn transition_in_range(c: HeaderFields, t: Transition) -> bool
-    ensures { result ≡ stepInRange (header c) (stepIn t) }
+    ensures { result ≡ step_in_range (header c) (step_in t) }
 {
     if c.states <= t.from {
         return false;

@@ -1,20 +1,20 @@
 // The slots that reading fills, laid out as in the prepared table: names, transitions, and whether a transition rises.
 ghost use Rattle.std.specs.Prelude.{◌≡◌, ◌+◌, ◌*◌, ◌<◌, ◌≤◌, length};
-ghost use Rattle.lts.specs.Sizes.{mostTransitions, nameSlotLength, transitionLength};
-ghost use Rattle.lts.specs.inner.Sizes.{transitionsLength};
+ghost use Rattle.lts.specs.Sizes.{most_transitions, name_slot_length, transition_length};
+ghost use Rattle.lts.specs.inner.Sizes.{transitions_length};
 ghost use Rattle.columns.specs.inner.Write.{pasted};
-ghost use Rattle.lts.specs.inner.Sizes.{longestName};
-ghost use Rattle.lts.specs.Prepared.{transitionSlot};
-ghost use Rattle.lts.specs.inner.Slots.{risesAfter, counted};
-ghost use Rattle.tables.specs.inner.Access.{stepIn};
+ghost use Rattle.lts.specs.inner.Sizes.{longest_name};
+ghost use Rattle.lts.specs.Prepared.{transition_slot};
+ghost use Rattle.lts.specs.inner.Slots.{rises_after, counted};
+ghost use Rattle.tables.specs.inner.Access.{step_in};
 
 use lts::sizes::{NAME_SLOT, TRANSITION};
 use tables::prepared::{Transition, below};
 
 // Whether a transition is above the last of the first `count` in the transition slots.
 pub fn rises(slots: &[u8], count: usize, t: Transition) -> bool
-    requires { (length slots.now ≡ transitionsLength) × (count ≤ mostTransitions) }
-    ensures { result ≡ risesAfter slots.now count (stepIn t) }
+    requires { (length slots.now ≡ transitions_length) × (count ≤ most_transitions) }
+    ensures { result ≡ rises_after slots.now count (step_in t) }
 {
     if count == 0 {
         return true;
@@ -40,8 +40,8 @@ pub fn write_at(bytes: &mut [u8], at: usize, part: &[u8])
 }
 
 pub fn write_transition(slots: &mut [u8], count: usize, t: Transition)
-    requires { (count * transitionLength + transitionLength ≤ length slots.old) × ((t.from < 256) × ((t.label < 256) × (t.to < 256))) }
-    ensures { slots.new ≡ pasted slots.old (count * transitionLength) (transitionSlot (stepIn t)) }
+    requires { (count * transition_length + transition_length ≤ length slots.old) × ((t.from < 256) × ((t.label < 256) × (t.to < 256))) }
+    ensures { slots.new ≡ pasted slots.old (count * transition_length) (transition_slot (step_in t)) }
 {
     let i = count * TRANSITION;
     slots[i] = t.from as u8;
@@ -50,8 +50,8 @@ pub fn write_transition(slots: &mut [u8], count: usize, t: Transition)
 }
 
 pub fn write_name(names: &mut [u8], count: usize, name: &[u8])
-    requires { (count * nameSlotLength + nameSlotLength ≤ length names.old) × (length name.now ≤ longestName) }
-    ensures { names.new ≡ pasted names.old (count * nameSlotLength) (counted name.now) }
+    requires { (count * name_slot_length + name_slot_length ≤ length names.old) × (length name.now ≤ longest_name) }
+    ensures { names.new ≡ pasted names.old (count * name_slot_length) (counted name.now) }
 {
     let i = count * NAME_SLOT;
     names[i] = name.len() as u8;

@@ -1,12 +1,12 @@
--- 01, "What the entries turn back": the number and the figure of each case that `read_table` answers.
+-- 01, "What the entries turn back": the number and the figure of each case that `read_table_lem` answers.
 use Rattle.lts.specs.Reply.{Reply, accepted, refusal}
 use Rattle.table_text.specs.declared.TableReply.{TableReply}
 use Rattle.table_text.specs.declared.TableReply.TheVariants.{Accepted, NotLaidOut, OutOfRange, NameRepeated, NotRising, BufferShort}
 
-abbrev pub tableReply : TableReply → Reply (Unit {0})
-tableReply Accepted = accepted tt
-tableReply (NotLaidOut line) = refusal 1 line
-tableReply (OutOfRange line) = refusal 2 line
-tableReply (NameRepeated line) = refusal 3 line
-tableReply (NotRising line) = refusal 4 line
-tableReply (BufferShort needed) = refusal 14 needed
+abbrev pub table_reply : TableReply → Reply (Unit {0})
+table_reply Accepted = accepted tt
+table_reply (NotLaidOut line) = refusal 1 line
+table_reply (OutOfRange line) = refusal 2 line
+table_reply (NameRepeated line) = refusal 3 line
+table_reply (NotRising line) = refusal 4 line
+table_reply (BufferShort needed) = refusal 14 needed

@@ -1,12 +1,12 @@
 // Reading a table's text, line by line. Names and transitions are gathered in local bytes, laid out as in the prepared table, so that
 // the lent bytes are written only when the whole text is accepted.
 ghost use Rattle.std.specs.Prelude.{◌≡◌, ◌+◌, ◌<◌, ◌≤◌, length, replicate};
-ghost use Rattle.lts.specs.Sizes.{mostStates, mostLabels, mostTransitions};
-ghost use Rattle.lts.specs.inner.Sizes.{namesLength, transitionsLength};
-ghost use Rattle.table_text.specs.Replies.{tableReply};
-ghost use Rattle.lts.specs.TableReading.{tableReplied, tableLeft};
+ghost use Rattle.lts.specs.Sizes.{most_states, most_labels, most_transitions};
+ghost use Rattle.lts.specs.inner.Sizes.{names_length, transitions_length};
+ghost use Rattle.table_text.specs.Replies.{table_reply};
+ghost use Rattle.lts.specs.TableReading.{table_replied, table_left};
 ghost use Rattle.table_lines.specs.inner.LineReplies.{header};
-ghost use Rattle.table_text.specs.inner.Progress.{LabelProgress, LabelsRead, TransitionProgress, TransitionsRead, LinesRead, isAccepted, numberRefused};
+ghost use Rattle.table_text.specs.inner.Progress.{LabelProgress, LabelsRead, TransitionProgress, TransitionsRead, LinesRead, is_accepted, number_refused};
 
 use label_names::find;
 use lts::sizes::{NAMES_LENGTH, TABLE_LENGTH, TRANSITIONS_LENGTH};
@@ -18,7 +18,7 @@ use table_lines::{
 };
 use tables::lookup::Lookup;
 
-// What `read_table` answers. specs/Replies.antt lists the number and the figure of each case.
+// What `read_table_lem` answers. specs/Replies.antt lists the number and the figure of each case.
 #[derive(Drop)]
 pub enum TableReply {
     Accepted,
@@ -38,7 +38,7 @@ enum Progress {
 
 // The line of the label after `count` names.
 fn read_label(text: &[u8], at: usize, names: &mut [u8], count: usize) -> Progress
-    requires { (at ≤ length text.now) × ((length names.old ≡ namesLength) × (count < mostLabels)) }
+    requires { (at ≤ length text.now) × ((length names.old ≡ names_length) × (count < most_labels)) }
     ensures { LabelProgress text.now at count names.old names.new result }
 {
     let line = count + 2;
@@ -59,7 +59,7 @@ fn read_label(text: &[u8], at: usize, names: &mut [u8], count: usize) -> Progres
 
 // The lines of all labels, from `from`.
 fn read_labels(text: &[u8], from: usize, counts: HeaderFields, names: &mut [u8]) -> Progress
-    requires { (from ≤ length text.now) × ((names.old ≡ replicate namesLength 0) × (counts.labels ≤ mostLabels)) }
+    requires { (from ≤ length text.now) × ((names.old ≡ replicate names_length 0) × (counts.labels ≤ most_labels)) }
     ensures { LabelsRead (header counts) text.now from names.new result }
 {
     let mut at = from;
@@ -77,7 +77,7 @@ fn read_labels(text: &[u8], from: usize, counts: HeaderFields, names: &mut [u8])
 
 // 01: "on each line 1, 2": a number out of range counts only where the line is laid out.
 fn number_refused(laidout: bool, line: usize) -> TableReply
-    ensures { result ≡ numberRefused laidout line }
+    ensures { result ≡ number_refused laidout line }
 {
     if laidout {
         TableReply::OutOfRange(line)
@@ -94,8 +94,8 @@ fn read_transition(
     slots: &mut [u8],
     count: usize,
 ) -> Progress
-    requires at_in_bounds { (at ≤ length text.now) × ((length slots.old ≡ transitionsLength) × (count < mostTransitions)) }
-    requires states_le_most_states { (counts.states ≤ mostStates) × (counts.labels ≤ mostLabels) }
+    requires at_in_bounds { (at ≤ length text.now) × ((length slots.old ≡ transitions_length) × (count < most_transitions)) }
+    requires states_le_most_states { (counts.states ≤ most_states) × (counts.labels ≤ most_labels) }
     ensures { TransitionProgress (header counts) text.now at count slots.old slots.new result }
 {
     let line = counts.labels + count + 2;
@@ -118,8 +118,8 @@ fn read_transition(
 
 // The lines of all transitions, from `from`, and the end of the text.
 fn read_transitions(text: &[u8], from: usize, counts: HeaderFields, slots: &mut [u8]) -> Progress
-    requires from_in_bounds { (from ≤ length text.now) × (slots.old ≡ replicate transitionsLength 0) }
-    requires states_le_most_states { (counts.states ≤ mostStates) × ((counts.labels ≤ mostLabels) × (counts.transitions ≤ mostTransitions)) }
+    requires from_in_bounds { (from ≤ length text.now) × (slots.old ≡ replicate transitions_length 0) }
+    requires states_le_most_states { (counts.states ≤ most_states) × ((counts.labels ≤ most_labels) × (counts.transitions ≤ most_transitions)) }
     ensures { TransitionsRead (header counts) text.now from slots.new result }
 {
     let mut at = from;
@@ -140,8 +140,8 @@ fn read_transitions(text: &[u8], from: usize, counts: HeaderFields, slots: &mut 
 
 // The lines behind the first, into slots that are all zero.
 fn read_lines(text: &[u8], counts: HeaderFields, names: &mut [u8], slots: &mut [u8]) -> TableReply
-    requires in_bounds { (25 ≤ length text.now) × ((names.old ≡ replicate namesLength 0) × (slots.old ≡ replicate transitionsLength 0)) }
-    requires states_le_most_states { (counts.states ≤ mostStates) × ((counts.labels ≤ mostLabels) × (counts.transitions ≤ mostTransitions)) }
+    requires in_bounds { (25 ≤ length text.now) × ((names.old ≡ replicate names_length 0) × (slots.old ≡ replicate transitions_length 0)) }
+    requires states_le_most_states { (counts.states ≤ most_states) × ((counts.labels ≤ most_labels) × (counts.transitions ≤ most_transitions)) }
     ensures { LinesRead (header counts) text.now names.new slots.new result }
 {
     let labels_read = read_labels(text, 25, counts, names);
@@ -159,7 +159,7 @@ fn read_lines(text: &[u8], counts: HeaderFields, names: &mut [u8], slots: &mut [
 
 // Whether the lent bytes are to be written.
 fn is_accepted(reply: TableReply) -> bool
-    ensures { result ≡ isAccepted (tableReply reply) }
+    ensures { result ≡ is_accepted (table_reply reply) }
 {
     match reply {
         TableReply::Accepted => true,
@@ -172,9 +172,9 @@ fn is_accepted(reply: TableReply) -> bool
 }
 
 // Reads a table's text into the prepared bytes.
-pub fn read_table(text: &[u8], table: &mut [u8]) -> TableReply
-    ensures result_value { tableReply result ≡ tableReplied text.now table.old }
-    ensures table_after { table.new ≡ tableLeft text.now table.old }
+pub fn read_table_lem(text: &[u8], table: &mut [u8]) -> TableReply
+    ensures result_value { table_reply result ≡ table_replied text.now table.old }
+    ensures table_after { table.new ≡ table_left text.now table.old }
 {
     if table.len() < TABLE_LENGTH {
         return TableReply::BufferShort(TABLE_LENGTH);

@@ -1,11 +1,11 @@
 // What stands in the bytes of a prepared table: counts and transitions.
 // docs/FORMATS.md has the layout.
 ghost use Rattle.std.specs.Prelude.{◌≡◌, ◌+◌, ◌*◌, ◌≤◌, ◌<◌, length};
-ghost use Rattle.lts.specs.Sizes.{mostTransitions, tableLength};
+ghost use Rattle.lts.specs.Sizes.{most_transitions, table_length};
 ghost use Rattle.lts.specs.Steps.{labels};
-ghost use Rattle.lts.specs.inner.Prepared.{tableIn, byte_at};
-ghost use Rattle.lts.specs.Reading.{stepBelow};
-ghost use Rattle.tables.specs.inner.Access.{StepRead, stepIn};
+ghost use Rattle.lts.specs.inner.Prepared.{table_in, byte_at};
+ghost use Rattle.lts.specs.Reading.{step_below};
+ghost use Rattle.tables.specs.inner.Access.{StepRead, step_in};
 ghost use Rattle.lts.specs.inner.Answers.{Counted};
 
 use lts::sizes::{LABELS_AT, TARGETS_AT, TRANSITION, TRANSITIONS_AT};
@@ -33,35 +33,35 @@ fn two_bytes(table: &[u8], i: usize) -> usize
 }
 
 pub fn state_count(table: &[u8]) -> usize
-    requires { tableLength ≤ length table.now }
-    ensures { Counted 65536 (tableIn table.now).states result }
+    requires { table_length ≤ length table.now }
+    ensures { Counted 65536 (table_in table.now).states result }
 {
     two_bytes(table, 0)
 }
 
 pub fn label_count(table: &[u8]) -> usize
-    requires { tableLength ≤ length table.now }
-    ensures { Counted 256 (labels (tableIn table.now)) result }
+    requires { table_length ≤ length table.now }
+    ensures { Counted 256 (labels (table_in table.now)) result }
 {
     byte(table, 2)
 }
 
 pub fn transition_count(table: &[u8]) -> usize
-    requires { tableLength ≤ length table.now }
-    ensures { Counted 65536 (length (tableIn table.now).transitions) result }
+    requires { table_length ≤ length table.now }
+    ensures { Counted 65536 (length (table_in table.now).transitions) result }
 {
     two_bytes(table, 3)
 }
 
 pub fn start_state(table: &[u8]) -> usize
-    requires { tableLength ≤ length table.now }
-    ensures { Counted 256 (tableIn table.now).start result }
+    requires { table_length ≤ length table.now }
+    ensures { Counted 256 (table_in table.now).start result }
 {
     byte(table, 5)
 }
 
 pub fn transition_at(table: &[u8], k: usize) -> Transition
-    requires { (tableLength ≤ length table.now) × (k < mostTransitions) }
+    requires { (table_length ≤ length table.now) × (k < most_transitions) }
     ensures { StepRead table.now k result }
 {
     let at = k * TRANSITION;
@@ -74,7 +74,7 @@ pub fn transition_at(table: &[u8], k: usize) -> Transition
 
 // Rising by (from, label, to).
 pub fn below(a: Transition, b: Transition) -> bool
-    ensures { result ≡ stepBelow (stepIn a) (stepIn b) }
+    ensures { result ≡ step_below (step_in a) (step_in b) }
 {
     if a.from != b.from {
         return a.from < b.from;

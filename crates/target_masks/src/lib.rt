@@ -1,41 +1,41 @@
 // The places that a step leads to, as masks, and the final places of a prepared formula: from the last node to the first, so that arms
 // come before their node.
 ghost use Rattle.std.specs.Prelude.{◌≡◌, cond, not, ◌+◌, ◌^◌, ◌<◌, ◌≤◌, eqb, length, get_or};
-ghost use Rattle.actl.specs.Sizes.{mostNodes, formulaLength};
-ghost use Rattle.automaton.specs.inner.Sizes.{columnCount, masksLength};
+ghost use Rattle.actl.specs.Sizes.{most_nodes, formula_length};
+ghost use Rattle.automaton.specs.inner.Sizes.{column_count, masks_length};
 ghost use Rattle.lts.specs.inner.Steps.{Carried};
 ghost use Rattle.actl.specs.Actions as actions;
 ghost use Rattle.actl.specs.Formulas.{Formula};
 ghost use Rattle.actl.specs.inner.Prepared.{slot_at};
-ghost use Rattle.target_masks.specs.inner.Masks.{bitIf, columnOf, maskOn, maskOfNode, finalOfNode, Spells, MasksFit, MasksOf, MasksOn, FinalsOf, Cleared};
+ghost use Rattle.target_masks.specs.inner.Masks.{bit_if, column_of, mask_on, mask_of_node, final_of_node, Spells, MasksFit, MasksOf, MasksOn, FinalsOf, Cleared};
 
 use actl::sizes::{NODE_SLOT, NODES};
 use automaton::sizes::{COLUMNS, MASKS_LENGTH, PLACES};
 use formula_classes::right_arm;
 use formulas::conditions::{in_set, meets, passes};
-use formulas::node::{Node, node_at, node_count};
+use formulas::node::{Node, node_at_lem, node_count};
 use lts::sizes::IDLE;
 
 // Bit k, if it is wanted.
 pub fn bit_if(wanted: bool, k: usize) -> u64
-    requires { k ≤ mostNodes }
-    ensures { result ≡ bitIf wanted k }
+    requires { k ≤ most_nodes }
+    ensures { result ≡ bit_if wanted k }
 {
     if wanted { 1 << k } else { 0 }
 }
 
 // 01: "EU[A] and EU[A;B] remain at their place if a is silent or meets A".
 fn stays(set: u64, label: usize, k: usize) -> u64
-    requires { (k ≤ mostNodes) × Carried label }
-    ensures { result ≡ bitIf (actions.passes set label) k }
+    requires { (k ≤ most_nodes) × Carried label }
+    ensures { result ≡ bit_if (actions.passes set label) k }
 {
     bit_if(passes(set, label), k)
 }
 
 // A step of AX from place k: to the arm if the condition is met, unless the arm is T, and else to END.
 fn all_steps(met: bool, last: bool, end: usize, k: usize) -> u64
-    requires { (k < mostNodes) × (end ≤ mostNodes) }
-    ensures { result ≡ cond met (bitIf (not last) (k + 1)) (2 ^ end) }
+    requires { (k < most_nodes) × (end ≤ most_nodes) }
+    ensures { result ≡ cond met (bit_if (not last) (k + 1)) (2 ^ end) }
 {
     if met {
         bit_if(!last, k + 1)
@@ -54,8 +54,8 @@ fn node_mask(
     arm: u64,
     other: u64,
 ) -> u64
-    requires { (k < mostNodes) × ((end ≤ mostNodes) × Carried label) }
-    ensures { result ≡ maskOfNode node end k label last arm other }
+    requires { (k < most_nodes) × ((end ≤ most_nodes) × Carried label) }
+    ensures { result ≡ mask_of_node node end k label last arm other }
 {
     match node {
         Node::True => 0,
@@ -70,7 +70,7 @@ fn node_mask(
 
 // Whether a node is final, from its arms.
 fn node_final(node: Node, arm: bool, other: bool) -> bool
-    ensures { result ≡ finalOfNode node arm other }
+    ensures { result ≡ final_of_node node arm other }
 {
     match node {
         Node::True => true,
@@ -85,9 +85,9 @@ fn node_final(node: Node, arm: bool, other: bool) -> bool
 
 // The right arm of node k, if it has one and the number is a place.
 fn other_arm(ends: &[u8; NODES], k: usize) -> usize
-    requires { k < mostNodes }
-    ensures upper_bound { result ≤ mostNodes }
-    ensures value { k + 1 < mostNodes → get_or ends.now (k + 1) 0 ≤ 40 → result ≡ get_or ends.now (k + 1) 0 }
+    requires { k < most_nodes }
+    ensures upper_bound { result ≤ most_nodes }
+    ensures value { k + 1 < most_nodes → get_or ends.now (k + 1) 0 ≤ 40 → result ≡ get_or ends.now (k + 1) 0 }
 {
     let r = right_arm(ends, k);
     if r <= NODES { r } else { NODES }
@@ -95,8 +95,8 @@ fn other_arm(ends: &[u8; NODES], k: usize) -> usize
 
 // Whether node k is T.
 fn is_true(formula: &[u8], k: usize) -> bool
-    requires { formulaLength ≤ length formula.now }
-    ensures { k < mostNodes → result ≡ eqb (slot_at formula.now k).kind 1 }
+    requires { formula_length ≤ length formula.now }
+    ensures { k < most_nodes → result ≡ eqb (slot_at formula.now k).kind 1 }
 {
     if k < NODES {
         formula[1 + k * NODE_SLOT] == 1
@@ -108,28 +108,28 @@ fn is_true(formula: &[u8], k: usize) -> bool
 // The column of a label among the masks of a place: the idle step has that of label 0, the other silent one.
 pub fn column(label: usize) -> usize
     requires { Carried label }
-    ensures { (result ≡ columnOf label) × (result < columnCount) }
+    ensures { (result ≡ column_of label) × (result < column_count) }
 {
     if label == IDLE { 0 } else { label }
 }
 
 // The target places of a place on a label.
 pub fn mask_on(masks: &[u64; MASKS_LENGTH], place: usize, label: usize) -> u64
-    requires { (place ≤ mostNodes) × Carried label }
-    ensures { result ≡ maskOn masks.now place label }
+    requires { (place ≤ most_nodes) × Carried label }
+    ensures { result ≡ mask_on masks.now place label }
 {
     masks[place * COLUMNS + column(label)]
 }
 
 // The masks of place k, from those of the places behind it.
 fn mask_place(formula: &[u8], ends: &[u8; NODES], masks: &mut [u64; MASKS_LENGTH], k: usize)
-    requires formula_length_in_bounds { (formulaLength ≤ length formula.now) × (k < get_or formula.now 0 0) }
+    requires formula_length_in_bounds { (formula_length ≤ length formula.now) × (k < get_or formula.now 0 0) }
     requires spells { (F : Formula) × Spells formula.now ends.now F }
     requires masks_on { (F : Formula) → Spells formula.now ends.now F → MasksOn F k 0 masks.old }
-    ensures { (F : Formula) → Spells formula.now ends.now F → MasksOn F k columnCount masks.new }
+    ensures { (F : Formula) → Spells formula.now ends.now F → MasksOn F k column_count masks.new }
 {
     let end = node_count(formula);
-    let node = node_at(formula, k);
+    let node = node_at_lem(formula, k);
     let last = is_true(formula, k + 1);
     let right = other_arm(ends, k);
     let mut l: usize = 0;
@@ -144,9 +144,9 @@ fn mask_place(formula: &[u8], ends: &[u8; NODES], masks: &mut [u64; MASKS_LENGTH
 
 // The masks of every place, into cleared ones: place k and label l at k * 41 + column(l). END has none.
 pub fn target_masks(formula: &[u8], ends: &[u8; NODES], masks: &mut [u64; MASKS_LENGTH])
-    requires formula_length_in_bounds { formulaLength ≤ length formula.now }
+    requires formula_length_in_bounds { formula_length ≤ length formula.now }
     requires spells { (F : Formula) × Spells formula.now ends.now F }
-    requires cleared { Cleared masksLength masks.old }
+    requires cleared { Cleared masks_length masks.old }
     ensures { (F : Formula) → Spells formula.now ends.now F → MasksOf F 0 masks.new × MasksFit masks.new }
 {
     let mut k = node_count(formula);
@@ -158,7 +158,7 @@ pub fn target_masks(formula: &[u8], ends: &[u8; NODES], masks: &mut [u64; MASKS_
 
 // Whether each place is final. END is.
 pub fn final_places(formula: &[u8], ends: &[u8; NODES]) -> [bool; PLACES]
-    requires formula_length_in_bounds { formulaLength ≤ length formula.now }
+    requires formula_length_in_bounds { formula_length ≤ length formula.now }
     requires spells { (F : Formula) × Spells formula.now ends.now F }
     ensures { (F : Formula) → Spells formula.now ends.now F → FinalsOf F 0 result }
 {
@@ -168,7 +168,7 @@ pub fn final_places(formula: &[u8], ends: &[u8; NODES]) -> [bool; PLACES]
         k -= 1;
         let arm = finals[k + 1];
         let other = finals[other_arm(ends, k)];
-        finals[k] = node_final(node_at(formula, k), arm, other);
+        finals[k] = node_final(node_at_lem(formula, k), arm, other);
     }
     finals
 }

@@ -1,12 +1,12 @@
 // What the program `print_verdicts` writes for its two files and its list: the verdict at each state of the list, or the refusal's line.
 ghost use Rattle.std.specs.Prelude.{◌≡◌, ◌≤◌, min, length, take};
-ghost use Rattle.lts.specs.Sizes.{mostStates};
+ghost use Rattle.lts.specs.Sizes.{most_states};
 ghost use Rattle.explanations.specs.inner.Printed.{TextWritten};
 ghost use Rattle.files.specs.inner.Writing.{PrefixLength};
-ghost use Rattle.verdict_text.specs.VerdictsText.{entriesIn, listedVerdicts};
-ghost use Rattle.verdict_text.specs.inner.Sizes.{listLength, linesLength};
+ghost use Rattle.verdict_text.specs.VerdictsText.{entries_in, listed_verdicts};
+ghost use Rattle.verdict_text.specs.inner.Sizes.{list_length, lines_length};
 ghost use Rattle.verdict_lines.specs.inner.Asking.{Asked};
-ghost use Rattle.verdict_lines.specs.inner.FileLines.{countedLines, fileLines};
+ghost use Rattle.verdict_lines.specs.inner.FileLines.{counted_lines, file_lines};
 
 use actl::sizes::FORMULA_LENGTH;
 use explaining::{BothRead, read_both};
@@ -26,7 +26,7 @@ pub const LINES_LENGTH: usize = 13 + STATES * 13 + 81;
 
 // Reads both texts, and asks for the verdicts at the listed states. The figure of an accepted list is the joint answer.
 fn ask(tabletext: &[u8], formulatext: &[u8], starts: &[u8], answers: &mut [u8]) -> Answer
-    requires { mostStates ≤ length answers.old }
+    requires { most_states ≤ length answers.old }
     ensures { Asked tabletext.now formulatext.now starts.now answers.old answers.new result }
 {
     let mut table = [0u8; TABLE_LENGTH];
@@ -40,8 +40,8 @@ fn ask(tabletext: &[u8], formulatext: &[u8], starts: &[u8], answers: &mut [u8]) 
 
 // The lines about a formula of `counted` bytes, of which `text` is the beginning.
 fn write_lines(tablefile: &[u8], text: &[u8], counted: usize, list: &[u8], out: &mut [u8]) -> usize
-    requires { (length list.now ≤ listLength) × (length out.old ≡ linesLength) }
-    ensures text_written { TextWritten (countedLines counted (listedVerdicts tablefile.now text.now (entriesIn list.now)))
+    requires { (length list.now ≤ list_length) × (length out.old ≡ lines_length) }
+    ensures text_written { TextWritten (counted_lines counted (listed_verdicts tablefile.now text.now (entries_in list.now)))
         out.old out.new result }
     ensures prefix_length { PrefixLength result out.new }
 {
@@ -67,7 +67,7 @@ pub fn write_verdicts_of(
     listed: usize,
     out: &mut [u8; LINES_LENGTH],
 ) -> usize
-    ensures text_written { TextWritten (fileLines tablefile.now head.now scanned (take (min listed listLength) list.now))
+    ensures text_written { TextWritten (file_lines tablefile.now head.now scanned (take (min listed list_length) list.now))
         out.old out.new result }
     ensures prefix_length { PrefixLength result out.new }
 {

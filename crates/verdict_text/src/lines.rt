@@ -1,9 +1,9 @@
 // The lines of the verdicts: the joint answer and the count, then a line for each entry of the list.
 ghost use Rattle.std.specs.Prelude.{◌≡◌, ◌+◌, ◌≤◌, ◌<◌, length};
-ghost use Rattle.lts.specs.Sizes.{mostStates};
+ghost use Rattle.lts.specs.Sizes.{most_states};
 ghost use Rattle.explanations.specs.inner.Printed.{TextWritten};
-ghost use Rattle.verdict_text.specs.inner.Entries.{entryLines, PairWritten, EntriesFit, EntriesWritten};
-ghost use Rattle.verdict_text.specs.inner.Sizes.{linesLength};
+ghost use Rattle.verdict_text.specs.inner.Entries.{entry_lines, PairWritten, EntriesFit, EntriesWritten};
+ghost use Rattle.verdict_text.specs.inner.Sizes.{lines_length};
 
 use columns::write::write_numbers;
 
@@ -44,9 +44,9 @@ pub fn write_answers(
     answers: &[u8],
     out: &mut [u8],
 ) -> usize
-    requires joint_bound { (joint < 256) × (count ≤ mostStates) }
-    requires count_in_bounds { (count ≤ length starts.now) × (count ≤ length answers.now) × (length out.old ≡ linesLength) }
-    ensures { TextWritten (entryLines joint count starts.now answers.now) out.old out.new result }
+    requires joint_bound { (joint < 256) × (count ≤ most_states) }
+    requires count_in_bounds { (count ≤ length starts.now) × (count ≤ length answers.now) × (length out.old ≡ lines_length) }
+    ensures { TextWritten (entry_lines joint count starts.now answers.now) out.old out.new result }
 {
     let first = write_pair(joint, count as u64, out, 0);
     write_entries(starts, answers, count, out, first)

@@ -1,9 +1,9 @@
 // The list of states that the program is given: numbers in six columns, one behind the other.
 ghost use Rattle.std.specs.Prelude.{◌≡◌, ◌*◌, ◌≤◌, ◌<◌, length, take, drop};
-ghost use Rattle.starts.specs.inner.Search.{enoughStarts};
-ghost use Rattle.verdict_text.specs.VerdictsText.{entryIn, entriesIn};
+ghost use Rattle.starts.specs.inner.Search.{enough_starts};
+ghost use Rattle.verdict_text.specs.VerdictsText.{entry_in, entries_in};
 ghost use Rattle.verdict_text.specs.inner.Entries.{ListRead};
-ghost use Rattle.verdict_text.specs.inner.Sizes.{listLength};
+ghost use Rattle.verdict_text.specs.inner.Sizes.{list_length};
 
 use columns::{Column, read_column};
 use lts::sizes::STATES;
@@ -13,8 +13,8 @@ pub const STARTS: usize = STATES + 1;
 
 // Entry i; 256, which is no state, if its six columns hold no number.
 fn entry_at(list: &[u8], i: usize) -> usize
-    requires { i < enoughStarts }
-    ensures { result ≡ entryIn (take 6 (drop (i * 6) list.now)) }
+    requires { i < enough_starts }
+    ensures { result ≡ entry_in (take 6 (drop (i * 6) list.now)) }
 {
     let held = read_column(list, i * 6);
     match held {
@@ -25,9 +25,9 @@ fn entry_at(list: &[u8], i: usize) -> usize
 
 // How many entries there are. Fewer than six bytes at the end are one.
 pub fn entry_count(list: &[u8]) -> usize
-    requires { length list.now ≤ listLength }
-    ensures value { result ≡ length (entriesIn list.now) }
-    ensures upper_bound { result ≤ enoughStarts }
+    requires { length list.now ≤ list_length }
+    ensures value { result ≡ length (entries_in list.now) }
+    ensures upper_bound { result ≤ enough_starts }
 {
     (list.len() + 5) / 6
 }
@@ -41,7 +41,7 @@ fn narrow(state: usize) -> u8
 
 // Puts the entries into `starts` as bytes, up to the first that is none, and answers how many they are.
 pub fn read_list(list: &[u8], starts: &mut [u8; STARTS]) -> usize
-    requires { (length list.now ≤ listLength) × (length starts.old ≡ enoughStarts) }
+    requires { (length list.now ≤ list_length) × (length starts.old ≡ enough_starts) }
     ensures { ListRead list.now starts.new result }
 {
     let end = entry_count(list);

@@ -5,8 +5,8 @@ use Rattle.formula_check.specs.Inputs.{unprepared}
 use Rattle.verdicts.specs.declared.VerdictsReply.{VerdictsReply}
 use Rattle.verdicts.specs.declared.VerdictsReply.TheVariants.{HoldsAtAll, FailsSomewhere, StartWrong, Refused}
 
-abbrev pub verdictsReply : VerdictsReply → Reply ℕ
-verdictsReply HoldsAtAll = accepted 1
-verdictsReply FailsSomewhere = accepted 0
-verdictsReply (StartWrong i) = refusal 16 i
-verdictsReply (Refused why) = unprepared why
+abbrev pub verdicts_reply : VerdictsReply → Reply ℕ
+verdicts_reply HoldsAtAll = accepted 1
+verdicts_reply FailsSomewhere = accepted 0
+verdicts_reply (StartWrong i) = refusal 16 i
+verdicts_reply (Refused why) = unprepared why

@@ -1,14 +1,14 @@
 // One formula, many starts: the verdict at each state of a list, from one labelling of the table.
 ghost use Rattle.std.specs.Prelude.{◌≡◌, cond, ◌&&◌, ◌≤◌, length};
 ghost use Rattle.std.proofs.Math.Option.{none};
-ghost use Rattle.lts.specs.Sizes.{mostStates};
+ghost use Rattle.lts.specs.Sizes.{most_states};
 ghost use Rattle.lts.specs.Steps.{labels};
 ghost use Rattle.lts.specs.inner.HoldsTable.{HoldsTable};
-ghost use Rattle.lts.specs.inner.Prepared.{tableIn};
+ghost use Rattle.lts.specs.inner.Prepared.{table_in};
 ghost use Rattle.actl.specs.inner.HoldsFormula.{HoldsFormula};
-ghost use Rattle.starts.specs.Starts.{wrongStart};
-ghost use Rattle.starts.specs.VerdictsAsked.{verdictsReplied, verdictsLeft, VerdictsAnswered};
-ghost use Rattle.verdicts.specs.Replies.{verdictsReply};
+ghost use Rattle.starts.specs.Starts.{wrong_start};
+ghost use Rattle.starts.specs.VerdictsAsked.{verdicts_replied, verdicts_left, VerdictsAnswered};
+ghost use Rattle.verdicts.specs.Replies.{verdicts_reply};
 ghost use Rattle.verdicts.specs.inner.Answered.{Answered, ListAnswered};
 
 use actl::sizes::{FORMULA_LENGTH, NODE_POSITIONS};
@@ -45,8 +45,8 @@ fn both(a: bool, b: bool) -> bool
 // Puts the verdict at each listed state into the byte at its index, and tells whether all of them are 1. The table is labelled once, for all of them.
 fn answer_each(table: &[u8], formula: &[u8], starts: &[u8], answers: &mut [u8]) -> bool
     requires holds_table { HoldsTable table.now }
-    requires holds_formula { HoldsFormula (labels (tableIn table.now)) formula.now }
-    requires starts_value { (wrongStart (tableIn table.now).states starts.now ≡ none) × (mostStates ≤ length answers.old) }
+    requires holds_formula { HoldsFormula (labels (table_in table.now)) formula.now }
+    requires starts_value { (wrong_start (table_in table.now).states starts.now ≡ none) × (most_states ≤ length answers.old) }
     ensures { Answered table.now formula.now starts.now answers.old answers.new result }
 {
     let mut steps = [0u16; STEPS];
@@ -70,8 +70,8 @@ fn answer_each(table: &[u8], formula: &[u8], starts: &[u8], answers: &mut [u8]) 
 
 // The same of a list that may have a wrong entry.
 fn answer_list(table: &[u8], formula: &[u8], starts: &[u8], answers: &mut [u8]) -> VerdictsReply
-    requires holds_table { HoldsTable table.now × (mostStates ≤ length answers.old) }
-    requires holds_formula { HoldsFormula (labels (tableIn table.now)) formula.now }
+    requires holds_table { HoldsTable table.now × (most_states ≤ length answers.old) }
+    requires holds_formula { HoldsFormula (labels (table_in table.now)) formula.now }
     ensures { ListAnswered table.now formula.now starts.now answers.old answers.new result }
 {
     let wrong = wrong_start(state_count(table), starts);
@@ -87,9 +87,9 @@ fn answer_list(table: &[u8], formula: &[u8], starts: &[u8], answers: &mut [u8]) 
 
 // 02: "tell for each whether the formula holds there, and whether it holds at all of them". 14 for each buffer, 10, then 16.
 pub fn verdicts(table: &[u8], formula: &[u8], starts: &[u8], answers: &mut [u8]) -> VerdictsReply
-    ensures result_value { verdictsReply result ≡ verdictsReplied table.now formula.now starts.now answers.old }
-    ensures answers_after { answers.new ≡ verdictsLeft table.now formula.now starts.now answers.old }
-    ensures verdicts_answered { VerdictsAnswered table.now formula.now starts.now (verdictsReply result) answers.new }
+    ensures result_value { verdicts_reply result ≡ verdicts_replied table.now formula.now starts.now answers.old }
+    ensures answers_after { answers.new ≡ verdicts_left table.now formula.now starts.now answers.old }
+    ensures verdicts_answered { VerdictsAnswered table.now formula.now starts.now (verdicts_reply result) answers.new }
 {
     if table.len() < TABLE_LENGTH {
         return VerdictsReply::Refused(Unprepared::BufferShort(TABLE_LENGTH));

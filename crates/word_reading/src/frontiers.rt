@@ -1,9 +1,9 @@
 // What a word has reached: the places of each state as a mask, and in four masks behind these the states that have any, so that a letter
 // goes over no other states and clears no others.
 ghost use Rattle.std.specs.Prelude.{◌≡◌, cond, ◌^◌, ◌<◌, ◌≤◌};
-ghost use Rattle.lts.specs.Sizes.{mostStates};
+ghost use Rattle.lts.specs.Sizes.{most_states};
 ghost use Rattle.bits.specs.inner.Bits.{bit_at};
-ghost use Rattle.frontier.specs.inner.Frontier.{hasState, emptied, brought, allPlaces, FirstFrom};
+ghost use Rattle.frontier.specs.inner.Frontier.{has_state, emptied, brought, all_places, FirstFrom};
 
 use frontier::sizes::{FOURTH_MARKS, FRONTIER, MARKS_AT, SECOND_MARKS, THIRD_MARKS};
 use lts::sizes::STATES;
@@ -38,8 +38,8 @@ pub fn next_bit(mask: u64, k: usize) -> usize
 
 // The first state that has places, from s on; 256 or more if there is none.
 pub fn next_state(frontier: &[u64; FRONTIER], s: usize) -> usize
-    requires { s ≤ mostStates }
-    ensures { FirstFrom (hasState frontier.now) s mostStates result }
+    requires { s ≤ most_states }
+    ensures { FirstFrom (has_state frontier.now) s most_states result }
 {
     let mut v = s;
     while v < STATES {
@@ -69,7 +69,7 @@ fn kept(marked: bool, places: u64) -> u64
 
 // Brings places to state s. What its mask says from an earlier letter is no place of it.
 pub fn bring(frontier: &mut [u64; FRONTIER], s: usize, places: u64)
-    requires { s < mostStates }
+    requires { s < most_states }
     ensures { frontier.new ≡ brought s places frontier.old }
 {
     let marks = frontier[MARKS_AT + s / 64];
@@ -80,7 +80,7 @@ pub fn bring(frontier: &mut [u64; FRONTIER], s: usize, places: u64)
 
 // The places of all states together.
 pub fn all_places(frontier: &[u64; FRONTIER]) -> u64
-    ensures { result ≡ allPlaces frontier.now }
+    ensures { result ≡ all_places frontier.now }
 {
     let mut found = 0u64;
     let mut s = next_state(frontier, 0);

@@ -9,12 +9,12 @@ use target_masks::column;
 pub mod frontiers;
 
 ghost use Rattle.std.specs.Prelude.{◌≡◌, ℕ, ◌<◌, ◌≤◌};
-ghost use Rattle.lts.specs.Sizes.{mostStates};
-ghost use Rattle.lts.specs.inner.Sizes.{mostSteps};
+ghost use Rattle.lts.specs.Sizes.{most_states};
+ghost use Rattle.lts.specs.inner.Sizes.{most_steps};
 ghost use Rattle.lts.specs.inner.Steps.{Carried};
-ghost use Rattle.table_steps.specs.inner.StepArray.{stepAt, stepsIn, StepsFit};
-ghost use Rattle.frontier.specs.inner.Frontier.{nowhere, allPlaces};
-ghost use Rattle.frontier.specs.inner.Reached.{targetsOf, stepTaken, stepsTaken, placesRead, letterRead, wordRead, rootReached, Letters};
+ghost use Rattle.table_steps.specs.inner.StepArray.{step_at, steps_in, StepsFit};
+ghost use Rattle.frontier.specs.inner.Frontier.{nowhere, all_places};
+ghost use Rattle.frontier.specs.inner.Reached.{targets_of, step_taken, steps_taken, places_read, letter_read, word_read, root_reached, Letters};
 
 pub fn wide(letter: u8) -> usize
     ensures { result ≡ letter }
@@ -23,9 +23,9 @@ pub fn wide(letter: u8) -> usize
 }
 
 // The target places of a set of places on a label.
-pub fn targets_of(masks: &[u64; MASKS_LENGTH], places: u64, label: usize) -> u64
+pub fn targets_of_lem(masks: &[u64; MASKS_LENGTH], places: u64, label: usize) -> u64
     requires { Carried label }
-    ensures { result ≡ targetsOf masks.now places label }
+    ensures { result ≡ targets_of masks.now places label }
 {
     let at = column(label);
     let mut found = 0u64;
@@ -41,8 +41,8 @@ pub fn targets_of(masks: &[u64; MASKS_LENGTH], places: u64, label: usize) -> u64
 
 // Brings the places along step k, whichever state it leaves, if it has the label.
 fn take_step(steps: &[u16; STEPS], k: usize, label: usize, places: u64, next: &mut [u64; FRONTIER])
-    requires { k < mostSteps }
-    ensures { (s : ℕ) → next.new ≡ stepTaken label places (stepAt steps.now s k) next.old }
+    requires { k < most_steps }
+    ensures { (s : ℕ) → next.new ≡ step_taken label places (step_at steps.now s k) next.old }
 {
     let step = steps[k];
     if label_of(step) == label {
@@ -60,8 +60,8 @@ fn take_steps(
     next: &mut [u64; FRONTIER],
 )
     requires steps_fit { StepsFit steps.now firsts.now }
-    requires s_lt_most_states { s < mostStates }
-    ensures { next.new ≡ stepsTaken label places (stepsIn steps.now firsts.now s) next.old }
+    requires s_lt_most_states { s < most_states }
+    ensures { next.new ≡ steps_taken label places (steps_in steps.now firsts.now s) next.old }
 {
     let span = leaving(firsts, s);
     let end = span.to;
@@ -83,10 +83,10 @@ fn read_places(
     next: &mut [u64; FRONTIER],
 )
     requires steps_fit { StepsFit steps.now firsts.now }
-    requires carried { Carried label × (s < mostStates) }
-    ensures { next.new ≡ placesRead (stepsIn steps.now firsts.now s) masks.now places label next.old }
+    requires carried { Carried label × (s < most_states) }
+    ensures { next.new ≡ places_read (steps_in steps.now firsts.now s) masks.now places label next.old }
 {
-    let targets = targets_of(masks, places, label);
+    let targets = targets_of_lem(masks, places, label);
     if targets != 0 {
         take_steps(steps, firsts, s, label, targets, next);
     }
@@ -103,7 +103,7 @@ fn read_letter(
 )
     requires steps_fit { StepsFit steps.now firsts.now }
     requires carried { Carried letter }
-    ensures { next.new ≡ letterRead (stepsIn steps.now firsts.now) masks.now letter reached.now next.old }
+    ensures { next.new ≡ letter_read (steps_in steps.now firsts.now) masks.now letter reached.now next.old }
 {
     let label = wide(letter);
     clear(next);
@@ -126,8 +126,8 @@ fn read_two(
 )
     requires steps_fit { StepsFit steps.now firsts.now }
     requires carried { Carried first × Carried second }
-    ensures next_after { next.new ≡ letterRead (stepsIn steps.now firsts.now) masks.now first reached.old next.old }
-    ensures reached_after { reached.new ≡ letterRead (stepsIn steps.now firsts.now) masks.now second next.new reached.old }
+    ensures next_after { next.new ≡ letter_read (steps_in steps.now firsts.now) masks.now first reached.old next.old }
+    ensures reached_after { reached.new ≡ letter_read (steps_in steps.now firsts.now) masks.now second next.new reached.old }
 {
     read_letter(steps, firsts, masks, first, reached, next);
     read_letter(steps, firsts, masks, second, next, reached);
@@ -142,9 +142,9 @@ pub fn read_word<'a>(
     word: &[u8],
 ) -> u64
     requires steps_fit { StepsFit steps.now firsts.now }
-    requires start_lt_most_states { start < mostStates }
+    requires start_lt_most_states { start < most_states }
     requires letters { Letters word.now }
-    ensures { result ≡ allPlaces (wordRead (stepsIn steps.now firsts.now) masks.now word.now (rootReached start) nowhere) }
+    ensures { result ≡ all_places (word_read (steps_in steps.now firsts.now) masks.now word.now (root_reached start) nowhere) }
 {
     let mut reached = [0u64; FRONTIER];
     let mut next = [0u64; FRONTIER];

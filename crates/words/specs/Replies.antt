@@ -5,8 +5,8 @@ use Rattle.formula_check.specs.Inputs.{unprepared}
 use Rattle.words.specs.declared.WordReply.{WordReply}
 use Rattle.words.specs.declared.WordReply.TheVariants.{Accepted, NotAccepted, WordBad, Refused}
 
-abbrev pub wordReply : WordReply → Reply ℕ
-wordReply Accepted = accepted 1
-wordReply NotAccepted = accepted 0
-wordReply (WordBad index) = refusal 13 index
-wordReply (Refused why) = unprepared why
+abbrev pub word_reply : WordReply → Reply ℕ
+word_reply Accepted = accepted 1
+word_reply NotAccepted = accepted 0
+word_reply (WordBad index) = refusal 13 index
+word_reply (Refused why) = unprepared why

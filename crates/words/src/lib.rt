@@ -1,16 +1,16 @@
 // Whether the automaton accepts a word: the positions that its letters reach, as a mask of places for each state. No rows are built.
 ghost use Rattle.std.specs.Prelude.{◌≡◌, ◌≤◌};
-ghost use Rattle.actl.specs.Sizes.{mostNodes};
+ghost use Rattle.actl.specs.Sizes.{most_nodes};
 ghost use Rattle.lts.specs.Reply.{accepted};
 ghost use Rattle.lts.specs.Steps.{labels};
-ghost use Rattle.lts.specs.inner.Prepared.{tableIn};
-ghost use Rattle.tables.specs.inner.Access.{foundIn};
+ghost use Rattle.lts.specs.inner.Prepared.{table_in};
+ghost use Rattle.tables.specs.inner.Access.{found_in};
 ghost use Rattle.lts.specs.inner.HoldsTable.{HoldsTable};
 ghost use Rattle.actl.specs.inner.HoldsFormula.{HoldsFormula};
 ghost use Rattle.automaton.specs.Bytes.{bit_of};
-ghost use Rattle.words.specs.Replies.{wordReply};
-ghost use Rattle.automaton.specs.WordAsked.{isBad, badLetter, wordReplied, WordAnswered};
-ghost use Rattle.frontier.specs.inner.Reached.{finalPlace, someFinal, Letters, AcceptsAnswer};
+ghost use Rattle.words.specs.Replies.{word_reply};
+ghost use Rattle.automaton.specs.WordAsked.{is_bad, bad_letter, word_replied, WordAnswered};
+ghost use Rattle.frontier.specs.inner.Reached.{final_place, some_final, Letters, AcceptsAnswer};
 ghost use Rattle.words.specs.inner.Answered.{Answered};
 
 use automaton::sizes::{LONGEST_WORD, MASKS_LENGTH, PLACES};
@@ -35,14 +35,14 @@ pub enum WordReply {
 
 // 01: "a word's label above the label count". 02: "A word may hold 99". No other silent letter is above the count.
 fn is_bad(labels: usize, letter: usize) -> bool
-    ensures { result ≡ isBad labels letter }
+    ensures { result ≡ is_bad labels letter }
 {
     labels < letter && !is_silent(letter)
 }
 
 // 01: "index of the first such label below 1,024, else 1,024"
 fn bad_letter(labels: usize, word: &[u8]) -> Lookup
-    ensures { foundIn result ≡ badLetter labels word.now }
+    ensures { found_in result ≡ bad_letter labels word.now }
 {
     let mut i = 0;
     while i < word.len() {
@@ -58,14 +58,14 @@ fn bad_letter(labels: usize, word: &[u8]) -> Lookup
 }
 
 fn is_final(finals: &[bool; PLACES], places: u64, k: usize) -> bool
-    requires { k ≤ mostNodes }
-    ensures { result ≡ finalPlace finals.now places k }
+    requires { k ≤ most_nodes }
+    ensures { result ≡ final_place finals.now places k }
 {
     if has(places, k) { finals[k] } else { false }
 }
 
 fn some_final(finals: &[bool; PLACES], places: u64) -> bool
-    ensures { result ≡ someFinal finals.now places }
+    ensures { result ≡ some_final finals.now places }
 {
     let mut k = 0;
     while k < PLACES {
@@ -80,7 +80,7 @@ fn some_final(finals: &[bool; PLACES], places: u64) -> bool
 // Whether the word leads from the root at the start state to a final position.
 fn is_accepted(table: &[u8], formula: &[u8], word: &[u8]) -> bool
     requires holds_table { HoldsTable table.now }
-    requires holds_formula { HoldsFormula (labels (tableIn table.now)) formula.now }
+    requires holds_formula { HoldsFormula (labels (table_in table.now)) formula.now }
     requires letters { Letters word.now }
     ensures { AcceptsAnswer table.now formula.now word.now result }
 {
@@ -97,7 +97,7 @@ fn is_accepted(table: &[u8], formula: &[u8], word: &[u8]) -> bool
 }
 
 fn answer_of(found: bool) -> WordReply
-    ensures { wordReply result ≡ accepted (bit_of found) }
+    ensures { word_reply result ≡ accepted (bit_of found) }
 {
     if found {
         WordReply::Accepted
@@ -109,7 +109,7 @@ fn answer_of(found: bool) -> WordReply
 // Every letter is checked before the word is read.
 fn answer(table: &[u8], formula: &[u8], word: &[u8]) -> WordReply
     requires holds_table { HoldsTable table.now }
-    requires holds_formula { HoldsFormula (labels (tableIn table.now)) formula.now }
+    requires holds_formula { HoldsFormula (labels (table_in table.now)) formula.now }
     ensures { Answered table.now formula.now word.now result }
 {
     let bad = bad_letter(label_count(table), word);
@@ -121,8 +121,8 @@ fn answer(table: &[u8], formula: &[u8], word: &[u8]) -> WordReply
 
 // 01: "A word (at most 1,024 label numbers), given with a prepared table and formula, is answered 1 if their automaton accepts it, else 0."
 pub fn accepts(table: &[u8], formula: &[u8], word: &[u8]) -> WordReply
-    ensures result_value { wordReply result ≡ wordReplied table.now formula.now word.now }
-    ensures word_answered { WordAnswered table.now formula.now word.now (wordReply result) }
+    ensures result_value { word_reply result ≡ word_replied table.now formula.now word.now }
+    ensures word_answered { WordAnswered table.now formula.now word.now (word_reply result) }
 {
     if let Inputs::Refused(why) = check_inputs(table, formula) {
         return WordReply::Refused(why);

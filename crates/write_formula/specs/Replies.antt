@@ -5,7 +5,7 @@ use Rattle.formula_check.specs.Inputs.{unprepared}
 use Rattle.write_formula.specs.declared.WriteReply.{WriteReply}
 use Rattle.write_formula.specs.declared.WriteReply.TheVariants.{Written, TooLong, Refused}
 
-abbrev pub writeReply : WriteReply → Reply ℕ
-writeReply (Written n) = accepted n
-writeReply (TooLong n) = refusal 15 n
-writeReply (Refused why) = unprepared why
+abbrev pub write_reply : WriteReply → Reply ℕ
+write_reply (Written n) = accepted n
+write_reply (TooLong n) = refusal 15 n
+write_reply (Refused why) = unprepared why

@@ -1,14 +1,14 @@
 // Writing a prepared formula back as text, over its table.
 ghost use Rattle.std.specs.Prelude.{◌≡◌, ◌≤◌, length};
-ghost use Rattle.actl.specs.Sizes.{longestText};
+ghost use Rattle.actl.specs.Sizes.{longest_text};
 ghost use Rattle.lts.specs.Steps.{labels};
 ghost use Rattle.lts.specs.inner.HoldsTable.{HoldsTable};
-ghost use Rattle.lts.specs.inner.Prepared.{tableIn};
+ghost use Rattle.lts.specs.inner.Prepared.{table_in};
 ghost use Rattle.actl.specs.inner.HoldsFormula.{HoldsFormula};
 ghost use Rattle.write_formula.specs.inner.Line.{LineWritten};
-ghost use Rattle.written_back.specs.FormulaWriting.{formulaWritten, textLeft};
-ghost use Rattle.written_back.specs.ReadBack.{Restored};
-ghost use Rattle.write_formula.specs.Replies.{writeReply};
+ghost use Rattle.written_back_lem.specs.FormulaWriting.{formula_written, text_left};
+ghost use Rattle.written_back_lem.specs.ReadBack.{Restored};
+ghost use Rattle.write_formula.specs.Replies.{write_reply};
 
 use actl::sizes::{FORMULA_LENGTH, LONGEST_TEXT};
 use bytes::copy;
@@ -26,9 +26,9 @@ pub enum WriteReply {
 
 // The formula's text goes into the first bytes of `text`. 02: 15 for a text over 512 bytes, "after 10 and 14".
 pub fn write_formula(table: &[u8], formula: &[u8], text: &mut [u8]) -> WriteReply
-    ensures result_value { writeReply result ≡ formulaWritten table.now formula.now text.old }
-    ensures text_after { text.new ≡ textLeft table.now formula.now text.old }
-    ensures restored { Restored table.now formula.now (writeReply result) text.new }
+    ensures result_value { write_reply result ≡ formula_written table.now formula.now text.old }
+    ensures text_after { text.new ≡ text_left table.now formula.now text.old }
+    ensures restored { Restored table.now formula.now (write_reply result) text.new }
 {
     if table.len() < TABLE_LENGTH {
         return WriteReply::Refused(Unprepared::BufferShort(TABLE_LENGTH));
@@ -47,8 +47,8 @@ pub fn write_formula(table: &[u8], formula: &[u8], text: &mut [u8]) -> WriteRepl
 
 // The same, of prepared bytes.
 fn write_prepared(table: &[u8], formula: &[u8], text: &mut [u8]) -> WriteReply
-    requires holds_table { HoldsTable table.now × (longestText ≤ length text.old) }
-    requires holds_formula { HoldsFormula (labels (tableIn table.now)) formula.now }
+    requires holds_table { HoldsTable table.now × (longest_text ≤ length text.old) }
+    requires holds_formula { HoldsFormula (labels (table_in table.now)) formula.now }
     ensures { LineWritten table.now formula.now text.old text.new result }
 {
     let mut line = [0u8; LONGEST_TEXT];

@@ -8,64 +8,64 @@ use native.Mathlib.Omega.{arith}
 use lib.Dec.{leb}
 use lib.ListN.{length}
 use borrow.Author.Tests.{leb-true, le-leb}
-use Rattle.lts.specs.Sizes.{tableLength, longestTableText}
+use Rattle.lts.specs.Sizes.{table_length, longest_table_text}
 use Rattle.lts.specs.Reply.{Reply, accepted, refusal, unless}
 use Rattle.lts.specs.Steps.{Table}
-use Rattle.lts.specs.TableText.{tableText}
-use Rattle.lts.specs.Prepared.{LeftByReading, withTable}
-use Rattle.lts.specs.inner.Prepared.{preparedTable}
+use Rattle.lts.specs.TableText.{table_text}
+use Rattle.lts.specs.Prepared.{LeftByReading, with_table}
+use Rattle.lts.specs.inner.Prepared.{prepared_table}
 use Rattle.lts.proofs.Laws.Prepared.{prepared-left}
-use Rattle.lts.proofs.Laws.Refusals.{Numbered, numbered-unless, numbered-answers, with-table-numbers, unless-refused, answers-refused}
-use Rattle.write_table.specs.TableWriting.{tableWriting, tableWritten}
+use Rattle.lts.proofs.Laws.Refusals.{Numbered, numbered-unless, numbered-answers, with_table-numbers, unless-refused, answers-refused}
+use Rattle.write_table.specs.TableWriting.{table_writing, table_written}
 
 abbrev TenOrFourteen : ℕ → Type 0
 TenOrFourteen n = (n ≡ 10) ⊎ (n ≡ 14)
 
-pub writing-numbers : (table buffer : List ℕ) → Numbered TenOrFourteen (tableWritten table buffer)
-unfolding tableWriting
-writing-numbers table buffer =
+pub writing_numbers : (table buffer : List ℕ) → Numbered TenOrFourteen (table_written table buffer)
+unfolding table_writing
+writing_numbers table buffer =
     let P = TenOrFourteen in
-    numbered-answers P length (tableWriting table buffer)
-    (numbered-unless P (leb tableLength (length table)) 14 tableLength _ (inr refl)
-    (numbered-unless P (leb longestTableText (length buffer)) 14 longestTableText _ (inr refl)
-    (with-table-numbers P (inl refl) (preparedTable table) (λ t. accepted (tableText t)) (λ t. tt))))
+    numbered-answers P length (table_writing table buffer)
+    (numbered-unless P (leb table_length (length table)) 14 table_length _ (inr refl)
+    (numbered-unless P (leb longest_table_text (length buffer)) 14 longest_table_text _ (inr refl)
+    (with_table-numbers P (inl refl) (prepared_table table) (λ t. accepted (table_text t)) (λ t. tt))))
 
 -- Both buffers are long enough, and no accepted reading leaves the table's bytes.
 pub record Foreign (table buffer : List ℕ) : Type 0 where
-  pub table-long : tableLength ≤ length table
-  pub buffer-long : longestTableText ≤ length buffer
+  pub table_long : table_length ≤ length table
+  pub buffer_long : longest_table_text ≤ length buffer
   pub not_left : LeftByReading table → ⊥
 
 module _ (table buffer : List ℕ) where
   abbrev found : Option Table → Reply (List ℕ)
-  found o = withTable o (λ t. accepted (tableText t))
+  found o = with_table o (λ t. accepted (table_text t))
 
   none_found : (o : Option Table) → found o ≡ refusal 10 0 → (t : Table) → o ≡ some t → ⊥
   none_found none e t d = let z : ◌≡◌ {A = ℕ} 0 1 = cc in omega arith
   none_found (some u) e t d = let z : ◌≡◌ {A = ℕ} 0 1 = cc in omega arith
 
-  foreign-of : tableWriting table buffer ≡ refusal 10 0 → Foreign table buffer
-  unfolding tableWriting
-  foreign-of e =
-      let next = unless (leb longestTableText (length buffer)) 14 longestTableText (found (preparedTable table)) in
-      let (l, d) = unless-refused 10 0 (leb tableLength (length table)) 14 tableLength next (λ z. omega arith) e in
-      let (m, c) = unless-refused 10 0 (leb longestTableText (length buffer)) 14 longestTableText (found (preparedTable table)) (λ z. omega arith) d in
+  foreign_of : table_writing table buffer ≡ refusal 10 0 → Foreign table buffer
+  unfolding table_writing
+  foreign_of e =
+      let next = unless (leb longest_table_text (length buffer)) 14 longest_table_text (found (prepared_table table)) in
+      let (l, d) = unless-refused 10 0 (leb table_length (length table)) 14 table_length next (λ z. omega arith) e in
+      let (m, c) = unless-refused 10 0 (leb longest_table_text (length buffer)) 14 longest_table_text (found (prepared_table table)) (λ z. omega arith) d in
       record {
-        table-long = leb-true tableLength (length table) l;
-        buffer-long = leb-true longestTableText (length buffer) m;
-        not_left = λ h. let (t, p) = (prepared-left table).1 h in none_found (preparedTable table) c t p;
+        table_long = leb-true table_length (length table) l;
+        buffer_long = leb-true longest_table_text (length buffer) m;
+        not_left = λ h. let (t, p) = (prepared-left table).1 h in none_found (prepared_table table) c t p;
       }
 
-  foreign-to : Foreign table buffer → tableWriting table buffer ≡ refusal 10 0
-  unfolding tableWriting
-  foreign-to h =
-      rw (le-leb tableLength (length table) h.table-long, le-leb longestTableText (length buffer) h.buffer-long) (case (preparedTable table) refl)
+  foreign_to : Foreign table buffer → table_writing table buffer ≡ refusal 10 0
+  unfolding table_writing
+  foreign_to h =
+      rw (le-leb table_length (length table) h.table_long, le-leb longest_table_text (length buffer) h.buffer_long) (case (prepared_table table) refl)
     where
-      case : (o : Option Table) → preparedTable table ≡ o → found o ≡ refusal 10 0
+      case : (o : Option Table) → prepared_table table ≡ o → found o ≡ refusal 10 0
       case none e = refl
       case (some t) e = absurd (h.not_left ((prepared-left table).0 (t, e)))
 
-  pub refuses-foreign : (tableWritten table buffer ≡ refusal 10 0) ↔ Foreign table buffer
-  refuses-foreign =
-      let kept = answers-refused length (tableWriting table buffer) 10 0 in
-      (λ e. foreign-of (kept.0 e), λ h. kept.1 (foreign-to h))
+  pub refuses_foreign : (table_written table buffer ≡ refusal 10 0) ↔ Foreign table buffer
+  refuses_foreign =
+      let kept = answers-refused length (table_writing table buffer) 10 0 in
+      (λ e. foreign_of (kept.0 e), λ h. kept.1 (foreign_to h))

@@ -4,7 +4,7 @@ use Rattle.lts.specs.Reply.{Reply, accepted, refusal}
 use Rattle.write_table.specs.declared.TextReply.{TextReply}
 use Rattle.write_table.specs.declared.TextReply.TheVariants.{Written, TableForeign, BufferShort}
 
-abbrev pub textReply : TextReply → Reply ℕ
-textReply (Written n) = accepted n
-textReply TableForeign = refusal 10 0
-textReply (BufferShort n) = refusal 14 n
+abbrev pub text_reply : TextReply → Reply ℕ
+text_reply (Written n) = accepted n
+text_reply TableForeign = refusal 10 0
+text_reply (BufferShort n) = refusal 14 n

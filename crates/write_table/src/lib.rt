@@ -1,7 +1,7 @@
 // Writing a prepared table back as text.
 ghost use Rattle.std.specs.Prelude.{◌≡◌};
-ghost use Rattle.write_table.specs.Replies.{textReply};
-ghost use Rattle.write_table.specs.TableWriting.{tableWritten, tableTextLeft, ReadsBack};
+ghost use Rattle.write_table.specs.Replies.{text_reply};
+ghost use Rattle.write_table.specs.TableWriting.{table_written, table_text_left, ReadsBack};
 
 use lts::sizes::{LONGEST_TABLE_TEXT, TABLE_LENGTH};
 use table_check::is_prepared;
@@ -17,9 +17,9 @@ pub enum TextReply {
 
 // The table's text goes into the first bytes of `text`. Nothing is written before all tests are passed.
 pub fn table_text(table: &[u8], text: &mut [u8]) -> TextReply
-    ensures result_value { textReply result ≡ tableWritten table.now text.old }
-    ensures text_after { text.new ≡ tableTextLeft table.now text.old }
-    ensures reads_back { ReadsBack table.now (textReply result) text.new }
+    ensures result_value { text_reply result ≡ table_written table.now text.old }
+    ensures text_after { text.new ≡ table_text_left table.now text.old }
+    ensures reads_back { ReadsBack table.now (text_reply result) text.new }
 {
     if table.len() < TABLE_LENGTH {
         return TextReply::BufferShort(TABLE_LENGTH);

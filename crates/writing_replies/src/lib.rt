@@ -1,7 +1,7 @@
 // The number and the figure of each reply of the entries that write a text or a table.
-ghost use Rattle.write_formula.specs.Replies.{writeReply};
-ghost use Rattle.combine.specs.Replies.{combineReply};
-ghost use Rattle.write_table.specs.Replies.{textReply};
+ghost use Rattle.write_formula.specs.Replies.{write_reply};
+ghost use Rattle.combine.specs.Replies.{combine_reply};
+ghost use Rattle.write_table.specs.Replies.{text_reply};
 ghost use Rattle.replies.specs.inner.Says.{Says};
 
 use combine::CombineReply;
@@ -10,7 +10,7 @@ use write_formula::WriteReply;
 use write_table::TextReply;
 
 pub fn write_answer(reply: WriteReply) -> Answer
-    ensures { Says (λ length. length) (writeReply reply) result }
+    ensures { Says (λ length. length) (write_reply reply) result }
 {
     match reply {
         WriteReply::Written(length) => numbered(0, length),
@@ -20,7 +20,7 @@ pub fn write_answer(reply: WriteReply) -> Answer
 }
 
 pub fn combine_answer(reply: CombineReply) -> Answer
-    ensures { Says (λ _. 0) (combineReply reply) result }
+    ensures { Says (λ _. 0) (combine_reply reply) result }
 {
     match reply {
         CombineReply::Combined => numbered(0, 0),
@@ -33,7 +33,7 @@ pub fn combine_answer(reply: CombineReply) -> Answer
 }
 
 pub fn text_answer(reply: TextReply) -> Answer
-    ensures { Says (λ length. length) (textReply reply) result }
+    ensures { Says (λ length. length) (text_reply reply) result }
 {
     match reply {
         TextReply::Written(length) => numbered(0, length),

@@ -7,42 +7,42 @@ use native.Mathlib.Omega.{arith}
 use lib.Dec.{eqb}
 use lib.Pow.{mod-pow-add}
 use borrow.Author.Tests.{eqb-true, eqb-false}
-use Rattle.lts.specs.Sizes.{mostLabels}
+use Rattle.lts.specs.Sizes.{most_labels}
 use Rattle.lts.specs.Directions.{Direction}
 use Rattle.lts.proofs.Silence.{heard}
 use Rattle.actl.specs.Actions.{Action, satisfies, Mask, in_set, mask_of}
-use Rattle.actl.specs.Prepared.{maskWithin}
+use Rattle.actl.specs.Prepared.{mask_within}
 use Rattle.actl.proofs.Laws.Masks.{within_low}
 
-in-set-bit : (m a : ℕ) → 1 ≤ a → a ≤ mostLabels → in_set m a ≡ eqb (m / 2 ^ a % 2) 1
+in_set_bit : (m a : ℕ) → 1 ≤ a → a ≤ most_labels → in_set m a ≡ eqb (m / 2 ^ a % 2) 1
 unfolding in_set
-in-set-bit m a h k = ap (λ b. not b && eqb (m / 2 ^ a % 2) 1) (heard a h (omega arith))
+in_set_bit m a h k = ap (λ b. not b && eqb (m / 2 ^ a % 2) 1) (heard a h (omega arith))
 
 -- A bit in front of the lower ones.
 high_bit : (m k : ℕ) → m % 2 ^ suc k ≡ (m / 2 ^ k % 2) * 2 ^ k + m % 2 ^ k
 high_bit m k = let one : suc k ≡ 1 + k = omega arith in ap (λ j. m % 2 ^ j) one ∙ mod-pow-add m 1 k
 
-bit-before : (m k : ℕ) (t : Bool) → t ≡ eqb (m / 2 ^ k % 2) 1 → m % 2 ^ k + cond t (2 ^ k) 0 ≡ m % 2 ^ suc k
-bit-before m k true e =
+bit_before : (m k : ℕ) (t : Bool) → t ≡ eqb (m / 2 ^ k % 2) 1 → m % 2 ^ k + cond t (2 ^ k) 0 ≡ m % 2 ^ suc k
+bit_before m k true e =
     let b : m / 2 ^ k % 2 ≡ 1 = eqb-true (m / 2 ^ k % 2) 1 (sym e) in
     let z : m % 2 ^ k + 2 ^ k ≡ 1 * 2 ^ k + m % 2 ^ k = omega arith in
     z ∙ (ap (λ r. r * 2 ^ k + m % 2 ^ k) (sym b) ∙ sym (high_bit m k))
-bit-before m k false e =
+bit_before m k false e =
     let u = eqb-false (m / 2 ^ k % 2) 1 (sym e) in
     let b : m / 2 ^ k % 2 ≡ 0 = omega arith in
     let z : m % 2 ^ k + 0 ≡ 0 * 2 ^ k + m % 2 ^ k = omega arith in
     z ∙ (ap (λ r. r * 2 ^ k + m % 2 ^ k) (sym b) ∙ sym (high_bit m k))
 
 module _ (d : ℕ → Direction) (m : Mask) (x : Action) (even : m % 2 ≡ 0) where
-  mask-lower : (n : ℕ) → ((a : ℕ) → 1 ≤ a → a ≤ n → satisfies d a x ≡ eqb (m / 2 ^ a % 2) 1) → mask_of d n x ≡ m % 2 ^ suc n
+  mask_lower : (n : ℕ) → ((a : ℕ) → 1 ≤ a → a ≤ n → satisfies d a x ≡ eqb (m / 2 ^ a % 2) 1) → mask_of d n x ≡ m % 2 ^ suc n
   unfolding mask_of
-  mask-lower zero h = sym even
-  mask-lower (suc n) h =
-      ap (λ k. k + cond (satisfies d (suc n) x) (2 ^ suc n) 0) (mask-lower n (λ a l u. h a l (omega arith)))
-      ∙ bit-before m (suc n) (satisfies d (suc n) x) (h (suc n) (omega arith) (omega arith))
+  mask_lower zero h = sym even
+  mask_lower (suc n) h =
+      ap (λ k. k + cond (satisfies d (suc n) x) (2 ^ suc n) 0) (mask_lower n (λ a l u. h a l (omega arith)))
+      ∙ bit_before m (suc n) (satisfies d (suc n) x) (h (suc n) (omega arith) (omega arith))
 
-pub mask-by-labels : (d : ℕ → Direction) (n : ℕ) (m : Mask) (x : Action) → n ≤ mostLabels → maskWithin n m ≡ true
+pub mask_by_labels : (d : ℕ → Direction) (n : ℕ) (m : Mask) (x : Action) → n ≤ most_labels → mask_within n m ≡ true
     → ((a : ℕ) → 1 ≤ a → a ≤ n → satisfies d a x ≡ in_set m a) → mask_of d n x ≡ m
-mask-by-labels d n m x few within h =
+mask_by_labels d n m x few within h =
     let (even, low) = within_low n m within in
-    mask-lower d m x even n (λ a l u. h a l u ∙ in-set-bit m a l (omega arith)) ∙ mod-eq_of_lt low
+    mask_lower d m x even n (λ a l u. h a l u ∙ in_set_bit m a l (omega arith)) ∙ mod-eq_of_lt low

@@ -1,14 +1,14 @@
 // The lines of a table's text, each at a place of the lent buffer: the header, the labels, the transitions.
 ghost use Rattle.std.specs.Prelude.{◌≡◌, ◌+◌, ◌*◌, ◌≤◌, ◌<◌, suc, length};
 ghost use Rattle.columns.specs.inner.Write.{pasted};
-ghost use Rattle.lts.specs.Sizes.{longestTableText};
+ghost use Rattle.lts.specs.Sizes.{longest_table_text};
 ghost use Rattle.lts.specs.Steps.{labels};
-ghost use Rattle.lts.specs.Text.{ended, labelLine, transitionLine};
-ghost use Rattle.lts.specs.TableText.{labelLines, transitionLines, tableText};
+ghost use Rattle.lts.specs.Text.{ended, label_line, transition_line};
+ghost use Rattle.lts.specs.TableText.{label_lines, transition_lines, table_text};
 ghost use Rattle.lts.specs.inner.HoldsTable.{HoldsTable};
-ghost use Rattle.lts.specs.inner.Prepared.{tableIn, name_at, transitionAt};
-ghost use Rattle.lts.specs.inner.Sizes.{longestName};
-ghost use Rattle.written_lines.specs.inner.Lines.{Stands, NumbersKept, firstLineOf, headLength, labelWidth, stepWidth, keptLength};
+ghost use Rattle.lts.specs.inner.Prepared.{table_in, name_at, transition_at};
+ghost use Rattle.lts.specs.inner.Sizes.{longest_name};
+ghost use Rattle.written_lines.specs.inner.Lines.{Stands, NumbersKept, first_line_of, head_length, label_width, step_width, kept_length};
 
 use columns::kept::{copy_column, keep_columns};
 use columns::write::write_small;
@@ -22,8 +22,8 @@ const KEPT_LENGTH: usize = STATES * 6;
 
 // Line 1: states, labels, transitions, start.
 fn write_header(table: &[u8], text: &mut [u8])
-    requires { HoldsTable table.now × (headLength ≤ length text.old) }
-    ensures { text.new ≡ pasted text.old 0 (firstLineOf (tableIn table.now)) }
+    requires { HoldsTable table.now × (head_length ≤ length text.old) }
+    ensures { text.new ≡ pasted text.old 0 (first_line_of (table_in table.now)) }
 {
     write_small(state_count(table), text, 0);
     write_small(label_count(table), text, 6);
@@ -34,9 +34,9 @@ fn write_header(table: &[u8], text: &mut [u8])
 
 // The name of label k + 1 at `at`, and where it ends.
 fn write_name(table: &[u8], k: usize, text: &mut [u8], at: usize) -> usize
-    requires { HoldsTable table.now × ((k < labels (tableIn table.now)) × (at + longestName ≤ length text.old)) }
+    requires { HoldsTable table.now × ((k < labels (table_in table.now)) × (at + longest_name ≤ length text.old)) }
     ensures stands { Stands (name_at table.now k) at text.old text.new result }
-    ensures upper_bound { result ≤ at + longestName }
+    ensures upper_bound { result ≤ at + longest_name }
 {
     let span = name_span(table, k);
     let from = span.from;
@@ -47,9 +47,9 @@ fn write_name(table: &[u8], k: usize, text: &mut [u8], at: usize) -> usize
 
 // The line of label k + 1 at `at`, and where it ends.
 fn write_label(table: &[u8], k: usize, text: &mut [u8], at: usize) -> usize
-    requires { HoldsTable table.now × ((k < labels (tableIn table.now)) × (at + labelWidth ≤ length text.old)) }
-    ensures stands { Stands (ended (labelLine (suc k) (name_at table.now k))) at text.old text.new result }
-    ensures upper_bound { result ≤ at + labelWidth }
+    requires { HoldsTable table.now × ((k < labels (table_in table.now)) × (at + label_width ≤ length text.old)) }
+    ensures stands { Stands (ended (label_line (suc k) (name_at table.now k))) at text.old text.new result }
+    ensures upper_bound { result ≤ at + label_width }
 {
     write_small(k + 1, text, at);
     text[at + 6] = 32;
@@ -60,9 +60,9 @@ fn write_label(table: &[u8], k: usize, text: &mut [u8], at: usize) -> usize
 
 // The lines of all labels.
 fn write_labels(table: &[u8], text: &mut [u8], at: usize) -> usize
-    requires { HoldsTable table.now × (at + labels (tableIn table.now) * labelWidth ≤ length text.old) }
-    ensures stands { Stands (labelLines 1 (tableIn table.now).names) at text.old text.new result }
-    ensures upper_bound { result ≤ at + labels (tableIn table.now) * labelWidth }
+    requires { HoldsTable table.now × (at + labels (table_in table.now) * label_width ≤ length text.old) }
+    ensures stands { Stands (label_lines 1 (table_in table.now).names) at text.old text.new result }
+    ensures upper_bound { result ≤ at + labels (table_in table.now) * label_width }
 {
     let count = label_count(table);
     let mut end = at;
@@ -76,8 +76,8 @@ fn write_labels(table: &[u8], text: &mut [u8], at: usize) -> usize
 
 // Keeps the columns of all states and labels: each transition's line is copied from them.
 fn keep_numbers(table: &[u8], kept: &mut [u8])
-    requires { HoldsTable table.now × (keptLength ≤ length kept.old) }
-    ensures { NumbersKept (tableIn table.now) kept.new }
+    requires { HoldsTable table.now × (kept_length ≤ length kept.old) }
+    ensures { NumbersKept (table_in table.now) kept.new }
 {
     let states = state_count(table);
     let most = label_count(table);
@@ -90,9 +90,9 @@ fn keep_numbers(table: &[u8], kept: &mut [u8])
 
 // The line of the transition in slot k.
 fn write_step(table: &[u8], kept: &[u8], k: usize, text: &mut [u8], at: usize)
-    requires holds_table { HoldsTable table.now × (k < length (tableIn table.now).transitions) }
-    requires numbers_kept { NumbersKept (tableIn table.now) kept.now × (at + stepWidth ≤ length text.old) }
-    ensures { text.new ≡ pasted text.old at (ended (transitionLine (transitionAt table.now k))) }
+    requires holds_table { HoldsTable table.now × (k < length (table_in table.now).transitions) }
+    requires numbers_kept { NumbersKept (table_in table.now) kept.now × (at + step_width ≤ length text.old) }
+    ensures { text.new ≡ pasted text.old at (ended (transition_line (transition_at table.now k))) }
 {
     let step = transition_at(table, k);
     copy_column(kept, step.from, text, at);
@@ -103,9 +103,9 @@ fn write_step(table: &[u8], kept: &[u8], k: usize, text: &mut [u8], at: usize)
 
 // The lines of all transitions.
 fn write_steps(table: &[u8], kept: &[u8], text: &mut [u8], at: usize) -> usize
-    requires holds_table { HoldsTable table.now × NumbersKept (tableIn table.now) kept.now }
-    requires step_width_in_bounds { at + length (tableIn table.now).transitions * stepWidth ≤ length text.old }
-    ensures { Stands (transitionLines (tableIn table.now).transitions) at text.old text.new result }
+    requires holds_table { HoldsTable table.now × NumbersKept (table_in table.now) kept.now }
+    requires step_width_in_bounds { at + length (table_in table.now).transitions * step_width ≤ length text.old }
+    ensures { Stands (transition_lines (table_in table.now).transitions) at text.old text.new result }
 {
     let count = transition_count(table);
     let mut end = at;
@@ -120,8 +120,8 @@ fn write_steps(table: &[u8], kept: &[u8], text: &mut [u8], at: usize) -> usize
 
 // The same, of a table alone.
 fn step_lines(table: &[u8], text: &mut [u8], at: usize) -> usize
-    requires { HoldsTable table.now × (at + length (tableIn table.now).transitions * stepWidth ≤ length text.old) }
-    ensures { Stands (transitionLines (tableIn table.now).transitions) at text.old text.new result }
+    requires { HoldsTable table.now × (at + length (table_in table.now).transitions * step_width ≤ length text.old) }
+    ensures { Stands (transition_lines (table_in table.now).transitions) at text.old text.new result }
 {
     let mut kept = [0u8; KEPT_LENGTH];
     keep_numbers(table, &mut kept);
@@ -130,8 +130,8 @@ fn step_lines(table: &[u8], text: &mut [u8], at: usize) -> usize
 
 // All of them, and how long they are.
 pub fn write_lines(table: &[u8], text: &mut [u8]) -> usize
-    requires { HoldsTable table.now × (longestTableText ≤ length text.old) }
-    ensures { Stands (tableText (tableIn table.now)) 0 text.old text.new result }
+    requires { HoldsTable table.now × (longest_table_text ≤ length text.old) }
+    ensures { Stands (table_text (table_in table.now)) 0 text.old text.new result }
 {
     write_header(table, text);
     let end = write_labels(table, text, 25);

@@ -11,7 +11,7 @@ use lib.ListN.{length, get_or, take, set}
 use lib.Seq.{take-suc-set}
 use Rattle.lts.specs.inner.Lists.{up_from}
 use Rattle.lts.specs.Lists.{every}
-use Rattle.lts.proofs.Lists.{upFrom-of, upFrom-to, upFrom-snoc, map-append, every_of, every-to}
+use Rattle.lts.proofs.Lists.{up_from-of, up_from-to, up_from_snoc, map_append, every_of, every-to}
 
 from_at : {A : Type 0} (g : ℕ → A) (j n k : ℕ) (d : A) → k < n → get_or (map g (up_from j n)) k d ≡ g (j + k)
 from_at g j zero k d h = absurd (omega arith)
@@ -22,7 +22,7 @@ from_at g j (suc n) (suc k) d h = from_at g (suc j) n k d (omega arith) ∙ ap g
 pub filled_more : (g : ℕ → ℕ) (l : List ℕ) (k : ℕ) → k < length l → take k l ≡ map g (up_from 0 k) → take (k + 1) (set l k (g k)) ≡ map g (up_from 0 (k + 1))
 filled_more g l k h e =
     rw add-one
-    (take-suc-set l k (g k) h ∙ (ap (λ x. x ++ (g k ∷ [])) e ∙ sym (ap (map g) (upFrom-snoc k) ∙ map-append g (up_from 0 k) (k ∷ []))))
+    (take-suc-set l k (g k) h ∙ (ap (λ x. x ++ (g k ∷ [])) e ∙ sym (ap (map g) (up_from_snoc k) ∙ map_append g (up_from 0 k) (k ∷ []))))
 
 -- A test over numbers in turn: what passed so far, and what the whole gives.
 abbrev pub Passed : (ℕ → Bool) → ℕ → ℕ → Type 0
@@ -40,11 +40,11 @@ module _ (p : ℕ → Bool) (a : ℕ) where
       case (no j) = let d : i ≡ k = omega arith in ap p d ∙ e
 
   pub passed-all : (n k : ℕ) → a + n ≤ k → Passed p a k → every p (up_from a n) ≡ true
-  passed-all n k l h = every-to p (up_from a n) (λ x m. let b = upFrom-of a n m in h x b.0 (omega arith))
+  passed-all n k l h = every-to p (up_from a n) (λ x m. let b = up_from-of a n m in h x b.0 (omega arith))
 
-  pub failed-one : (n k : ℕ) → a ≤ k → k < a + n → p k ≡ false → every p (up_from a n) ≡ false
-  failed-one n k l h e = case (every p (up_from a n)) refl
+  pub failed_one : (n k : ℕ) → a ≤ k → k < a + n → p k ≡ false → every p (up_from a n) ≡ false
+  failed_one n k l h e = case (every p (up_from a n)) refl
     where
       case : (t : Bool) → every p (up_from a n) ≡ t → t ≡ false
-      case true d = absurd (false≢true (sym e ∙ every_of p (up_from a n) d k (upFrom-to a n k l h)))
+      case true d = absurd (false≢true (sym e ∙ every_of p (up_from a n) d k (up_from-to a n k l h)))
       case false d = refl

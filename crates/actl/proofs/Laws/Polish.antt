@@ -10,16 +10,16 @@ use native.Mathlib.Omega.{arith}
 use lib.Dec.{eqb}
 use borrow.Author.Tests.{eqb-true}
 use Rattle.lts.specs.Lists.{bind}
-use Rattle.lts.proofs.Lists.{map-append}
+use Rattle.lts.proofs.Lists.{map_append}
 use Rattle.actl.specs.Actions.{Mask, Cond, silent, labels}
-use Rattle.actl.specs.Formulas.{Formula, tru, not, or, ex, ax, eu, euThen, nodes}
+use Rattle.actl.specs.Formulas.{Formula, tru, not, or, ex, ax, eu, eu_then, nodes}
 use Rattle.actl.specs.Prepared.{Slot, slot, slot_of}
-use Rattle.actl.specs.inner.Prepared.{push, pushOn, treesIn, one, two, chosen}
-use Rattle.actl.specs.inner.Shaped.{firstUsed, secondUsed}
+use Rattle.actl.specs.inner.Prepared.{push, push_on, trees_in, one, two, chosen}
+use Rattle.actl.specs.inner.Shaped.{first_used, second_used}
 
 -- A slot without the masks that its kind does not have.
 abbrev cleaned : ℕ → Mask → Mask → Slot
-cleaned kind first second = slot kind (cond (firstUsed kind) first 0) (cond (secondUsed kind) second 0)
+cleaned kind first second = slot kind (cond (first_used kind) first 0) (cond (second_used kind) second 0)
 
 abbrev pub clean : Slot → Slot
 clean s = cleaned s.kind s.first s.second
@@ -28,23 +28,23 @@ abbrev pub slots_of : List Formula → List Slot
 slots_of l = map slot_of (bind nodes l)
 
 -- From the slots to the formula.
-pub trees-to : (f : Formula) (rest : List Slot) {l : List Formula} → treesIn rest ≡ some l → treesIn (map slot_of (nodes f) ++ rest) ≡ some (f ∷ l)
+pub trees_to : (f : Formula) (rest : List Slot) {l : List Formula} → trees_in rest ≡ some l → trees_in (map slot_of (nodes f) ++ rest) ≡ some (f ∷ l)
 unfolding push
-trees-to tru rest e = ap (pushOn (slot_of tru)) e
-trees-to (not f) rest e = ap (pushOn (slot_of (not f))) (trees-to f rest e)
-trees-to (or f g) rest e =
-    ap (pushOn (slot_of (or f g)))
-    (ap treesIn (ap (λ z. z ++ rest) (map-append slot_of (nodes f) (nodes g)) ∙ append_assoc (map slot_of (nodes f)) (map slot_of (nodes g)) rest)
-    ∙ trees-to f (map slot_of (nodes g) ++ rest) (trees-to g rest e))
-trees-to (ex silent f) rest e = ap (pushOn (slot_of (ex silent f))) (trees-to f rest e)
-trees-to (ex (labels m) f) rest e = ap (pushOn (slot_of (ex (labels m) f))) (trees-to f rest e)
-trees-to (ax silent f) rest e = ap (pushOn (slot_of (ax silent f))) (trees-to f rest e)
-trees-to (ax (labels m) f) rest e = ap (pushOn (slot_of (ax (labels m) f))) (trees-to f rest e)
-trees-to (eu a f) rest e = ap (pushOn (slot_of (eu a f))) (trees-to f rest e)
-trees-to (euThen a b f) rest e = ap (pushOn (slot_of (euThen a b f))) (trees-to f rest e)
+trees_to tru rest e = ap (push_on (slot_of tru)) e
+trees_to (not f) rest e = ap (push_on (slot_of (not f))) (trees_to f rest e)
+trees_to (or f g) rest e =
+    ap (push_on (slot_of (or f g)))
+    (ap trees_in (ap (λ z. z ++ rest) (map_append slot_of (nodes f) (nodes g)) ∙ append_assoc (map slot_of (nodes f)) (map slot_of (nodes g)) rest)
+    ∙ trees_to f (map slot_of (nodes g) ++ rest) (trees_to g rest e))
+trees_to (ex silent f) rest e = ap (push_on (slot_of (ex silent f))) (trees_to f rest e)
+trees_to (ex (labels m) f) rest e = ap (push_on (slot_of (ex (labels m) f))) (trees_to f rest e)
+trees_to (ax silent f) rest e = ap (push_on (slot_of (ax silent f))) (trees_to f rest e)
+trees_to (ax (labels m) f) rest e = ap (push_on (slot_of (ax (labels m) f))) (trees_to f rest e)
+trees_to (eu a f) rest e = ap (push_on (slot_of (eu a f))) (trees_to f rest e)
+trees_to (eu_then a b f) rest e = ap (push_on (slot_of (eu_then a b f))) (trees_to f rest e)
 
-pub tree-of-slots : (f : Formula) → treesIn (map slot_of (nodes f)) ≡ some (f ∷ [])
-tree-of-slots f = ap treesIn (sym (append-nil (map slot_of (nodes f)))) ∙ trees-to f [] refl
+pub tree-of-slots : (f : Formula) → trees_in (map slot_of (nodes f)) ≡ some (f ∷ [])
+tree-of-slots f = ap trees_in (sym (append-nil (map slot_of (nodes f)))) ∙ trees_to f [] refl
 
 -- From the formula to the slots.
 kind-chosen : (k j : ℕ) {this other : Option (List Formula)} {m : List Formula} → chosen k j this other ≡ some m
@@ -96,7 +96,7 @@ module _ (s : Slot) where
                     | inr e ↦ elim (kind-chosen s.kind 8 e) [
                       | inl (k, d) ↦ of_one (eu s.first) (λ f. refl) (λ f. kind-is k) l d
                       | inr e ↦ elim (kind-chosen s.kind 9 e) [
-                        | inl (k, d) ↦ of_one (euThen s.first s.second) (λ f. refl) (λ f. kind-is k) l d
+                        | inl (k, d) ↦ of_one (eu_then s.first s.second) (λ f. refl) (λ f. kind-is k) l d
                         | inr e ↦ (let z : ◌≡◌ {A = ℕ} 0 1 = cc in absurd (omega arith))
                       ]
                     ]
@@ -108,12 +108,12 @@ module _ (s : Slot) where
         ]
       ]
 
-push-on-of : (s : Slot) (o : Option (List Formula)) {m : List Formula} → pushOn s o ≡ some m → (l : List Formula) × (o ≡ some l) × (push s l ≡ some m)
+push-on-of : (s : Slot) (o : Option (List Formula)) {m : List Formula} → push_on s o ≡ some m → (l : List Formula) × (o ≡ some l) × (push s l ≡ some m)
 push-on-of s none e = let z : ◌≡◌ {A = ℕ} 0 1 = cc in absurd (omega arith)
 push-on-of s (some l) e = (l, refl, e)
 
-pub trees-of : (slots : List Slot) {m : List Formula} → treesIn slots ≡ some m → map clean slots ≡ slots_of m
-trees-of [] {m} e = let d : m ≡ [] = cc in ap slots_of (sym d)
-trees-of (s ∷ slots) e =
-    let (l, d, g) = push-on-of s (treesIn slots) e in
-    ap (λ x. clean s ∷ x) (trees-of slots d) ∙ push-of s l g
+pub trees_of : (slots : List Slot) {m : List Formula} → trees_in slots ≡ some m → map clean slots ≡ slots_of m
+trees_of [] {m} e = let d : m ≡ [] = cc in ap slots_of (sym d)
+trees_of (s ∷ slots) e =
+    let (l, d, g) = push-on-of s (trees_in slots) e in
+    ap (λ x. clean s ∷ x) (trees_of slots d) ∙ push-of s l g

@@ -16,9 +16,9 @@ module _ {A : Type 0} where
   pub set_before : (l : List A) (k : ℕ) (v : A) (vs : List A) → set (sets l (k + 1) vs) k v ≡ sets l k (v ∷ vs)
   set_before l k v vs = rw add-one (set-sets l (suc k) k v vs (omega arith))
 
-  pub sets-append : (l : List A) (i : ℕ) (vs ws : List A) → sets (sets l i vs) (i + length vs) ws ≡ sets l i (vs ++ ws)
-  sets-append l i [] ws = rw add-zero
-  sets-append l i (v ∷ vs) ws = rw (add-suc, ← suc-add) (sets-append (set l i v) (suc i) vs ws)
+  pub sets_append : (l : List A) (i : ℕ) (vs ws : List A) → sets (sets l i vs) (i + length vs) ws ≡ sets l i (vs ++ ws)
+  sets_append l i [] ws = rw add-zero
+  sets_append l i (v ∷ vs) ws = rw (add-suc, ← suc-add) (sets_append (set l i v) (suc i) vs ws)
 
   below-sets : (l : List A) (i k : ℕ) (vs : List A) (d : A) → k < i → get_or (sets l i vs) k d ≡ get_or l k d
   below-sets l i k [] d h = refl

@@ -9,11 +9,11 @@ use lib.ListN.{get_or}
 use borrow.Author.Tests.{eqb-true, ne_eqb}
 use Rattle.lts.specs.inner.Lists.{up_from}
 use Rattle.lts.specs.Lists.{every}
-use Rattle.lts.proofs.Lists.{upFrom-to, every_of}
+use Rattle.lts.proofs.Lists.{up_from-to, every_of}
 use Rattle.actl.specs.Actions.{Mask, Cond, silent, labels}
-use Rattle.actl.specs.Formulas.{Formula, tru, not, or, ex, ax, eu, euThen, isT, class_of, classOfNot, classOfOr, classOfSome, classOfAll}
-use Rattle.actl.specs.Prepared.{nextSlot}
-use Rattle.actl.specs.inner.Walk.{armOf, classOfArm, classFrom}
+use Rattle.actl.specs.Formulas.{Formula, tru, not, or, ex, ax, eu, eu_then, is_t, class_of, class_of_not, class_of_or, class_of_some, class_of_all}
+use Rattle.actl.specs.Prepared.{next_slot}
+use Rattle.actl.specs.inner.Walk.{arm_of, class_of_arm, class_from}
 
 -- A row for each kind, by the arm.
 abbrev pub classes : List (List ℕ)
@@ -31,26 +31,26 @@ classes =
     ∷ []
 
 entry : ℕ → ℕ → Bool
-entry kind arm = eqb (get_or (get_or classes kind []) arm 0) (classFrom kind arm)
+entry kind arm = eqb (get_or (get_or classes kind []) arm 0) (class_from kind arm)
 
 row : ℕ → Bool
 row kind = every (entry kind) (up_from 0 4)
 
 table : every row (up_from 0 10) ≡ true
-unfolding row entry classFrom
+unfolding row entry class_from
 table = refl
 
-pub table-right : (kind arm : ℕ) → kind < 10 → arm < 4 → get_or (get_or classes kind []) arm 0 ≡ classFrom kind arm
+pub table-right : (kind arm : ℕ) → kind < 10 → arm < 4 → get_or (get_or classes kind []) arm 0 ≡ class_from kind arm
 unfolding row entry
 table-right kind arm h l =
-    let r : every (entry kind) (up_from 0 4) ≡ true = every_of row (up_from 0 10) table kind (upFrom-to 0 10 kind (omega arith) (omega arith)) in
-    eqb-true (get_or (get_or classes kind []) arm 0) (classFrom kind arm) (every_of (entry kind) (up_from 0 4) r arm (upFrom-to 0 4 arm (omega arith) (omega arith)))
+    let r : every (entry kind) (up_from 0 4) ≡ true = every_of row (up_from 0 10) table kind (up_from-to 0 10 kind (omega arith) (omega arith)) in
+    eqb-true (get_or (get_or classes kind []) arm 0) (class_from kind arm) (every_of (entry kind) (up_from 0 4) r arm (up_from-to 0 4 arm (omega arith) (omega arith)))
 
 -- The arms' classes.
-pair-low : (a b : Bool) → cond a 2 (cond b 1 0) < 3
-pair-low true b = omega arith
-pair-low false true = omega arith
-pair-low false false = omega arith
+pair_low : (a b : Bool) → cond a 2 (cond b 1 0) < 3
+pair_low true b = omega arith
+pair_low false true = omega arith
+pair_low false false = omega arith
 
 one-low : (a : Bool) → cond a 1 0 < 3
 one-low true = omega arith
@@ -63,75 +63,75 @@ two-low false = omega arith
 pub class_low : (f : Formula) → class_of f < 3
 unfolding class_of
 class_low tru = omega arith
-class_low (not f) = pair-low (eqb (class_of f) 1) (eqb (class_of f) 2)
+class_low (not f) = pair_low (eqb (class_of f) 1) (eqb (class_of f) 2)
 class_low (or f g) = one-low (eqb (class_of f) 1 && eqb (class_of g) 1)
 class_low (ex c f) = one-low (eqb (class_of f) 1)
-class_low (ax c f) = two-low (isT f || eqb (class_of f) 2)
+class_low (ax c f) = two-low (is_t f || eqb (class_of f) 2)
 class_low (eu a f) = one-low (eqb (class_of f) 1)
-class_low (euThen a b f) = one-low (eqb (class_of f) 1)
+class_low (eu_then a b f) = one-low (eqb (class_of f) 1)
 
-class-of-T : (f : Formula) → isT f ≡ true → class_of f ≡ 1
+class-of_T : (f : Formula) → is_t f ≡ true → class_of f ≡ 1
 unfolding class_of
-class-of-T tru e = refl
-class-of-T (not f) e = absurd (false≢true e)
-class-of-T (or f g) e = absurd (false≢true e)
-class-of-T (ex c f) e = absurd (false≢true e)
-class-of-T (ax c f) e = absurd (false≢true e)
-class-of-T (eu a f) e = absurd (false≢true e)
-class-of-T (euThen a b f) e = absurd (false≢true e)
+class-of_T tru e = refl
+class-of_T (not f) e = absurd (false≢true e)
+class-of_T (or f g) e = absurd (false≢true e)
+class-of_T (ex c f) e = absurd (false≢true e)
+class-of_T (ax c f) e = absurd (false≢true e)
+class-of_T (eu a f) e = absurd (false≢true e)
+class-of_T (eu_then a b f) e = absurd (false≢true e)
 
-arm-by : (t : Bool) (n : ℕ) → n < 3 → (t ≡ true → n ≡ 1) → (cond t 3 n < 4) × (classOfArm (cond t 3 n) ≡ n) × (eqb (cond t 3 n) 3 ≡ t)
-arm-by true n l h = (omega arith, sym (h refl), refl)
-arm-by false n l h = let e = ne_eqb n 3 (λ z. omega arith) in (omega arith, ap (λ t. cond t 1 n) e, e)
+arm_by : (t : Bool) (n : ℕ) → n < 3 → (t ≡ true → n ≡ 1) → (cond t 3 n < 4) × (class_of_arm (cond t 3 n) ≡ n) × (eqb (cond t 3 n) 3 ≡ t)
+arm_by true n l h = (omega arith, sym (h refl), refl)
+arm_by false n l h = let e = ne_eqb n 3 (λ z. omega arith) in (omega arith, ap (λ t. cond t 1 n) e, e)
 
 module _ (f : Formula) where
-  pub arm_low : armOf f < 4
-  arm_low = (arm-by (isT f) (class_of f) (class_low f) (class-of-T f)).0
+  pub arm_low : arm_of f < 4
+  arm_low = (arm_by (is_t f) (class_of f) (class_low f) (class-of_T f)).0
 
-  pub class-of-arm : classOfArm (armOf f) ≡ class_of f
-  class-of-arm = (arm-by (isT f) (class_of f) (class_low f) (class-of-T f)).1
+  pub class-of_arm : class_of_arm (arm_of f) ≡ class_of f
+  class-of_arm = (arm_by (is_t f) (class_of f) (class_low f) (class-of_T f)).1
 
-  pub arm-is-T : eqb (armOf f) 3 ≡ isT f
-  arm-is-T = (arm-by (isT f) (class_of f) (class_low f) (class-of-T f)).2
+  pub arm_is_T : eqb (arm_of f) 3 ≡ is_t f
+  arm_is_T = (arm_by (is_t f) (class_of f) (class_low f) (class-of_T f)).2
 
   -- Nodes with one arm.
-  pub class-of-not : classFrom 2 (armOf f) ≡ class_of (not f)
-  unfolding classFrom class_of
-  class-of-not = ap classOfNot class-of-arm
+  pub class-of-not : class_from 2 (arm_of f) ≡ class_of (not f)
+  unfolding class_from class_of
+  class-of-not = ap class_of_not class-of_arm
 
-  pub class-of-ex : (c : Cond) → classFrom (nextSlot 4 c).kind (armOf f) ≡ class_of (ex c f)
-  unfolding classFrom class_of
-  class-of-ex silent = ap classOfSome class-of-arm
-  class-of-ex (labels m) = ap classOfSome class-of-arm
+  pub class-of-ex : (c : Cond) → class_from (next_slot 4 c).kind (arm_of f) ≡ class_of (ex c f)
+  unfolding class_from class_of
+  class-of-ex silent = ap class_of_some class-of_arm
+  class-of-ex (labels m) = ap class_of_some class-of_arm
 
-  pub class-of-ax : (c : Cond) → classFrom (nextSlot 6 c).kind (armOf f) ≡ class_of (ax c f)
-  unfolding classFrom class_of
-  class-of-ax silent = λ i. classOfAll (arm-is-T i) (class-of-arm i)
-  class-of-ax (labels m) = λ i. classOfAll (arm-is-T i) (class-of-arm i)
+  pub class-of-ax : (c : Cond) → class_from (next_slot 6 c).kind (arm_of f) ≡ class_of (ax c f)
+  unfolding class_from class_of
+  class-of-ax silent = λ i. class_of_all (arm_is_T i) (class-of_arm i)
+  class-of-ax (labels m) = λ i. class_of_all (arm_is_T i) (class-of_arm i)
 
-  pub class-of-eu : (a : Mask) → classFrom 8 (armOf f) ≡ class_of (eu a f)
-  unfolding classFrom class_of
-  class-of-eu a = ap classOfSome class-of-arm
+  pub class-of-eu : (a : Mask) → class_from 8 (arm_of f) ≡ class_of (eu a f)
+  unfolding class_from class_of
+  class-of-eu a = ap class_of_some class-of_arm
 
-  pub class-of-euThen : (a b : Mask) → classFrom 9 (armOf f) ≡ class_of (euThen a b f)
-  unfolding classFrom class_of
-  class-of-euThen a b = ap classOfSome class-of-arm
+  pub class-of-eu_then : (a b : Mask) → class_from 9 (arm_of f) ≡ class_of (eu_then a b f)
+  unfolding class_from class_of
+  class-of-eu_then a b = ap class_of_some class-of_arm
 
-pub class-of-or : (f g : Formula) → classOfOr (classOfArm (armOf f)) (classOfArm (armOf g)) ≡ class_of (or f g)
+pub class-of-or : (f g : Formula) → class_of_or (class_of_arm (arm_of f)) (class_of_arm (arm_of g)) ≡ class_of (or f g)
 unfolding class_of
-class-of-or f g = λ i. classOfOr (class-of-arm f i) (class-of-arm g i)
+class-of-or f g = λ i. class_of_or (class-of_arm f i) (class-of_arm g i)
 
 -- `|`: each of the arms must give 1.
-pub or-none : (m n : ℕ) → classOfSome m ≡ 0 → classOfOr m n ≡ 0
+pub or-none : (m n : ℕ) → class_of_some m ≡ 0 → class_of_or m n ≡ 0
 or-none m n e = by (eqb m 1) e
   where
     by : (a : Bool) → ◌≡◌ {A = ℕ} (cond a 1 0) 0 → ◌≡◌ {A = ℕ} (cond (a && eqb n 1) 1 0) 0
     by true e = absurd (omega arith)
     by false e = refl
 
-pub or-second : (m n : ℕ) → (classOfSome m ≡ 0 → ⊥) → classOfSome n ≡ classOfOr m n
+pub or-second : (m n : ℕ) → (class_of_some m ≡ 0 → ⊥) → class_of_some n ≡ class_of_or m n
 or-second m n e = by (eqb m 1) e
   where
-    by : (a : Bool) → (◌≡◌ {A = ℕ} (cond a 1 0) 0 → ⊥) → classOfSome n ≡ cond (a && eqb n 1) 1 0
+    by : (a : Bool) → (◌≡◌ {A = ℕ} (cond a 1 0) 0 → ⊥) → class_of_some n ≡ cond (a && eqb n 1) 1 0
     by true e = refl
     by false e = absurd (e refl)

@@ -1,9 +1,9 @@
 -- What the methods of a cursor say, of a text s and places in it; and how the reader moves while a text is walked.
 use Rattle.std.specs.Prelude.{◌≡◌, List, ◌++◌, ℕ, ◌+◌, ◌-◌, ◌≤◌, ◌<◌, length, get_or, drop}
-use Rattle.lts.specs.inner.Sizes.{longestName}
+use Rattle.lts.specs.inner.Sizes.{longest_name}
 use Rattle.actl.specs.Grammar.{Name, name}
 use Rattle.actl.specs.inner.Show.{gap}
-use Rattle.actl.specs.inner.Reader.{State, operand_at, plugO, run, refused}
+use Rattle.actl.specs.inner.Reader.{State, operand_at, plug_o, run, refused}
 
 -- The byte at a place; 256 at the end.
 abbrev pub peek : List ℕ → ℕ → ℕ
@@ -51,5 +51,5 @@ pub record Keyword (s : List ℕ) (at first second to : ℕ) : Type 0 where
 pub record Named (s : List ℕ) (at to : ℕ) : Type 0 where
   pub value : Name
   pub up : at < to
-  pub short : to ≤ at + longestName
-  pub moves : Moves s at to (λ r. value.bytes ++ r) operand_at (plugO (name value))
+  pub short : to ≤ at + longest_name
+  pub moves : Moves s at to (λ r. value.bytes ++ r) operand_at (plug_o (name value))

@@ -1,8 +1,8 @@
 -- Every node at every state, for arrays.
 use Rattle.std.specs.Prelude.{ℕ, ◌*◌}
-use Rattle.lts.specs.Sizes.{mostStates}
-use Rattle.actl.specs.Sizes.{mostNodes}
+use Rattle.lts.specs.Sizes.{most_states}
+use Rattle.actl.specs.Sizes.{most_nodes}
 
 -- Every node at every state.
-abbrev pub nodePositions : ℕ
-nodePositions = mostNodes * mostStates
+abbrev pub node_positions : ℕ
+node_positions = most_nodes * most_states

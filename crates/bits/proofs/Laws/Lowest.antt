@@ -7,35 +7,35 @@ use lib.Bits.{bit_and, and_step, and_self}
 use lib.Count.{count_trailing_zeros, under}
 use lib.Pow.{pow_pos}
 
-pub half-below : (m n : ℕ) → m < 2 ^ suc n → m / 2 < 2 ^ n
-half-below m n h = let z : m < 2 ^ n * 2 = subst (λ k. m < k) (pow-suc 2 n) h in omega arith
+pub half_below : (m n : ℕ) → m < 2 ^ suc n → m / 2 < 2 ^ n
+half_below m n h = let z : m < 2 ^ n * 2 = subst (λ k. m < k) (pow-suc 2 n) h in omega arith
 
-pub lowest-inside : (d n m : ℕ) → n ≤ d → (m ≡ 0 → ⊥) → m < 2 ^ n → count_trailing_zeros d m < n
+pub lowest_inside : (d n m : ℕ) → n ≤ d → (m ≡ 0 → ⊥) → m < 2 ^ n → count_trailing_zeros d m < n
 unfolding count_trailing_zeros
-lowest-inside d zero m k z h = absurd (z (omega arith))
-lowest-inside zero (suc n) m k z h = absurd (omega arith)
-lowest-inside (suc d) (suc n) m k z h = go (m % 2) refl (λ e. lowest-inside d n (m / 2) (omega arith) (λ y. z (omega arith)) (half-below m n h))
+lowest_inside d zero m k z h = absurd (z (omega arith))
+lowest_inside zero (suc n) m k z h = absurd (omega arith)
+lowest_inside (suc d) (suc n) m k z h = go (m % 2) refl (λ e. lowest_inside d n (m / 2) (omega arith) (λ y. z (omega arith)) (half_below m n h))
   where
     go : (r : ℕ) → m % 2 ≡ r → (m % 2 ≡ 0 → count_trailing_zeros d (m / 2) < n) → under r (count_trailing_zeros d (m / 2)) < suc n
     go zero e i = let j = i e in omega arith
     go (suc r) e i = omega arith
 
 -- Fewer places are left.
-pub lowest-falls : (m t : ℕ) → (m ≡ 0 → ⊥) → m - 2 ^ t < m
-lowest-falls m t z = let p = pow_pos t in omega arith
+pub lowest_falls : (m t : ℕ) → (m ≡ 0 → ⊥) → m - 2 ^ t < m
+lowest_falls m t z = let p = pow_pos t in omega arith
 
 -- What stands below and above, by halves.
-pub even-rest : (m t : ℕ) → m % 2 ≡ 0 → ((m - 2 ^ suc t) % 2 ≡ 0) × ((m - 2 ^ suc t) / 2 ≡ m / 2 - 2 ^ t)
-even-rest m t e = let p = pow-suc 2 t in (omega arith, omega arith)
+pub even_rest : (m t : ℕ) → m % 2 ≡ 0 → ((m - 2 ^ suc t) % 2 ≡ 0) × ((m - 2 ^ suc t) / 2 ≡ m / 2 - 2 ^ t)
+even_rest m t e = let p = pow-suc 2 t in (omega arith, omega arith)
 
-pub odd-rest : (m : ℕ) → m % 2 ≡ 1 → ((m - 2 ^ 0) % 2 ≡ 0) × ((m - 2 ^ 0) / 2 ≡ m / 2)
-odd-rest m e = (omega arith, omega arith)
+pub odd_rest : (m : ℕ) → m % 2 ≡ 1 → ((m - 2 ^ 0) % 2 ≡ 0) × ((m - 2 ^ 0) / 2 ≡ m / 2)
+odd_rest m e = (omega arith, omega arith)
 
 -- `m & (m - 1)` is the mask without its lowest place.
 pub cleared : (d m : ℕ) → (m ≡ 0 → ⊥) → m < 2 ^ d → bit_and m (m - 1) ≡ m - 2 ^ count_trailing_zeros d m
 unfolding count_trailing_zeros
 cleared zero m z h = absurd (z (omega arith))
-cleared (suc d) m z h = go (m % 2) refl (λ e. cleared d (m / 2) (λ y. z (omega arith)) (half-below m d h))
+cleared (suc d) m z h = go (m % 2) refl (λ e. cleared d (m / 2) (λ y. z (omega arith)) (half_below m d h))
   where
     go : (r : ℕ) → m % 2 ≡ r → (m % 2 ≡ 0 → bit_and (m / 2) (m / 2 - 1) ≡ m / 2 - 2 ^ count_trailing_zeros d (m / 2)) → bit_and m (m - 1) ≡ m - 2 ^ under r (count_trailing_zeros d (m / 2))
     go zero e i =

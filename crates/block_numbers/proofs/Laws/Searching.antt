@@ -8,12 +8,12 @@ use native.Mathlib.Omega.{arith}
 use lib.ListN.{length, get_or, take, length-append}
 use lib.Seq.{get_or-take}
 use borrow.Author.Tests.{lt-ltb, le-ltb}
-use Rattle.lts.proofs.Lists.{getD-mem}
-use Rattle.deterministic.specs.Sizes.{mostLetters}
-use Rattle.deterministic.specs.inner.Search.{System, number_of, placeAt, movesFrom, expand, search, found, movesUpto}
+use Rattle.lts.proofs.Lists.{get_d_mem}
+use Rattle.deterministic.specs.Sizes.{most_letters}
+use Rattle.deterministic.specs.inner.Search.{System, number_of, place_at, moves_from, expand, search, found, moves_upto}
 use Rattle.deterministic.proofs.Search.{upto_next}
 use Rattle.deterministic.proofs.Visits.{visits-more}
-use Rattle.block_numbers.specs.inner.Found.{blockSystem, Fits, added, Rows, Within, takenFrom, countFrom}
+use Rattle.block_numbers.specs.inner.Found.{block_system, Fits, added, Rows, Within, taken_from, count_from}
 use Rattle.block_numbers.proofs.Laws.Entered.{tests, rows-length, within-few, within_none, within-added, count-few}
 use Rattle.block_numbers.proofs.Laws.Columns.{get_d_any, start_is, expand-is, moves-count}
 
@@ -22,17 +22,17 @@ module _ (next blocks : List ℕ) (n columns : ℕ) where
   pub record Searching (i : ℕ) (rows numbers : List ℕ) (count edges : ℕ) : Type 0 where
     pub stand : Rows rows numbers count
     pub within : Within n (take count rows)
-    pub leads : search (blockSystem next blocks n columns) (n - i) i (take count rows) ≡ found (blockSystem next blocks n columns) n
-    pub counted : edges ≡ length (movesUpto (blockSystem next blocks n columns) (take count rows) i)
-    pub few-edges : edges ≤ i * mostLetters
+    pub leads : search (block_system next blocks n columns) (n - i) i (take count rows) ≡ found (block_system next blocks n columns) n
+    pub counted : edges ≡ length (moves_upto (block_system next blocks n columns) (take count rows) i)
+    pub few_edges : edges ≤ i * most_letters
     pub begun : i ≤ count
 
 module _ {next blocks : List ℕ} {n columns : ℕ} (f : Fits next blocks n columns) where
   abbrev M : System ℕ
-  M = blockSystem next blocks n columns
+  M = block_system next blocks n columns
 
   pub search-start : {rows numbers : List ℕ} {count b : ℕ} → b ≡ get_or blocks 0 0 → Rows rows numbers count → take count rows ≡ added [] b → Searching next blocks n columns 0 rows numbers count 0
-  unfolding number_of found movesUpto
+  unfolding number_of found moves_upto
   search-start {rows} {numbers} {count} {b} e r t =
       let first : take count rows ≡ M.start ∷ [] = t ∙ ap (λ x. x ∷ []) (e ∙ sym (start_is f)) in
       let below : b < n = omega (arith, e, f.inside 0 f.states.0) in
@@ -41,7 +41,7 @@ module _ {next blocks : List ℕ} {n columns : ℕ} (f : Fits next blocks n colu
         within = subst (λ (l : List ℕ). Within n l) (sym t) (within-added (within_none n) b below);
         leads = λ i. search M (all i) 0 (first i);
         counted = refl;
-        few-edges = omega arith;
+        few_edges = omega arith;
         begun = omega arith;
       }
 
@@ -56,11 +56,11 @@ module _ {next blocks : List ℕ} {n columns : ℕ} (f : Fits next blocks n colu
     long : length L ≡ count
     long = rows-length s.stand 0
 
-    place : placeAt M L i ≡ p
+    place : place_at M L i ≡ p
     place = get_or-take count rows i M.start h ∙ get_d_any rows i M.start 0 (omega (arith, s.stand.long, s.stand.few))
 
     pub row_small : p < n
-    row_small = subst (λ (k : ℕ). k < n) place (s.within.inside (placeAt M L i) (getD-mem L i M.start (omega (arith, long))))
+    row_small = subst (λ (k : ℕ). k < n) place (s.within.inside (place_at M L i) (get_d_mem L i M.start (omega (arith, long))))
 
     left : search M (n - i) i L ≡ search M (n - (i + 1)) (i + 1) (expand M L i)
     unfolding search
@@ -73,26 +73,26 @@ module _ {next blocks : List ℕ} {n columns : ℕ} (f : Fits next blocks n colu
 
     grown : (extra : List ℕ) × (expand M L i ≡ L ++ extra)
     unfolding expand
-    grown = visits-more M tests L (movesFrom M i (placeAt M L i))
+    grown = visits-more M tests L (moves_from M i (place_at M L i))
 
-    moves_more : length (movesUpto M (expand M L i) (i + 1)) ≡ length (movesUpto M L i) + countFrom next blocks n (p * mostLetters) columns
+    moves_more : length (moves_upto M (expand M L i) (i + 1)) ≡ length (moves_upto M L i) + count_from next blocks n (p * most_letters) columns
     moves_more =
         let (x, e) = grown in
-        ap (λ l. length (movesUpto M l (i + 1))) e ∙ (ap (λ k. length (movesUpto M (L ++ x) k)) (add-one i) ∙ (ap length (upto_next M L x i (omega (arith, long)))
-        ∙ (length-append (movesUpto M L i) (movesFrom M i (placeAt M L i))
-        ∙ ap (λ k. length (movesUpto M L i) + k) (ap (λ q. length (movesFrom M i q)) place ∙ moves-count f p row_small i))))
+        ap (λ l. length (moves_upto M l (i + 1))) e ∙ (ap (λ k. length (moves_upto M (L ++ x) k)) (add-one i) ∙ (ap length (upto_next M L x i (omega (arith, long)))
+        ∙ (length-append (moves_upto M L i) (moves_from M i (place_at M L i))
+        ∙ ap (λ k. length (moves_upto M L i) + k) (ap (λ q. length (moves_from M i q)) place ∙ moves-count f p row_small i))))
 
-    pub search-turn : {rows' numbers' : List ℕ} {count' edges' : ℕ} → Rows rows' numbers' count' → Within n (take count' rows')
-        → take count' rows' ≡ takenFrom next blocks n (p * mostLetters) columns L → edges' ≡ edges + countFrom next blocks n (p * mostLetters) columns
+    pub search_turn : {rows' numbers' : List ℕ} {count' edges' : ℕ} → Rows rows' numbers' count' → Within n (take count' rows')
+        → take count' rows' ≡ taken_from next blocks n (p * most_letters) columns L → edges' ≡ edges + count_from next blocks n (p * most_letters) columns
         → Searching next blocks n columns (i + 1) rows' numbers' count' edges'
-    search-turn {rows'} {numbers'} {count'} {edges'} r w t e =
+    search_turn {rows'} {numbers'} {count'} {edges'} r w t e =
         let same : take count' rows' ≡ expand M L i = t ∙ sym (expand-is f p row_small L i place) in
         let (x, d) = grown in record {
           stand = r;
           within = w;
           leads = ap (search M (n - (i + 1)) (i + 1)) same ∙ (sym left ∙ s.leads);
-          counted = e ∙ (ap (λ k. k + countFrom next blocks n (p * mostLetters) columns) s.counted ∙ (sym moves_more ∙ ap (λ l. length (movesUpto M l (i + 1))) (sym same)));
-          few-edges = omega (arith, e, s.few-edges, count-few next blocks n (p * mostLetters) columns, f.letters.1);
+          counted = e ∙ (ap (λ k. k + count_from next blocks n (p * most_letters) columns) s.counted ∙ (sym moves_more ∙ ap (λ l. length (moves_upto M l (i + 1))) (sym same)));
+          few_edges = omega (arith, e, s.few_edges, count-few next blocks n (p * most_letters) columns, f.letters.1);
           begun = omega (arith, ap length (same ∙ d), length-append L x, long, rows-length r 0);
         }
 
@@ -106,5 +106,5 @@ module _ {next blocks : List ℕ} {n columns : ℕ} (f : Fits next blocks n colu
     pub search-rows : take count rows ≡ found M n
     search-rows = sym (over (n - i)) ∙ s.leads
 
-    pub search-edges : edges ≡ length (movesUpto M (take count rows) count)
-    search-edges = let e : i ≡ count = omega (arith, s.begun) in s.counted ∙ ap (λ k. length (movesUpto M (take count rows) k)) e
+    pub search-edges : edges ≡ length (moves_upto M (take count rows) count)
+    search-edges = let e : i ≡ count = omega (arith, s.begun) in s.counted ∙ ap (λ k. length (moves_upto M (take count rows) k)) e

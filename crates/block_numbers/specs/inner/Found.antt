@@ -1,15 +1,15 @@
 -- The first pass: what a table's entries lead to, the blocks found, and what stands for each block.
 use Rattle.std.specs.Prelude.{◌≡◌, Bool, cond, ℕ, zero, suc, ◌+◌, ◌*◌, ◌<◌, ◌≤◌, eqb, ltb, length, get_or, take}
 use mathlib.Core.List.{List, [], ◌∷◌, ◌++◌, Memᴰ}
-use Rattle.deterministic.specs.Sizes.{mostSets, mostLetters}
-use Rattle.deterministic.specs.inner.Arrays.{arrayTable}
+use Rattle.deterministic.specs.Sizes.{most_sets, most_letters}
+use Rattle.deterministic.specs.inner.Arrays.{array_table}
 use Rattle.deterministic.specs.inner.Blocks.{merged}
 use Rattle.deterministic.specs.inner.Lists.{Distinct}
-use Rattle.deterministic.specs.inner.Search.{System, number_of, seen, found, movesUpto}
+use Rattle.deterministic.specs.inner.Search.{System, number_of, seen, found, moves_upto}
 
 -- The blocks as a system; final marks play no part in it.
-abbrev pub blockSystem : List ℕ → List ℕ → ℕ → ℕ → System ℕ
-blockSystem next blocks n columns = merged (arrayTable next [] n columns) (take n blocks)
+abbrev pub block_system : List ℕ → List ℕ → ℕ → ℕ → System ℕ
+block_system next blocks n columns = merged (array_table next [] n columns) (take n blocks)
 
 -- The block of a state is a state.
 abbrev pub Inside : List ℕ → ℕ → Type 0
@@ -17,10 +17,10 @@ Inside blocks n = (k : ℕ) → k < n → get_or blocks k 0 < n
 
 -- What the arrays of n states have to be.
 pub record Fits (next blocks : List ℕ) (n columns : ℕ) : Type 0 where
-  pub all-next : length next ≡ mostSets * mostLetters
-  pub all_blocks : length blocks ≡ mostSets
-  pub states : (0 < n) × (n ≤ mostSets)
-  pub letters : (1 ≤ columns) × (columns ≤ mostLetters)
+  pub all_next : length next ≡ most_sets * most_letters
+  pub all_blocks : length blocks ≡ most_sets
+  pub states : (0 < n) × (n ≤ most_sets)
+  pub letters : (1 ≤ columns) × (columns ≤ most_letters)
   pub inside : Inside blocks n
 
 -- A block becomes the last row, if it is none yet.
@@ -33,9 +33,9 @@ slot_of l b = cond (seen eqb l b) (suc (number_of eqb l b)) 0
 
 -- The first `count` rows, and what stands for each block.
 pub record Rows (rows numbers : List ℕ) (count : ℕ) : Type 0 where
-  pub long : length rows ≡ mostSets
-  pub wide : length numbers ≡ mostSets
-  pub few : count ≤ mostSets
+  pub long : length rows ≡ most_sets
+  pub wide : length numbers ≡ most_sets
+  pub few : count ≤ most_sets
   pub numbered : (b : ℕ) → get_or numbers b 0 ≡ slot_of (take count rows) b
 
 -- Blocks below n, each once.
@@ -55,17 +55,17 @@ module _ (next blocks : List ℕ) (n : ℕ) where
   taken at l = cond (leads at) (added l (goal at)) l
 
   -- Of k entries from `at` on: the rows behind them, and how many lead to a state.
-  unfoldable pub takenFrom : ℕ → ℕ → List ℕ → List ℕ
-  takenFrom at zero l = l
-  takenFrom at (suc k) l = takenFrom (suc at) k (taken at l)
+  unfoldable pub taken_from : ℕ → ℕ → List ℕ → List ℕ
+  taken_from at zero l = l
+  taken_from at (suc k) l = taken_from (suc at) k (taken at l)
 
-  unfoldable pub countFrom : ℕ → ℕ → ℕ
-  countFrom at zero = 0
-  countFrom at (suc k) = cond (leads at) 1 0 + countFrom (suc at) k
+  unfoldable pub count_from : ℕ → ℕ → ℕ
+  count_from at zero = 0
+  count_from at (suc k) = cond (leads at) 1 0 + count_from (suc at) k
 
 -- The search found these rows, and counted their edges.
 pub record IsFound (next blocks : List ℕ) (n columns : ℕ) (rows numbers : List ℕ) (count edges : ℕ) : Type 0 where
   pub stand : Rows rows numbers count
   pub within : Within n (take count rows)
-  pub all : take count rows ≡ found (blockSystem next blocks n columns) n
-  pub counted : edges ≡ length (movesUpto (blockSystem next blocks n columns) (take count rows) count)
+  pub all : take count rows ≡ found (block_system next blocks n columns) n
+  pub counted : edges ≡ length (moves_upto (block_system next blocks n columns) (take count rows) count)

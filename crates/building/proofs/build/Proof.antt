@@ -1,7 +1,7 @@
 -- `build` meets its contract: a refusal of the inputs, and else what the listing and the lent places say.
 use borrow.Author.Rules.{rules}
-use Rattle.formula_check.proofs.Laws.Inputs.{Both, inputs-prepared, both-held}
-use Rattle.building.proofs.Laws.Entries.{refused-inputs, promised}
+use Rattle.formula_check.proofs.Laws.Inputs.{Both, inputs_prepared, both-held}
+use Rattle.building.proofs.Laws.Entries.{refused_inputs, promised}
 use Rattle.building.proofs.build.Statement.{statement}
 use Rattle.building.proofs.build.Tie as tie
 
@@ -9,10 +9,10 @@ returns : tie.Need-returns
 returns c =
     let asked = c.before.before.before in
     let a = asked.before.before.before.before.before.args in
-    refused-inputs a.table.now a.formula.now a.rows.now a.edges.now asked.check-inputs.ensures c.before.why.given.1
+    refused_inputs a.table.now a.formula.now a.rows.now a.edges.now asked.check-inputs.ensures c.before.why.given.1
 
 prepared : (c : tie.After-enum-told) → let a = c.before.before.before.before.before.before.before.args in Both a.table.now a.formula.now
-prepared c = inputs-prepared _ _ c.before.before.check-inputs.ensures c.enum_told.given.1
+prepared c = inputs_prepared _ _ c.before.before.check-inputs.ensures c.enum_told.given.1
 
 built-requires : tie.Need-built-requires
 built-requires c κs = both-held _ _ (prepared c.before.before)
@@ -23,7 +23,7 @@ returns-2 c =
     let told = called.before.before.before in
     let a = told.before.before.before.before.before.before.before.args in
     let b = prepared told in
-    promised a.table.now a.formula.now a.rows.now a.edges.now b b.formula-in b.prepared (called.built.ensures b.formula-in b.prepared)
+    promised a.table.now a.formula.now a.rows.now a.edges.now b b.formula_in b.prepared (called.built.ensures b.formula_in b.prepared)
 
 pub build-spec : {M : Type 1} → statement M
 build-spec =

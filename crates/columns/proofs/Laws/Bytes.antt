@@ -10,7 +10,7 @@ use native.Mathlib.Omega.{arith}
 use lib.Dec.{eqb}
 use lib.ListN.{length, get_or, replicate, length-append, length-replicate}
 use borrow.Author.Tests.{eqb-true, eq-eqb}
-use Rattle.columns.specs.Bytes.{sameBytes, padded, low_first}
+use Rattle.columns.specs.Bytes.{same_bytes, padded, low_first}
 
 -- Every member is below 256.
 abbrev pub Bytes : List ℕ → Type 0
@@ -26,8 +26,8 @@ bytes-cons {x} {l} h r b m = step (Memᴰ.cases_cons m)
     step (inl e) = omega arith
     step (inr n) = r b n
 
-pub bytes-append : (l : List ℕ) {m : List ℕ} → Bytes l → Bytes m → Bytes (l ++ m)
-bytes-append l {m} r s b d = step (Memᴰ.append_cases l d)
+pub bytes_append : (l : List ℕ) {m : List ℕ} → Bytes l → Bytes m → Bytes (l ++ m)
+bytes_append l {m} r s b d = step (Memᴰ.append_cases l d)
   where
     step : Memᴰ b l ⊎ Memᴰ b m → b < 256
     step (inl n) = r b n
@@ -38,30 +38,30 @@ bytes-at [] h i = omega arith
 bytes-at (x ∷ l) h zero = h x (Memᴰ.head refl)
 bytes-at (x ∷ l) h (suc i) = bytes-at l (λ b m. h b (Memᴰ.tail m)) i
 
-pub replicate-mem : (n a : ℕ) {b : ℕ} → Memᴰ b (replicate n a) → b ≡ a
-replicate-mem zero a m = absurd (Memᴰ.not-nil m)
-replicate-mem (suc n) a {b} m = step (replicate-mem n a) (Memᴰ.cases_cons m)
+pub replicate_mem : (n a : ℕ) {b : ℕ} → Memᴰ b (replicate n a) → b ≡ a
+replicate_mem zero a m = absurd (Memᴰ.not-nil m)
+replicate_mem (suc n) a {b} m = step (replicate_mem n a) (Memᴰ.cases_cons m)
   where
     step : (Memᴰ b (replicate n a) → b ≡ a) → (b ≡ a) ⊎ Memᴰ b (replicate n a) → b ≡ a
     step h (inl e) = e
     step h (inr d) = h d
 
 -- Equality as a test.
-pub same_of : (a b : List ℕ) → sameBytes a b ≡ true → a ≡ b
+pub same_of : (a b : List ℕ) → same_bytes a b ≡ true → a ≡ b
 same_of [] [] e = refl
 same_of [] (y ∷ b) e = absurd (false≢true e)
 same_of (x ∷ a) [] e = absurd (false≢true e)
 same_of (x ∷ a) (y ∷ b) e = step (eqb x y) refl e (same_of a b)
   where
-    step : (t : Bool) → eqb x y ≡ t → (t && sameBytes a b) ≡ true → (sameBytes a b ≡ true → a ≡ b) → x ∷ a ≡ y ∷ b
+    step : (t : Bool) → eqb x y ≡ t → (t && same_bytes a b) ≡ true → (same_bytes a b ≡ true → a ≡ b) → x ∷ a ≡ y ∷ b
     step true d f h = ap₂ (λ (z : ℕ) (l : List ℕ). z ∷ l) (eqb-true x y d) (h f)
     step false d f h = absurd (false≢true f)
 
-pub same_refl : (a : List ℕ) → sameBytes a a ≡ true
+pub same_refl : (a : List ℕ) → same_bytes a a ≡ true
 same_refl [] = refl
 same_refl (x ∷ a) = rw (eq-eqb x x refl) (same_refl a)
 
-pub same-to : (a b : List ℕ) → a ≡ b → sameBytes a b ≡ true
+pub same-to : (a b : List ℕ) → a ≡ b → same_bytes a b ≡ true
 same-to a b e = rw e (same_refl b)
 
 -- Zeros behind a list.
@@ -69,23 +69,23 @@ pub padded-length : (n : ℕ) (l : List ℕ) → length l ≤ n → length (padd
 padded-length n l h = simp (length-append, length-replicate) (omega arith)
 
 pub padded-bytes : (n : ℕ) (l : List ℕ) → Bytes l → Bytes (padded n l)
-padded-bytes n l r = bytes-append l r (λ b m. omega (arith, replicate-mem (n - length l) 0 m))
+padded-bytes n l r = bytes_append l r (λ b m. omega (arith, replicate_mem (n - length l) 0 m))
 
 -- Numbers as bytes.
-pub lowFirst-length : (n x : ℕ) → length (low_first n x) ≡ n
-lowFirst-length zero x = refl
-lowFirst-length (suc n) x = ap suc (lowFirst-length n (x / 256))
+pub low_first-length : (n x : ℕ) → length (low_first n x) ≡ n
+low_first-length zero x = refl
+low_first-length (suc n) x = ap suc (low_first-length n (x / 256))
 
-pub lowFirst-bytes : (n x : ℕ) → Bytes (low_first n x)
-lowFirst-bytes zero x = bytes-none
-lowFirst-bytes (suc n) x = bytes-cons (omega arith) (lowFirst-bytes n (x / 256))
+pub low_first-bytes : (n x : ℕ) → Bytes (low_first n x)
+low_first-bytes zero x = bytes-none
+low_first-bytes (suc n) x = bytes-cons (omega arith) (low_first-bytes n (x / 256))
 
 -- Two bytes hold a number below 65,536, and are its bytes.
-pub pair-value : (x : ℕ) → x < 65536 → x % 256 + (x / 256) % 256 * 256 ≡ x
-pair-value x h = omega arith
+pub pair_value : (x : ℕ) → x < 65536 → x % 256 + (x / 256) % 256 * 256 ≡ x
+pair_value x h = omega arith
 
-pub pair-bytes : (a b : ℕ) → a < 256 → b < 256 → low_first 2 (a + b * 256) ≡ a ∷ b ∷ []
-pair-bytes a b h k =
+pub pair_bytes : (a b : ℕ) → a < 256 → b < 256 → low_first 2 (a + b * 256) ≡ a ∷ b ∷ []
+pair_bytes a b h k =
     let low : (a + b * 256) % 256 ≡ a = add-mul-mod_self_right a b 256 ∙ mod-eq_of_lt h in
     let whole : (a + b * 256) / 256 * 256 + (a + b * 256) % 256 ≡ a + b * 256 = div-add-mod' (a + b * 256) 256 in
     let quotient : (a + b * 256) / 256 ≡ b = omega arith in

@@ -4,18 +4,18 @@ use mathlib.Core.Bool.{Bool, true, false, true≢false}
 use mathlib.Core.List.{List, [], ◌∷◌, ◌++◌}
 use Prim.Native.Nat.{ℕ, zero, suc}
 use lib.ListN.{take}
-use Rattle.columns.specs.Bytes.{sameBytes}
+use Rattle.columns.specs.Bytes.{same_bytes}
 use Rattle.columns.proofs.Laws.Bytes.{same_of, same-to}
 
-pub same-of-unequal : (l m : List ℕ) → (l ≡ m → ⊥) → sameBytes l m ≡ false
-same-of-unequal l m h = step (sameBytes l m) refl
+pub same-of_unequal : (l m : List ℕ) → (l ≡ m → ⊥) → same_bytes l m ≡ false
+same-of_unequal l m h = step (same_bytes l m) refl
   where
-    step : (t : Bool) → sameBytes l m ≡ t → t ≡ false
+    step : (t : Bool) → same_bytes l m ≡ t → t ≡ false
     step true e = absurd (h (same_of l m e))
     step false e = refl
 
-pub unequal-of-same : (l m : List ℕ) → sameBytes l m ≡ false → l ≡ m → ⊥
-unequal-of-same l m e d = true≢false (sym (same-to l m d) ∙ e)
+pub unequal_of-same : (l m : List ℕ) → same_bytes l m ≡ false → l ≡ m → ⊥
+unequal_of-same l m e d = true≢false (sym (same-to l m d) ∙ e)
 
 -- A fact of each member.
 abbrev pub Each : (ℕ → Type 0) → List ℕ → Type 0

@@ -14,11 +14,11 @@ pub record Copying (buffer : List ℕ) (at : ℕ) (bytes : List ℕ) (from : ℕ
   pub fits : at + (length bytes - from) ≤ length buffer
 
 module _ {buffer : List ℕ} {at : ℕ} {bytes : List ℕ} {from : ℕ} {out : List ℕ} {i : ℕ} (c : Copying buffer at bytes from out i) where
-  pub copying-length : length out ≡ length buffer
-  copying-length = ap length c.is ∙ length-paste buffer at (drop from bytes) i (omega (arith, c.upto, c.fits)) (simp length-drop c.upto)
+  pub copying_length : length out ≡ length buffer
+  copying_length = ap length c.is ∙ length-paste buffer at (drop from bytes) i (omega (arith, c.upto, c.fits)) (simp length-drop c.upto)
 
-  pub copying-more : i < length bytes - from → Copying buffer at bytes from (set out (at + i) (get_or bytes (from + i) 0)) (i + 1)
-  copying-more h = record {
+  pub copying_more : i < length bytes - from → Copying buffer at bytes from (set out (at + i) (get_or bytes (from + i) 0)) (i + 1)
+  copying_more h = record {
     is =
         ap (λ l. set l (at + i) (get_or bytes (from + i) 0)) c.is
         ∙ ap (λ v. set (paste buffer at (drop from bytes) i) (at + i) v) (sym (get_or-drop from bytes i 0))
@@ -37,5 +37,5 @@ module _ {buffer : List ℕ} {at : ℕ} {bytes : List ℕ} {from : ℕ} {out : L
       ∙ append_assoc (take at buffer) l (drop (at + i) buffer)
       ∙ ap (λ m. take at buffer ++ (l ++ drop (at + m) buffer)) (sym wide)
 
-pub copying-none : (buffer : List ℕ) (at : ℕ) (bytes : List ℕ) (from : ℕ) → at + (length bytes - from) ≤ length buffer → Copying buffer at bytes from buffer 0
-copying-none buffer at bytes from h = record { is = paste-zero buffer at (drop from bytes); upto = omega arith; fits = h }
+pub copying_none : (buffer : List ℕ) (at : ℕ) (bytes : List ℕ) (from : ℕ) → at + (length bytes - from) ≤ length buffer → Copying buffer at bytes from buffer 0
+copying_none buffer at bytes from h = record { is = paste-zero buffer at (drop from bytes); upto = omega arith; fits = h }

@@ -10,29 +10,29 @@ use lib.Dec.{ltb}
 use lib.ListN.{length, replicate, take, drop, set, length-append, length-replicate, length-drop, length-set, take-append-drop}
 use lib.Seq.{drop-cons, set_split, take-set-le, drop_at, length-take-le}
 use borrow.Author.Tests.{ltb-true, ltb-false, lt-ltb, le-ltb}
-use Rattle.columns.specs.Columns.{digitsWithin, decimal, column}
+use Rattle.columns.specs.Columns.{digits_within, decimal, column}
 
 -- More room than digits makes no difference.
-digits-enough : (k m n : ℕ) → n < k → n < m → digitsWithin k n ≡ digitsWithin m n
-unfolding digitsWithin
-digits-enough zero m n h g = absurd (omega arith)
-digits-enough (suc k) zero n h g = absurd (omega arith)
-digits-enough (suc k) (suc m) n h g = step (ltb n 10) refl (digits-enough k m (n / 10))
+digits_enough : (k m n : ℕ) → n < k → n < m → digits_within k n ≡ digits_within m n
+unfolding digits_within
+digits_enough zero m n h g = absurd (omega arith)
+digits_enough (suc k) zero n h g = absurd (omega arith)
+digits_enough (suc k) (suc m) n h g = step (ltb n 10) refl (digits_enough k m (n / 10))
   where
-    step : (b : Bool) → ltb n 10 ≡ b → (n / 10 < k → n / 10 < m → digitsWithin k (n / 10) ≡ digitsWithin m (n / 10))
-        → cond b ((48 + n) ∷ []) (digitsWithin k (n / 10) ++ ((48 + n % 10) ∷ [])) ≡ cond b ((48 + n) ∷ []) (digitsWithin m (n / 10) ++ ((48 + n % 10) ∷ []))
+    step : (b : Bool) → ltb n 10 ≡ b → (n / 10 < k → n / 10 < m → digits_within k (n / 10) ≡ digits_within m (n / 10))
+        → cond b ((48 + n) ∷ []) (digits_within k (n / 10) ++ ((48 + n % 10) ∷ [])) ≡ cond b ((48 + n) ∷ []) (digits_within m (n / 10) ++ ((48 + n % 10) ∷ []))
     step true e f = refl
     step false e f = let big = ltb-false n 10 e in ap (λ l. l ++ ((48 + n % 10) ∷ [])) (f (omega arith) (omega arith))
 
 pub decimal-small : (n : ℕ) → n < 10 → decimal n ≡ (48 + n) ∷ []
-unfolding digitsWithin
-decimal-small n h = ap (λ b. cond b ((48 + n) ∷ []) (digitsWithin n (n / 10) ++ ((48 + n % 10) ∷ []))) (lt-ltb n 10 h)
+unfolding digits_within
+decimal-small n h = ap (λ b. cond b ((48 + n) ∷ []) (digits_within n (n / 10) ++ ((48 + n % 10) ∷ []))) (lt-ltb n 10 h)
 
 pub decimal-more : (n : ℕ) → 10 ≤ n → decimal n ≡ decimal (n / 10) ++ ((48 + n % 10) ∷ [])
-unfolding digitsWithin
+unfolding digits_within
 decimal-more n h =
-    ap (λ b. cond b ((48 + n) ∷ []) (digitsWithin n (n / 10) ++ ((48 + n % 10) ∷ []))) (le-ltb n 10 h)
-    ∙ ap (λ l. l ++ ((48 + n % 10) ∷ [])) (digits-enough n (suc (n / 10)) (n / 10) (omega arith) (omega arith))
+    ap (λ b. cond b ((48 + n) ∷ []) (digits_within n (n / 10) ++ ((48 + n % 10) ∷ []))) (le-ltb n 10 h)
+    ∙ ap (λ l. l ++ ((48 + n % 10) ∷ [])) (digits_enough n (suc (n / 10)) (n / 10) (omega arith) (omega arith))
 
 -- The digits that are still to be written: none where nothing is left.
 abbrev pub ahead : ℕ → List ℕ
@@ -53,9 +53,9 @@ ahead_step (suc r) h = step (n / 10) refl
         decimal-small n small ∙ rw (e, d) refl
     step (suc q) e = decimal-more n (omega arith) ∙ rw e refl
 
-pub decimal-ahead : (n : ℕ) → decimal n ≡ ahead (n / 10) ++ ((48 + n % 10) ∷ [])
-decimal-ahead zero = decimal-small zero (omega arith)
-decimal-ahead (suc r) = ahead_step (suc r) (omega arith)
+pub decimal_ahead : (n : ℕ) → decimal n ≡ ahead (n / 10) ++ ((48 + n % 10) ∷ [])
+decimal_ahead zero = decimal-small zero (omega arith)
+decimal_ahead (suc r) = ahead_step (suc r) (omega arith)
 
 -- Where the writing stands: blanks, then the digits so far; `rest` is what is left of n.
 pub record Written (n : ℕ) (bytes : List ℕ) (from rest : ℕ) : Type 0 where
@@ -102,7 +102,7 @@ written-first n h = record {
   size = refl;
   within = omega arith;
   blanks = refl;
-  digits = sym (decimal-ahead n);
+  digits = sym (decimal_ahead n);
   room = omega arith;
 }
 

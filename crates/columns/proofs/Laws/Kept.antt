@@ -13,50 +13,50 @@ use Rattle.columns.specs.Columns.{column}
 use Rattle.columns.specs.inner.Kept.{ColumnsKept}
 use Rattle.columns.specs.inner.Write.{pasted}
 use Rattle.columns.proofs.Laws.Columns.{column-length}
-use Rattle.columns.proofs.Laws.Pasting.{Pasting, pasting-more, pasting-length}
+use Rattle.columns.proofs.Laws.Pasting.{Pasting, pasting_more, pasting_length}
 
 -- The columns of the numbers below k.
-abbrev pub columnsBelow : ℕ → List ℕ
-columnsBelow zero = []
-columnsBelow (suc k) = columnsBelow k ++ column k
+abbrev pub columns_below : ℕ → List ℕ
+columns_below zero = []
+columns_below (suc k) = columns_below k ++ column k
 
-below_length : (k : ℕ) → k ≤ 10000 → length (columnsBelow k) ≡ k * 6
+below_length : (k : ℕ) → k ≤ 10000 → length (columns_below k) ≡ k * 6
 below_length zero h = omega arith
-below_length (suc k) h = length-append (columnsBelow k) (column k) ∙ omega (arith, below_length k (omega arith), column-length k (omega arith))
+below_length (suc k) h = length-append (columns_below k) (column k) ∙ omega (arith, below_length k (omega arith), column-length k (omega arith))
 
-below-there : (k n : ℕ) (rest : List ℕ) → k ≤ 10000 → n < k → take 6 (drop (n * 6) (columnsBelow k ++ rest)) ≡ column n
+below-there : (k n : ℕ) (rest : List ℕ) → k ≤ 10000 → n < k → take 6 (drop (n * 6) (columns_below k ++ rest)) ≡ column n
 below-there zero n rest l h = absurd (omega arith)
 below-there (suc k) n rest l h =
-    ap (λ m. take 6 (drop (n * 6) m)) (append_assoc (columnsBelow k) (column k) rest) ∙ case (ltb n k) refl (below-there k n (column k ++ rest) (omega arith))
+    ap (λ m. take 6 (drop (n * 6) m)) (append_assoc (columns_below k) (column k) rest) ∙ case (ltb n k) refl (below-there k n (column k ++ rest) (omega arith))
   where
-    case : (b : Bool) → ltb n k ≡ b → (n < k → take 6 (drop (n * 6) (columnsBelow k ++ (column k ++ rest))) ≡ column n)
-        → take 6 (drop (n * 6) (columnsBelow k ++ (column k ++ rest))) ≡ column n
+    case : (b : Bool) → ltb n k ≡ b → (n < k → take 6 (drop (n * 6) (columns_below k ++ (column k ++ rest))) ≡ column n)
+        → take 6 (drop (n * 6) (columns_below k ++ (column k ++ rest))) ≡ column n
     case true e f = f (ltb-true n k e)
     case false e f =
         let same : k ≡ n = omega (arith, ltb-false n k e) in
-        let place : length (columnsBelow k) ≡ n * 6 = omega (arith, below_length k (omega arith)) in
-        ap (take 6) (drop_at (columnsBelow k) (column k ++ rest) (n * 6) place) ∙ take_at (column k) rest 6 (column-length k (omega arith)) ∙ ap column same
+        let place : length (columns_below k) ≡ n * 6 = omega (arith, below_length k (omega arith)) in
+        ap (take 6) (drop_at (columns_below k) (column k ++ rest) (n * 6) place) ∙ take_at (column k) rest 6 (column-length k (omega arith)) ∙ ap column same
 
 -- The first k are kept.
 abbrev pub KeptBelow : List ℕ → ℕ → List ℕ → Type 0
-KeptBelow e k x = Pasting e 0 (columnsBelow k) x (k * 6)
+KeptBelow e k x = Pasting e 0 (columns_below k) x (k * 6)
 
 pub kept_more : (e : List ℕ) (k : ℕ) (x y : List ℕ) → KeptBelow e k x → k < 10000 → y ≡ pasted x (k * 6) (column k) → k * 6 + 6 ≤ length e → KeptBelow e (k + 1) y
 kept_more e k x y p few is room =
     let next : (k + 1) * 6 ≡ k * 6 + length (column k) = omega (arith, column-length k (omega arith)) in
-    let q = pasting-more p (column k) y ((k + 1) * 6) is next (omega arith) in
-    record { is = q.is ∙ ap (λ j. pasted e 0 (columnsBelow j)) (sym (add-one k)); ends = q.ends ∙ ap (λ j. 0 + length (columnsBelow j)) (sym (add-one k)); fits = q.fits }
+    let q = pasting_more p (column k) y ((k + 1) * 6) is next (omega arith) in
+    record { is = q.is ∙ ap (λ j. pasted e 0 (columns_below j)) (sym (add-one k)); ends = q.ends ∙ ap (λ j. 0 + length (columns_below j)) (sym (add-one k)); fits = q.fits }
 
 pub kept-all : (e : List ℕ) (k : ℕ) (x : List ℕ) → KeptBelow e k x → k ≤ 10000 → ColumnsKept k x
 kept-all e k x p few n h = record {
-  there = omega (arith, p.fits, pasting-length p);
-  is = ap (λ m. take 6 (drop (n * 6) m)) p.is ∙ below-there k n (drop (0 + length (columnsBelow k)) e) few h;
+  there = omega (arith, p.fits, pasting_length p);
+  is = ap (λ m. take 6 (drop (n * 6) m)) p.is ∙ below-there k n (drop (0 + length (columns_below k)) e) few h;
 }
 
 -- Six bytes of a list.
-pub six-bytes : (l : List ℕ) (i : ℕ) → i + 6 ≤ length l
+pub six_bytes : (l : List ℕ) (i : ℕ) → i + 6 ≤ length l
     → take 6 (drop i l) ≡ get_or l i 0 ∷ get_or l (i + 1) 0 ∷ get_or l (i + 2) 0 ∷ get_or l (i + 3) 0 ∷ get_or l (i + 4) 0 ∷ get_or l (i + 5) 0 ∷ []
-six-bytes l i h =
+six_bytes l i h =
     let second : i + 1 ≡ suc i = omega arith in
     let third : i + 2 ≡ suc (suc i) = omega arith in
     let fourth : i + 3 ≡ suc (suc (suc i)) = omega arith in

@@ -37,8 +37,8 @@ pasted-then at i l j e x y p z h q =
     ∙ ap (λ r. take at e ++ r) (sym (append_assoc l j (drop (at + length (l ++ j)) e)))))
 
 -- A longer part in the place of another.
-pub pasted-over : (at : ℕ) (l j e x : List ℕ) → x ≡ pasted e at l → length l ≤ length j → at + length j ≤ length e → pasted x at j ≡ pasted e at j
-pasted-over at l j e x p h w =
+pub pasted_over : (at : ℕ) (l j e x : List ℕ) → x ≡ pasted e at l → length l ≤ length j → at + length j ≤ length e → pasted x at j ≡ pasted e at j
+pasted_over at l j e x p h w =
     let u = take at e ++ l in
     let d = drop (at + length l) e in
     let a = length-take-le at e (omega arith) in

@@ -18,9 +18,9 @@ small-column n h =
     let four : n / 10 / 10 ≡ n / 100 = omega arith in
     column-leads n (omega arith) ∙ (λ i. lead (one i) ∷ lead (two i) ∷ lead (three i) ∷ lead (four i) ∷ lead (n / 10) ∷ (48 + n % 10) ∷ [])
 
-pub six-set : (l : List ℕ) (at : ℕ) → at + 6 ≤ length l → (a b c d e f : ℕ)
+pub six_set : (l : List ℕ) (at : ℕ) → at + 6 ≤ length l → (a b c d e f : ℕ)
     → set (set (set (set (set (set l at a) (at + 1) b) (at + 2) c) (at + 3) d) (at + 4) e) (at + 5) f ≡ pasted l at (a ∷ b ∷ c ∷ d ∷ e ∷ f ∷ [])
-six-set l at h a b c d e f =
+six_set l at h a b c d e f =
     let second : at + 1 ≡ suc at = omega arith in
     let third : at + 2 ≡ suc (suc at) = omega arith in
     let fourth : at + 3 ≡ suc (suc (suc at)) = omega arith in

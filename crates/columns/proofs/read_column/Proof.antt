@@ -1,9 +1,9 @@
--- `read_column` answers `columnAt`.
+-- `read_column` answers `column_at`.
 use borrow.Author.Rules.{rules}
 use mathlib.Core.Path.{sym, ◌∙◌}
 use mathlib.Core.Bool.{true, false}
 use native.Mathlib.Omega.{arith}
-use Rattle.columns.proofs.Laws.ColumnsRead.{column-outside, column-too-large, column-of-same}
+use Rattle.columns.proofs.Laws.ColumnsRead.{column-outside, column_too_large, column-of-same}
 use Rattle.columns.proofs.read_column.Statement.{statement}
 use Rattle.columns.proofs.read_column.Tie as tie
 
@@ -22,7 +22,7 @@ entry c = c.before.before.before.before.before.before
 
 returns-4 : tie.Need-returns-4
 returns-4 c = let a = (entry c.before).args in
-    column-too-large a.text.now a.at (omega (arith, sym c.before.value-at.ensures))
+    column_too_large a.text.now a.at (omega (arith, sym c.before.value-at.ensures))
 
 returns-5 : tie.Need-returns-5
 returns-5 c = let valued = c.before.before.before in

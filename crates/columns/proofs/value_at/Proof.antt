@@ -2,7 +2,7 @@
 use Prim.Native.Nat.{◌-◌}
 use native.Mathlib.Omega.{arith}
 use borrow.Author.Rules.{rules}
-use Rattle.columns.proofs.Laws.Scan.{Valued, value-starts, value-fits, value-goes-on, value-ends}
+use Rattle.columns.proofs.Laws.Scan.{Valued, value-starts, value-fits, value_goes_on, value-ends}
 use Rattle.columns.proofs.value_at.Statement.{statement}
 use Rattle.columns.proofs.value_at.Tie as tie
 
@@ -37,7 +37,7 @@ loop-again : tie.Need-loop-preserved invariant-loop decreases-loop
 loop-again c =
     let turn = c.before.before.before in
     let read = c.digit in
-    value-goes-on turn.loop.invariant turn.before.before.requires c.before.before.loop-test.true read.result read.ensures.0 read.ensures.1
+    value_goes_on turn.loop.invariant turn.before.before.requires c.before.before.loop-test.true read.result read.ensures.0 read.ensures.1
 
 returns : tie.Need-returns invariant-loop decreases-loop
 returns c = value-ends c.before.loop.invariant c.before.before.before.requires c.loop-test.false

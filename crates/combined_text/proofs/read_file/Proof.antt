@@ -9,7 +9,7 @@ returns c =
     let read = c.before.before.before in
     let start = read.before.before.before.before in
     let a = start.args in
-    let told = read.read_table in
+    let told = read.read_table_lem in
     record {
       refused = λ h. table-refused a.file.now a.table.now start.requires told.result told.ensures.0 c.table-answer.ensures h;
       taken = λ z. let x = table-read a.file.now a.table.now told.result told.new.1.0 told.ensures.0 told.ensures.1 c.table-answer.ensures z start.requires in

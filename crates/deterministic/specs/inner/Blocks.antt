@@ -4,7 +4,7 @@ use Rattle.std.specs.Prelude.{Bool, cond, List, ◌∷◌, map, ℕ, zero, suc, 
 use Rattle.lts.specs.inner.Lists.{up_from}
 use Rattle.deterministic.specs.Automata.{Automaton}
 use Rattle.deterministic.specs.inner.Lists.{same_lists}
-use Rattle.deterministic.specs.inner.Search.{System, number_of, found, automatonOf}
+use Rattle.deterministic.specs.inner.Search.{System, number_of, found, automaton_of}
 
 pub record Table : Type 0 where
   pub size : ℕ
@@ -46,4 +46,4 @@ module _ (t : Table) where
 unfoldable pub numbered : Table → List ℕ → Automaton
 numbered t c =
     let m = merged t c in
-    automatonOf m t.final (found m t.size)
+    automaton_of m t.final (found m t.size)

@@ -4,14 +4,14 @@ use Rattle.std.specs.Prelude.{Bool, List}
 use Rattle.lts.specs.Steps.{Table}
 use Rattle.lts.specs.inner.Steps.{alphabet}
 use Rattle.automaton.specs.Listing.{Listing}
-use Rattle.deterministic.specs.Sizes.{mostSets}
+use Rattle.deterministic.specs.Sizes.{most_sets}
 use Rattle.deterministic.specs.Automata.{Automaton}
-use Rattle.deterministic.specs.Listings.{automatonIn}
+use Rattle.deterministic.specs.Listings.{automaton_in}
 use Rattle.deterministic.specs.inner.Subsets.{sets, smallest}
 
 -- The sets of rows that words lead to, as flags: all of them if they are at most 256, and else more than 256.
-abbrev pub setsOf : Table → Listing → List (List Bool)
-setsOf t L = sets (automatonIn L) (alphabet t) mostSets
+abbrev pub sets_of : Table → Listing → List (List Bool)
+sets_of t L = sets (automaton_in L) (alphabet t) most_sets
 
-abbrev pub smallestOf : Table → Listing → Automaton
-smallestOf t L = smallest (automatonIn L) (alphabet t) mostSets
+abbrev pub smallest_of : Table → Listing → Automaton
+smallest_of t L = smallest (automaton_in L) (alphabet t) most_sets

@@ -5,11 +5,11 @@ use mathlib.Core.List.{List}
 use Prim.Native.Nat.{ℕ, min}
 use native.Mathlib.Omega.{arith}
 use lib.ListN.{take, replicate}
-use Rattle.explanations.specs.inner.Sizes.{rowsLength, edgesLength}
-use Rattle.explanations.specs.inner.Sizes.{keptLength}
-use Rattle.explanations.specs.Printed.{printed, lentExplanation}
-use Rattle.explanations.specs.inner.Printed.{withLength, TextWritten}
-use Rattle.files.specs.inner.Files.{filesText}
+use Rattle.explanations.specs.inner.Sizes.{rows_length, edges_length}
+use Rattle.explanations.specs.inner.Sizes.{kept_length}
+use Rattle.explanations.specs.Printed.{printed, lent_explanation}
+use Rattle.explanations.specs.inner.Printed.{with_length, TextWritten}
+use Rattle.files.specs.inner.Files.{files_text}
 use Rattle.explained_text.proofs.Replied.{few-counts, reply-text}
 use Rattle.explained_text.proofs.explain_files.Statement.{statement}
 use Rattle.explained_text.proofs.explain_files.Tie as tie
@@ -31,19 +31,19 @@ module _ (c : tie.After-explain-head) where
 write-reply-requires : tie.Need-write-reply-requires
 write-reply-requires c κs =
     let told = c.before.before.before.before.before in
-    few-counts (start told).args.tablefile.now (text told) (replicate rowsLength 0) (replicate edgesLength 0) told.explain-head.ensures (omega arith) (omega arith)
+    few-counts (start told).args.tablefile.now (text told) (replicate rows_length 0) (replicate edges_length 0) told.explain-head.ensures (omega arith) (omega arith)
 
 returns : tie.Need-returns
-unfolding filesText
+unfolding files_text
 returns c =
     let told = c.before.before.before.before.before.before in
     let a = (start told).args in
     let long = (counted told).text-length in
-    let is = reply-text a.tablefile.now (text told) (replicate rowsLength 0) (replicate edgesLength 0) told.explain-head.ensures long.result in
-    let first = (kept told).least.ensures ∙ ap (λ k. min k keptLength) long.ensures in
+    let is = reply-text a.tablefile.now (text told) (replicate rows_length 0) (replicate edges_length 0) told.explain-head.ensures long.result in
+    let first = (kept told).least.ensures ∙ ap (λ k. min k kept_length) long.ensures in
     let written = c.write-reply in (
       subst (λ (l : List ℕ). TextWritten l a.out.now written.new.1.1.1.1.0 written.result)
-          (is ∙ (λ i. printed (withLength (long.ensures i) (lentExplanation a.tablefile.now (take (first i) a.head.now))))) written.ensures.0,
+          (is ∙ (λ i. printed (with_length (long.ensures i) (lent_explanation a.tablefile.now (take (first i) a.head.now))))) written.ensures.0,
       written.ensures.1,
     )
 

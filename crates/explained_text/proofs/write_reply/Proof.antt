@@ -4,8 +4,8 @@ use Rattle.explained_text.proofs.write_reply.Statement.{statement}
 use Rattle.explained_text.proofs.write_reply.Tie as tie
 use mathlib.Core.Path.{sym, subst}
 use native.Mathlib.Omega.{arith}
-use Rattle.explaining.specs.Replies.{explainReply}
-use Rattle.files.specs.inner.Writing.{Few, replyText}
+use Rattle.explaining.specs.Replies.{explain_reply}
+use Rattle.files.specs.inner.Writing.{Few, reply_text}
 use Rattle.explanations.specs.inner.Printed.{TextWritten}
 use Rattle.explaining.specs.declared.ExplainReply.{ExplainReply}
 use Rattle.files.proofs.Counts.{written-counts}
@@ -13,7 +13,7 @@ use Rattle.files.proofs.Counts.{written-counts}
 write-listing-requires : tie.Need-write-listing-requires
 write-listing-requires c κs =
     let start = c.before.before.before.before.before.before in
-    let few = subst (λ (r : ExplainReply). Few (explainReply r)) c.before.before.before.before.reply.given.1 start.requires in
+    let few = subst (λ (r : ExplainReply). Few (explain_reply r)) c.before.before.before.before.reply.given.1 start.requires in
     ((omega (arith, few.0), omega (arith, few.1), omega (arith, few.0)), omega (arith, few.0, few.1))
 
 returns : tie.Need-returns
@@ -22,7 +22,7 @@ returns c =
     let call = c.write-listing in
     let known = c.before.before.before.before.before.reply.given in (
       subst (λ (r : ExplainReply).
-          TextWritten (replyText (explainReply r) a.length a.rows.now a.edges.now) a.out.now call.new.1.1.1.1.1.1.0 call.result)
+          TextWritten (reply_text (explain_reply r) a.length a.rows.now a.edges.now) a.out.now call.new.1.1.1.1.1.1.0 call.result)
           (sym known.1) call.ensures,
       written-counts call.ensures call.auto.1.1.1.1.1.1.0,
     )
@@ -33,7 +33,7 @@ returns-2 c =
     let call = c.write-refused in
     let known = c.before.before.before.reply2.given in (
       subst (λ (r : ExplainReply).
-          TextWritten (replyText (explainReply r) a.length a.rows.now a.edges.now) a.out.now call.new.1.1.1.0 call.result)
+          TextWritten (reply_text (explain_reply r) a.length a.rows.now a.edges.now) a.out.now call.new.1.1.1.0 call.result)
           (sym known.1) call.ensures,
       written-counts call.ensures call.auto.1.1.1.0,
     )

@@ -10,7 +10,7 @@ use mathlib.Core.List.{◌++◌}
 use Prim.Native.Nat.{◌-◌}
 use native.Mathlib.Omega.{arith}
 use lib.ListN.{length, take, drop, length-take, length-drop}
-use Rattle.files.proofs.Scanning.{kept-part, kept_whole}
+use Rattle.files.proofs.Scanning.{kept_part, kept_whole}
 
 slice-aggregate-copy : tie.Need-slice-aggregate-copy
 slice-aggregate-copy c = omega (arith, length-take c.before.least.result c.before.before.before.before.before.args.chunk.now)
@@ -27,7 +27,7 @@ returns c =
     let a = start.args in
     let n = c.before.before.before.before.before.least in
     ap (λ l. take a.at a.head.now ++ (l ++ drop (length a.head.now - a.at) (drop a.at a.head.now))) c.before.before.copy.ensures.1
-    ∙ kept-part a.head.now a.chunk.now a.at n.result start.requires c.before.before.before.before.before.before.if1.true n.ensures
+    ∙ kept_part a.head.now a.chunk.now a.at n.result start.requires c.before.before.before.before.before.before.if1.true n.ensures
 
 returns-2 : tie.Need-returns-2
 returns-2 c =

@@ -18,7 +18,7 @@ returns : tie.Need-returns
 returns c =
     let start = c.before.before.before.before in
     let a = start.args in
-    (scanned-none a.scanned a.chunk.now (omega (arith, start.well-formed)) c.if1.true, c.before.keep.ensures)
+    (scanned-none a.scanned a.chunk.now (omega (arith, start.well_formed)) c.if1.true, c.before.keep.ensures)
 
 add-requires : tie.Need-add-requires
 add-requires c κs = search rules

@@ -6,15 +6,15 @@ use mathlib.Core.List.{List}
 use Prim.Native.Nat.{ℕ}
 use lib.Dec.{eqb}
 use borrow.Author.Tests.{eq-eqb, ne_eqb}
-use Rattle.files.specs.inner.Writing.{refusedLine}
-use Rattle.explanations.specs.Printed.{refusalLine}
+use Rattle.files.specs.inner.Writing.{refused_line}
+use Rattle.explanations.specs.Printed.{refusal_line}
 use Rattle.explanations.specs.inner.Printed.{TextWritten}
 use Rattle.files.proofs.write_refused.Statement.{statement}
 use Rattle.files.proofs.write_refused.Tie as tie
 
-by_number : (k g n : ℕ) {b : Bool} {before out : List ℕ} {end : ℕ} → eqb k 5 ≡ b → TextWritten (refusalLine k (cond b n g)) before out end
-    → TextWritten (refusedLine n k g) before out end
-by_number k g n {before} {out} {end} d w = subst (λ (b : Bool). TextWritten (refusalLine k (cond b n g)) before out end) (sym d) w
+by_number : (k g n : ℕ) {b : Bool} {before out : List ℕ} {end : ℕ} → eqb k 5 ≡ b → TextWritten (refusal_line k (cond b n g)) before out end
+    → TextWritten (refused_line n k g) before out end
+by_number k g n {before} {out} {end} d w = subst (λ (b : Bool). TextWritten (refusal_line k (cond b n g)) before out end) (sym d) w
 
 returns : tie.Need-returns
 returns c =

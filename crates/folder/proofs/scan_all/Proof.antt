@@ -1,13 +1,13 @@
 -- `scan_all` ends, since the count that is left falls, and keeps what it has scanned.
 use native.Mathlib.Omega.{arith}
-use Rattle.files.specs.inner.Scan.{scanStart}
+use Rattle.files.specs.inner.Scan.{scan_start}
 use Rattle.folder.specs.inner.Scanning.{ScannedOn}
 use Rattle.folder.proofs.Scans.{on-start, on_then}
 use Rattle.folder.proofs.scan_all.Statement.{statement}
 use Rattle.folder.proofs.scan_all.Tie as tie
 
 abbrev invariant-loop : tie.invariant-loop
-invariant-loop fd head₀ left₀ scanned₀ head left scanned = ScannedOn head₀ scanStart head scanned
+invariant-loop fd head₀ left₀ scanned₀ head left scanned = ScannedOn head₀ scan_start head scanned
 
 abbrev decreases-loop : tie.decreases-loop
 decreases-loop fd head₀ left₀ scanned₀ head left scanned = left

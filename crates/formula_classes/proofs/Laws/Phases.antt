@@ -5,78 +5,78 @@ use Prim.Native.Nat.{ℕ, ◌+◌, ◌≤◌, ◌<◌}
 use native.Mathlib.Omega.{arith}
 use lib.ListN.{length, get_or, set}
 use lib.Seq.{length-sets}
-use Rattle.actl.specs.Formulas.{Formula, size, classOfOr}
-use Rattle.actl.specs.inner.Walk.{classFrom, classOfArm, classesOf, Spelled, Traversed}
-use Rattle.actl.proofs.Nodes.{size-pos}
+use Rattle.actl.specs.Formulas.{Formula, size, class_of_or}
+use Rattle.actl.specs.inner.Walk.{class_from, class_of_arm, classes_of, Spelled, Traversed}
+use Rattle.actl.proofs.Nodes.{size_pos}
 use Rattle.actl.proofs.Laws.Table.{arm_low}
 use Rattle.actl.proofs.Laws.Unique.{no-right, spelled-fits}
-use Rattle.actl.proofs.Laws.Walks.{traversed-noted, traversed-T, traversed-unary, traversed-or}
+use Rattle.actl.proofs.Laws.Walks.{traversed_noted, traversed_T, traversed_unary, traversed_or}
 use Rattle.formula_classes.specs.inner.WalkReplies.{Walks}
 use Rattle.formula_classes.specs.inner.Phases.{NodeNoted, HasArm, RightWalks}
 use Rattle.formula_classes.specs.declared.Walked.{Walked}
 use Rattle.formula_classes.specs.declared.Walked.TheVariants.{Broken, Node}
 
 -- The classes are noted in their places, so there are as many as before.
-traversed-kept : {K E E' C C' : List ℕ} {k end arm : ℕ} → Traversed K E E' C C' k end arm → length C' ≡ length C
-traversed-kept {C} {k} h = ap length h.classes-noted ∙ length-sets C k (classesOf h.formula)
+traversed_kept : {K E E' C C' : List ℕ} {k end arm : ℕ} → Traversed K E E' C C' k end arm → length C' ≡ length C
+traversed_kept {C} {k} h = ap length h.classes_noted ∙ length-sets C k (classes_of h.formula)
 
 pub walks-kept : (K E E' C C' : List ℕ) (k : ℕ) (r : Walked) → Walks K E E' C C' k r → length C' ≡ length C
-walks-kept K E E' C C' k Broken h = h.classes-kept
-walks-kept K E E' C C' k (Node end arm) h = traversed-kept h
+walks-kept K E E' C C' k Broken h = h.classes_kept
+walks-kept K E E' C C' k (Node end arm) h = traversed_kept h
 
 -- An arm that was walked ends within the nodes, behind the place where it begins, and its class is in the table.
 module _ {K E E' C C' : List ℕ} {k end arm : ℕ} (h : Traversed K E E' C C' k end arm) where
   pub walked_on : k < end
-  walked_on = omega (arith, h.behind, size-pos h.formula)
+  walked_on = omega (arith, h.behind, size_pos h.formula)
 
   pub walked-within : end ≤ length K
   walked-within = omega (arith, h.behind, spelled-fits K k h.formula h.spelled)
 
-  pub arm-in-table : arm < 4
-  arm-in-table = omega (arith, h.as-arm, arm_low h.formula)
+  pub arm_in_table : arm < 4
+  arm_in_table = omega (arith, h.as_arm_lem, arm_low h.formula)
 
 -- T, behind which there is no arm.
-pub walked-T : (K : List ℕ) {E E' C C' : List ℕ} {k class : ℕ} {r : Walked} → k < length K → get_or K k 0 ≡ 1 → class ≡ classFrom 1 0
+pub walked_T : (K : List ℕ) {E E' C C' : List ℕ} {k class : ℕ} {r : Walked} → k < length K → get_or K k 0 ≡ 1 → class ≡ class_from 1 0
     → NodeNoted E E' C C' k (k + 1) class 3 r → Walks K E E' C C' k r
-unfolding classFrom
-walked-T K {E} {E'} {C} {C'} {k} inside here e n =
-    let found = traversed-T K E C k inside here in
+unfolding class_from
+walked_T K {E} {E'} {C} {C'} {k} inside here e n =
+    let found = traversed_T K E C k inside here in
     let classed = subst (λ x. Traversed K E (set E k (k + 1)) C (set C k x) k (k + 1) 3) (sym e) found in
-    subst (Walks K E E' C C' k) (sym n.told) (traversed-noted n.ends_set n.classes-set classed)
+    subst (Walks K E E' C C' k) (sym n.told) (traversed_noted n.ends_set n.classes_set classed)
 
 module _ {K E E1 C C1 : List ℕ} {k kind middle left : ℕ} (node : HasArm K k kind) (arm : Traversed K E E1 C C1 (k + 1) middle left) where
   -- A node with one arm.
-  pub walked-unary : {E' C' : List ℕ} {class : ℕ} {r : Walked} → (kind ≡ 3 → ⊥) → class ≡ classFrom kind left
+  pub walked_unary : {E' C' : List ℕ} {class : ℕ} {r : Walked} → (kind ≡ 3 → ⊥) → class ≡ class_from kind left
       → NodeNoted E1 E' C1 C' k middle class class r → Walks K E E' C C' k r
-  walked-unary {E'} {C'} other e n =
-      let found = traversed-unary K E C k node.inside arm kind node.low node.high other node.here in
+  walked_unary {E'} {C'} other e n =
+      let found = traversed_unary K E C k node.inside arm kind node.low node.high other node.here in
       let classed = subst (λ x. Traversed K E (set E1 k middle) C (set C1 k x) k middle x) (sym e) found in
-      subst (Walks K E E' C C' k) (sym n.told) (traversed-noted n.ends_set n.classes-set classed)
+      subst (Walks K E E' C C' k) (sym n.told) (traversed_noted n.ends_set n.classes_set classed)
 
   -- `|`, by its right arm.
   pub walked-or : (E' C' : List ℕ) (r : Walked) → kind ≡ 3 → RightWalks K E1 E' C1 C' k middle left r → Walks K E E' C C' k r
   walked-or E' C' Broken three broken =
       let there : (g : Formula) → Spelled K (k + 1 + size arm.formula) g → ⊥ = λ g s.
-      broken.none-spelled g (subst (λ x. Spelled K x g) (sym arm.behind) s) in
+      broken.none_spelled g (subst (λ x. Spelled K x g) (sym arm.behind) s) in
       record {
-        classes-kept = broken.classes-kept ∙ traversed-kept arm;
-        none-spelled = no-right K k (node.here ∙ three) arm.formula arm.spelled there;
+        classes_kept = broken.classes_kept ∙ traversed_kept arm;
+        none_spelled = no-right K k (node.here ∙ three) arm.formula arm.spelled there;
       }
   walked-or E' C' (Node end class) three h =
-      let found = traversed-or K E C k node.inside arm (node.here ∙ three) h.walked in
-      let classed = subst (λ x. Traversed K E (set h.endsBehind k end) C (set h.classesBehind k x) k end x) (sym h.by_both) found in
-      traversed-noted h.noted.ends_set h.noted.classes-set classed
+      let found = traversed_or K E C k node.inside arm (node.here ∙ three) h.walked in
+      let classed = subst (λ x. Traversed K E (set h.ends_behind k end) C (set h.classes_behind k x) k end x) (sym h.by_both) found in
+      traversed_noted h.noted.ends_set h.noted.classes_set classed
 
 -- The right arm, and `|` noted behind it.
 pub right-walked : {K E E2 E' C C2 C' : List ℕ} {k middle end right class : ℕ} {r : Walked} (left : ℕ) → Traversed K E E2 C C2 middle end right
-    → class ≡ classOfOr (classOfArm left) (classOfArm right) → NodeNoted E2 E' C2 C' k end class class r
+    → class ≡ class_of_or (class_of_arm left) (class_of_arm right) → NodeNoted E2 E' C2 C' k end class class r
     → RightWalks K E E' C C' k middle left r
 right-walked {K} {E} {E2} {E'} {C} {C2} {C'} {k} {middle} {end} {right} {class} left h e n =
     subst (RightWalks K E E' C C' k middle left) (sym n.told) (record {
-      endsBehind = E2;
-      classesBehind = C2;
+      ends_behind = E2;
+      classes_behind = C2;
       right = right;
       walked = h;
-      noted = record { ends_set = n.ends_set; classes-set = n.classes-set; told = refl };
+      noted = record { ends_set = n.ends_set; classes_set = n.classes_set; told = refl };
       by_both = e;
     })

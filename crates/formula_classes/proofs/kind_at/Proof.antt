@@ -1,7 +1,7 @@
 -- `kind_at` meets its contract: past the end and above 9 there is no kind.
 use mathlib.Core.Path.{sym}
 use native.Mathlib.Omega.{arith}
-use Rattle.actl.proofs.Laws.Walks.{kind-outside, kind-foreign, kind-known}
+use Rattle.actl.proofs.Laws.Walks.{kind-outside, kind_foreign, kind-known}
 use borrow.Author.Rules.{rules}
 use Rattle.formula_classes.proofs.kind_at.Statement.{statement}
 use Rattle.formula_classes.proofs.kind_at.Tie as tie
@@ -10,7 +10,7 @@ returns : tie.Need-returns
 returns c = sym (kind-outside c.before.args.kinds.now c.before.args.k (omega (arith, c.before.requires, c.if1.true)))
 
 returns-2 : tie.Need-returns-2
-returns-2 c = sym (kind-foreign c.before.before.before.args.kinds.now c.before.before.before.args.k c.if2.true)
+returns-2 c = sym (kind_foreign c.before.before.before.args.kinds.now c.before.before.before.args.k c.if2.true)
 
 returns-3 : tie.Need-returns-3
 returns-3 c = sym (kind-known c.before.before.before.args.kinds.now c.before.before.before.args.k c.if2.false)

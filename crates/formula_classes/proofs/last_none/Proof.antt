@@ -7,7 +7,7 @@ use Prim.Native.Nat.{◌+◌, ◌-◌, ◌≤◌}
 use native.Mathlib.Omega.{arith}
 use lib.ListN.{length}
 use borrow.Author.Tests.{eq-eqb, ne_eqb}
-use Rattle.actl.proofs.Laws.Classed.{Remains, remains-all, remains-none, remains-some, remains-end}
+use Rattle.actl.proofs.Laws.Classed.{Remains, remains_all, remains_none, remains_some, remains_end}
 use Rattle.formula_classes.proofs.last_none.Statement.{statement}
 use Rattle.formula_classes.proofs.last_none.Tie as tie
 
@@ -18,7 +18,7 @@ abbrev decreases-loop : tie.decreases-loop
 decreases-loop classes found₀ k₀ found k = length classes - k
 
 loop-holds : tie.Need-loop-init invariant-loop decreases-loop
-loop-holds c = (omega arith, remains-all c.args.classes.now)
+loop-holds c = (omega arith, remains_all c.args.classes.now)
 
 loop-again : tie.Need-loop-preserved invariant-loop decreases-loop
 loop-again c =
@@ -29,8 +29,8 @@ loop-again c =
     let inv = c.before.before.before.loop.invariant.1 in (
       omega arith,
       ⊎_elim
-          (λ w. subst (λ x. Remains classes x (k + 1)) (sym w.1) (remains-none classes found k h w.0.taken inv))
-          (λ w. subst (λ x. Remains classes x (k + 1)) (sym w.1) (remains-some classes found k h w.0.left inv))
+          (λ w. subst (λ x. Remains classes x (k + 1)) (sym w.1) (remains_none classes found k h w.0.taken inv))
+          (λ w. subst (λ x. Remains classes x (k + 1)) (sym w.1) (remains_some classes found k h w.0.left inv))
           c.if1.branch,
     )
 
@@ -38,14 +38,14 @@ returns : tie.Need-returns invariant-loop decreases-loop
 returns c =
     let classes = c.before.before.before.args.classes.now in
     let left = c.before.before.loop in
-    let last = remains-end classes left.found left.k c.before.loop-test.false left.invariant.1 in
+    let last = remains_end classes left.found left.k c.before.loop-test.false left.invariant.1 in
     sym (ap (λ t. cond t none (some left.found)) (eq-eqb left.found (length classes) c.if2.true)) ∙ last
 
 returns-2 : tie.Need-returns-2 invariant-loop decreases-loop
 returns-2 c =
     let classes = c.before.before.before.args.classes.now in
     let left = c.before.before.loop in
-    let last = remains-end classes left.found left.k c.before.loop-test.false left.invariant.1 in
+    let last = remains_end classes left.found left.k c.before.loop-test.false left.invariant.1 in
     sym (ap (λ t. cond t none (some left.found)) (ne_eqb left.found (length classes) c.if2.false)) ∙ last
 
 pub last-none-spec : {M : Type 1} → statement M

@@ -3,10 +3,10 @@ use mathlib.Core.Path.{subst}
 use mathlib.Core.List.{List}
 use Prim.Native.Nat.{ℕ}
 use lib.ListN.{replicate}
-use Rattle.lts.proofs.Laws.Decides.{decided-no}
-use Rattle.actl.specs.inner.Walk.{kindsIn, Traversed}
+use Rattle.lts.proofs.Laws.Decides.{decided_no}
+use Rattle.actl.specs.inner.Walk.{kinds_in, Traversed}
 use Rattle.formula_classes.specs.inner.WalkReplies.{Walks}
-use Rattle.formula_classes.proofs.Laws.Walked.{not-spelled, not-ending, spelled-decided}
+use Rattle.formula_classes.proofs.Laws.Walked.{not-spelled, not-ending, spelled_decided}
 use borrow.Author.Rules.{rules}
 use Rattle.formula_classes.proofs.spelled.Statement.{statement}
 use Rattle.formula_classes.proofs.spelled.Tie as tie
@@ -20,10 +20,10 @@ returns c =
     let w = walked.walk-nodes in
     let a = walked.before.before.before.before.args in
     let broken = subst
-    (Walks (kindsIn a.formula.now a.count) (replicate 40 0) w.new.1.1.0 (replicate 40 0) w.new.1.1.1.0 0)
+    (Walks (kinds_in a.formula.now a.count) (replicate 40 0) w.new.1.1.0 (replicate 40 0) w.new.1.1.1.0 0)
     c.enum_told.given.1
     w.ensures in
-    decided-no (not-spelled a.formula.now a.count broken.none-spelled)
+    decided_no (not-spelled a.formula.now a.count broken.none_spelled)
 
 -- The walk found a formula.
 abbrev Found : Type 0
@@ -37,7 +37,7 @@ module _ (c : Found) where
   entry = walked.before.before.before.before
 
   abbrev kinds : List ℕ
-  kinds = kindsIn entry.args.formula.now entry.args.count
+  kinds = kinds_in entry.args.formula.now entry.args.count
 
   found : Traversed kinds (replicate 40 0) walked.walk-nodes.last.1.1.0 (replicate 40 0) walked.walk-nodes.last.1.1.1.0 0
       c.end.given.0.0 c.end.given.0.1.0
@@ -50,13 +50,13 @@ returns-2 : tie.Need-returns-2
 returns-2 c =
     let f = c.before.before in
     let a = (entry f).args in
-    decided-no (not-ending a.formula.now a.count (found f) c.if1.true)
+    decided_no (not-ending a.formula.now a.count (found f) c.if1.true)
 
 returns-3 : tie.Need-returns-3
 returns-3 c =
     let f = c.before.before in
     let a = (entry f).args in
-    spelled-decided a.formula.now a.count (found f) c.if1.false
+    spelled_decided a.formula.now a.count (found f) c.if1.false
 
 pub spelled-spec : {M : Type 1} → statement M
 spelled-spec =

@@ -1,22 +1,22 @@
 -- What the phases of the walk hand each other: the kinds that it goes over, a node that is noted, a node with an arm, the right arm of `|`.
 use Rattle.std.specs.Prelude.{◌≡◌, List, ℕ, ◌≤◌, ◌<◌, length, get_or, set, take}
-use Rattle.actl.specs.Sizes.{mostNodes}
-use Rattle.actl.specs.Formulas.{classOfOr}
-use Rattle.actl.specs.inner.Walk.{classOfArm, kindsIn, Traversed}
+use Rattle.actl.specs.Sizes.{most_nodes}
+use Rattle.actl.specs.Formulas.{class_of_or}
+use Rattle.actl.specs.inner.Walk.{class_of_arm, kinds_in, Traversed}
 use Rattle.formula_classes.specs.inner.WalkReplies.{NoFormula}
 use Rattle.formula_classes.specs.declared.Walked.{Walked}
 use Rattle.formula_classes.specs.declared.Walked.TheVariants.{Broken, Node}
 
 -- The kinds of a formula's first nodes, in an array; behind them are zeros, which are no kinds.
 pub record KindsRead (formula : List ℕ) (count : ℕ) (kinds : List ℕ) : Type 0 where
-  pub first : take count kinds ≡ kindsIn formula count
+  pub first : take count kinds ≡ kinds_in formula count
   pub zeros : (k : ℕ) → count ≤ k → get_or kinds k 0 ≡ 0
-  pub few : length kinds ≤ mostNodes
+  pub few : length kinds ≤ most_nodes
 
 -- Node k noted: where its arms end, and its class; what it is as an arm is told.
 pub record NodeNoted (ends endsAfter classes classesAfter : List ℕ) (k end class arm : ℕ) (r : Walked) : Type 0 where
   pub ends_set : endsAfter ≡ set ends k end
-  pub classes-set : classesAfter ≡ set classes k class
+  pub classes_set : classesAfter ≡ set classes k class
   pub told : r ≡ Node end arm
 
 -- Node k is one of the kinds that have an arm.
@@ -28,12 +28,12 @@ pub record HasArm (kinds : List ℕ) (k kind : ℕ) : Type 0 where
 
 -- The right arm of node k, from `middle` on, and then node k noted, by both arms.
 pub record RightTraversed (kinds ends endsAfter classes classesAfter : List ℕ) (k middle left end class : ℕ) : Type 0 where
-  pub endsBehind : List ℕ
-  pub classesBehind : List ℕ
+  pub ends_behind : List ℕ
+  pub classes_behind : List ℕ
   pub right : ℕ
-  pub walked : Traversed kinds ends endsBehind classes classesBehind middle end right
-  pub noted : NodeNoted endsBehind endsAfter classesBehind classesAfter k end class class (Node end class)
-  pub by_both : class ≡ classOfOr (classOfArm left) (classOfArm right)
+  pub walked : Traversed kinds ends ends_behind classes classes_behind middle end right
+  pub noted : NodeNoted ends_behind endsAfter classes_behind classesAfter k end class class (Node end class)
+  pub by_both : class ≡ class_of_or (class_of_arm left) (class_of_arm right)
 
 abbrev pub RightWalks : List ℕ → List ℕ → List ℕ → List ℕ → List ℕ → ℕ → ℕ → ℕ → Walked → Type 0
 RightWalks kinds ends endsAfter classes classesAfter k middle left Broken = NoFormula kinds classes classesAfter middle

@@ -1,31 +1,31 @@
 -- What the walk over a formula's nodes answers.
 use Rattle.std.specs.Prelude.{◌≡◌, List, ℕ, ◌+◌, ◌<◌, length, get_or}
 use Rattle.std.proofs.Math.Option.{Option, none, some}
-use Rattle.actl.specs.Formulas.{Formula, tru, size, nodes, class_of, highestWithoutClass}
-use Rattle.actl.specs.inner.Prepared.{preparedFormula}
+use Rattle.actl.specs.Formulas.{Formula, tru, size, nodes, class_of, highest_without_class}
+use Rattle.actl.specs.inner.Prepared.{prepared_formula}
 use Rattle.formula_classes.specs.declared.Walked.{Walked}
 use Rattle.formula_classes.specs.declared.Walked.TheVariants.{Broken, Node}
 use Rattle.formula_classes.specs.declared.Classless.{Classless}
 use Rattle.formula_classes.specs.declared.Classless.TheVariants.{Nowhere, At}
 use Rattle.formula_classes.specs.declared.Shape.{Shape}
-use Rattle.actl.specs.inner.Walk.{kindsOf, Spelled, Traversed}
+use Rattle.actl.specs.inner.Walk.{kinds_of, Spelled, Traversed}
 
 -- No formula stands at node k; as many classes are left as there were.
 pub record NoFormula (kinds classes classesAfter : List ℕ) (k : ℕ) : Type 0 where
-  pub classes-kept : length classesAfter ≡ length classes
-  pub none-spelled : (f : Formula) → Spelled kinds k f → ⊥
+  pub classes_kept : length classesAfter ≡ length classes
+  pub none_spelled : (f : Formula) → Spelled kinds k f → ⊥
 
 abbrev pub Walks : List ℕ → List ℕ → List ℕ → List ℕ → List ℕ → ℕ → Walked → Type 0
 Walks kinds ends endsAfter classes classesAfter k Broken = NoFormula kinds classes classesAfter k
 Walks kinds ends endsAfter classes classesAfter k (Node end arm) = Traversed kinds ends endsAfter classes classesAfter k end arm
 
 -- 01: "a node without class": "the highest-numbered one"
-abbrev pub classlessNode : Classless → Option ℕ
-classlessNode Nowhere = none
-classlessNode (At k) = some k
+abbrev pub classless_node : Classless → Option ℕ
+classless_node Nowhere = none
+classless_node (At k) = some k
 
 abbrev pub IsHighest : Classless → List ℕ → Type 0
-IsHighest r kinds = (F : Formula) → kindsOf F ≡ kinds → classlessNode r ≡ highestWithoutClass F
+IsHighest r kinds = (F : Formula) → kinds_of F ≡ kinds → classless_node r ≡ highest_without_class F
 
 -- The ends and classes of a formula's nodes.
 pub record ShapeOf (s : Shape) (F : Formula) : Type 0 where
@@ -34,4 +34,4 @@ pub record ShapeOf (s : Shape) (F : Formula) : Type 0 where
   pub classes : (k : ℕ) → k < size F → get_or s.classes k 0 ≡ class_of (get_or (nodes F) k tru)
 
 abbrev pub IsShape : Shape → List ℕ → Type 0
-IsShape s b = (n : ℕ) (F : Formula) → preparedFormula n b ≡ some F → ShapeOf s F
+IsShape s b = (n : ℕ) (F : Formula) → prepared_formula n b ≡ some F → ShapeOf s F

@@ -1,6 +1,6 @@
 -- What the methods of a cursor answer of a text s.
 use Rattle.std.specs.Prelude.{◌≡◌, false, List, ℕ, ◌+◌, get_or}
-use Rattle.lts.specs.Names.{isLower}
+use Rattle.lts.specs.Names.{is_lower}
 use Rattle.formula_cursor.specs.declared.Match.{Match}
 use Rattle.formula_cursor.specs.declared.Match.TheVariants.{Past, Missing}
 use Rattle.actl.specs.inner.Cursor.{peek, Marked, Tokened, Keyword, Named}
@@ -19,4 +19,4 @@ KeywordAnswer s at w Missing = peek s at ≡ get_or w 0 0 → peek s (at + 1) �
 
 abbrev pub NameAnswer : List ℕ → ℕ → Match → Type 0
 NameAnswer s at (Past c) = Named s at c.at
-NameAnswer s at Missing = isLower (peek s at) ≡ false
+NameAnswer s at Missing = is_lower (peek s at) ≡ false

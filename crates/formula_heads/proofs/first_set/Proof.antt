@@ -2,11 +2,11 @@
 use borrow.Author.Rules.{rules}
 use mathlib.Core.Path.{subst}
 use Rattle.actl.specs.inner.Cursor.{Tokened}
-use Rattle.actl.specs.inner.Readers.{namesIn}
+use Rattle.actl.specs.inner.Readers.{names_in}
 use Rattle.formula_cursor.specs.inner.CursorReplies.{MarkAnswer, TokenAnswer}
 use Rattle.formula_sets.specs.inner.SetReplies.{EnclosedAnswer}
 use Rattle.formula_sets.proofs.ReadingSets.{token-behind}
-use Rattle.formula_heads.proofs.ReadingBrackets.{until-read, until_open, then-read, then-fails}
+use Rattle.formula_heads.proofs.ReadingBrackets.{until-read, until_open, then-read, then_fails}
 use Rattle.formula_heads.proofs.first_set.Statement.{statement}
 use Rattle.formula_heads.proofs.first_set.Tie as tie
 
@@ -18,7 +18,7 @@ returns c =
     let at = a.c.at in
     let no_second = subst (TokenAnswer s at 59) missed.enum_told.given.1 missed.before.before.token.ensures in
     let no_end = subst (MarkAnswer s at 93) c.enum-told2.given.1 c.before.before.mark.ensures in
-    λ i j from lost x. until_open (namesIn a.table.now) s at a.first a.lost i j from lost x no_second no_end
+    λ i j from lost x. until_open (names_in a.table.now) s at a.first a.lost i j from lost x no_second no_end
 
 returns-2 : tie.Need-returns-2
 returns-2 c =
@@ -26,7 +26,7 @@ returns-2 c =
     let a = mark.before.before.before.before.before.before.args in
     let s = a.text.now in
     let end = subst (MarkAnswer s a.c.at 93) c.before.e.given.1 mark.mark.ensures in
-    λ i j from lost x. until-read (namesIn a.table.now) s a.c.at a.first a.lost i j from lost x end
+    λ i j from lost x. until-read (names_in a.table.now) s a.c.at a.first a.lost i j from lost x end
 
 -- Behind the `;`.
 module _ (c : tie.After-d) where
@@ -45,15 +45,15 @@ returns-3 : tie.Need-returns-3
 returns-3 c =
     let d = c.before.before.before.before.before in
     let a = (start d).args in
-    let N = namesIn a.table.now in
+    let N = names_in a.table.now in
     let y = subst (EnclosedAnswer N _ _ 93 a.lost) c.before.x.given.1 c.before.before.before.enclosed.ensures in
-    λ i j from lost x. then-fails N a.text.now a.c.at a.first a.lost i j from lost x (semicolon d) y
+    λ i j from lost x. then_fails N a.text.now a.c.at a.first a.lost i j from lost x (semicolon d) y
 
 returns-4 : tie.Need-returns-4
 returns-4 c =
     let d = c.before.before.before.before.before in
     let a = (start d).args in
-    let N = namesIn a.table.now in
+    let N = names_in a.table.now in
     let y = subst (EnclosedAnswer N _ _ 93 a.lost) c.before.x2.given.1 c.before.before.before.enclosed.ensures in
     λ i j from lost x. then-read N a.text.now a.c.at a.first a.lost i j from lost x (semicolon d) y
 

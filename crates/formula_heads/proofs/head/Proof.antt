@@ -3,7 +3,7 @@ use borrow.Author.Rules.{rules}
 use mathlib.Core.Path.{subst}
 use mathlib.Core.List.{[], ◌∷◌}
 use native.Mathlib.Omega.{arith}
-use Rattle.actl.specs.inner.Readers.{namesIn}
+use Rattle.actl.specs.inner.Readers.{names_in}
 use Rattle.formula_cursor.specs.inner.CursorReplies.{KeywordAnswer}
 use Rattle.formula_heads.specs.inner.Brackets.{ChoiceAnswer}
 use Rattle.formula_heads.proofs.ReadingHeads.{head-next, head-until}
@@ -24,7 +24,7 @@ returns : tie.Need-returns
 returns c =
     let word = c.before.before in
     let a = word.before.before.before.before.before.before.before.args in
-    let N = namesIn a.table.now in
+    let N = names_in a.table.now in
     let s = a.text.now in
     let at = a.c.at in
     let k = subst (ChoiceAnswer s at (69 ∷ 88 ∷ []) (65 ∷ 88 ∷ [])) word.q.given.1 word.before.before.either.ensures in
@@ -46,7 +46,7 @@ returns-2 c =
     let word = c.before.before in
     let neither = word.before.before.before.before in
     let a = neither.before.before.before.before.before.before.before.args in
-    let N = namesIn a.table.now in
+    let N = names_in a.table.now in
     let s = a.text.now in
     let at = a.c.at in
     let k = subst (KeywordAnswer s at (69 ∷ 85 ∷ [])) word.d.given.1 word.before.before.keyword.ensures in
@@ -61,7 +61,7 @@ short-form-requires c κs =
     let at = a.c.at in
     let n = subst (ChoiceAnswer s at (69 ∷ 88 ∷ []) (65 ∷ 88 ∷ [])) neither.enum_told.given.1 neither.before.before.either.ensures in
     let u = subst (KeywordAnswer s at (69 ∷ 85 ∷ [])) c.enum-told2.given.1 c.before.before.keyword.ensures in
-    (start.requires.0, start.requires.1, record { no-ex = n.0; no-ax = n.1; no-eu = u })
+    (start.requires.0, start.requires.1, record { no_ex = n.0; no_ax = n.1; no_eu = u })
 
 pub head_spec : {M : Type 1} → statement M
 head_spec =

@@ -2,7 +2,7 @@
 use borrow.Author.Rules.{rules}
 use mathlib.Core.Path.{refl, subst}
 use native.Mathlib.Omega.{arith}
-use Rattle.actl.specs.inner.Readers.{namesIn}
+use Rattle.actl.specs.inner.Readers.{names_in}
 use Rattle.formula_cursor.specs.inner.CursorReplies.{MarkAnswer}
 use Rattle.formula_heads.specs.declared.Quantifier.TheVariants.{Existential, Universal}
 use Rattle.formula_heads.proofs.ReadingHeads.{head-letters, no-head}
@@ -21,7 +21,7 @@ returns : tie.Need-returns
 returns c =
     let first = c.before.before.before in
     let a = first.before.before.before.before.before.args in
-    let N = namesIn a.table.now in
+    let N = names_in a.table.now in
     let s = a.text.now in
     let at = a.c.at in
     let k = subst (MarkAnswer s at 68) first.d.given.1 first.before.before.mark.ensures in
@@ -39,7 +39,7 @@ returns-2 : tie.Need-returns-2
 returns-2 c =
     let first = c.before.before.before in
     let a = first.before.before.before.before.before.before.before.before.args in
-    let N = namesIn a.table.now in
+    let N = names_in a.table.now in
     let s = a.text.now in
     let at = a.c.at in
     let k = subst (MarkAnswer s at 66) first.d2.given.1 first.before.before.mark2.ensures in
@@ -51,7 +51,7 @@ returns-3 c =
     let no-dia = no-box.before.before.before in
     let start = no-dia.before.before.before.before.before in
     let a = start.args in
-    let N = namesIn a.table.now in
+    let N = names_in a.table.now in
     let s = a.text.now in
     let at = a.c.at in
     no-head N s at a.lost start.requires.0.token start.requires.1 start.requires.2 start.requires.3

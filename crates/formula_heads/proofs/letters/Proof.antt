@@ -4,7 +4,7 @@ use mathlib.Core.Path.{sym, subst, ◌∙◌}
 use native.Mathlib.Omega.{arith}
 use lib.ListN.{get_or}
 use Rattle.actl.specs.inner.Cursor.{Marked}
-use Rattle.actl.specs.inner.Readers.{namesIn}
+use Rattle.actl.specs.inner.Readers.{names_in}
 use Rattle.formula_cursor.specs.inner.CursorReplies.{MarkAnswer}
 use Rattle.formula_heads.proofs.ReadingHeads.{no_second, no_third, letters-read}
 use Rattle.formula_heads.proofs.letters.Statement.{statement}
@@ -14,7 +14,7 @@ returns : tie.Need-returns
 returns c =
     let start = c.before.before.before.before.before.before in
     let a = start.args in
-    let N = namesIn a.table.now in
+    let N = names_in a.table.now in
     let s = a.text.now in
     let at = a.c.at in
     let missed = subst (MarkAnswer s at (get_or a.rest.now 0 0)) c.enum_told.given.1 c.before.before.mark.ensures in
@@ -25,7 +25,7 @@ returns-2 c =
     let two = c.before.before.before.before.before in
     let start = two.before.before.before.before.before.before in
     let a = start.args in
-    let N = namesIn a.table.now in
+    let N = names_in a.table.now in
     let s = a.text.now in
     let at = a.c.at in
     let d = two.d.given.0.0.at in
@@ -48,7 +48,7 @@ returns-3 c =
     let two = three.before.before.before.before.before in
     let start = two.before.before.before.before.before.before in
     let a = start.args in
-    let N = namesIn a.table.now in
+    let N = names_in a.table.now in
     let s = a.text.now in
     let at = a.c.at in
     let d = two.d.given.0.0.at in

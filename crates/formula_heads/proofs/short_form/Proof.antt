@@ -2,7 +2,7 @@
 use borrow.Author.Rules.{rules}
 use mathlib.Core.Path.{sym, subst}
 use mathlib.Core.List.{[], ◌∷◌}
-use Rattle.actl.specs.inner.Readers.{namesIn}
+use Rattle.actl.specs.inner.Readers.{names_in}
 use Rattle.formula_heads.specs.inner.HeadReplies.{HeadAnswer}
 use Rattle.formula_heads.specs.inner.Brackets.{ChoiceAnswer}
 use Rattle.formula_heads.proofs.ReadingHeads.{head-reach}
@@ -13,7 +13,7 @@ returns : tie.Need-returns
 returns c =
     let word = c.before.before.before in
     let a = word.before.before.before.before.before.before.before.args in
-    let N = namesIn a.table.now in
+    let N = names_in a.table.now in
     let s = a.text.now in
     let at = a.c.at in
     let k = subst (ChoiceAnswer s at (69 ∷ 70 ∷ []) (65 ∷ 71 ∷ [])) word.q.given.1 word.before.before.either.ensures in
@@ -27,7 +27,7 @@ labelled-form-requires c κs =
     let s = start.args.text.now in
     let at = start.args.c.at in
     let n = subst (ChoiceAnswer s at (69 ∷ 70 ∷ []) (65 ∷ 71 ∷ [])) c.enum_told.given.1 c.before.before.either.ensures in
-    (start.requires.0, start.requires.1, start.requires.2, record { no-ef = n.0; no-ag = n.1 })
+    (start.requires.0, start.requires.1, start.requires.2, record { no_ef = n.0; no_ag = n.1 })
 
 pub short-form-spec : {M : Type 1} → statement M
 short-form-spec =

@@ -4,10 +4,10 @@ use mathlib.Core.Path.{◌≡◌, sym, subst}
 use mathlib.Core.List.{List}
 use Prim.Native.Nat.{ℕ}
 use Rattle.actl.specs.inner.Cursor.{Tokened}
-use Rattle.actl.specs.inner.Readers.{namesIn, ReaderStart}
+use Rattle.actl.specs.inner.Readers.{names_in, ReaderStart}
 use Rattle.formula_cursor.specs.inner.CursorReplies.{TokenAnswer}
 use Rattle.formula_sets.proofs.ReadingSets.{token-behind}
-use Rattle.formula_heads.specs.inner.Brackets.{RestAnswer, ContentsAnswer, behindWord, shownWord}
+use Rattle.formula_heads.specs.inner.Brackets.{RestAnswer, ContentsAnswer, behind_word, shown_word}
 use Rattle.formula_heads.specs.declared.Keyword.{Keyword}
 use Rattle.formula_heads.specs.declared.Heading.{Heading}
 use Rattle.formula_heads.proofs.ReadingHeads.{unopened, opened}
@@ -20,7 +20,7 @@ returns c =
     let a = blanks.before.before.before.args in
     let s = a.text.now in
     let missed = subst (TokenAnswer s blanks.skip-blanks.result.at 91) c.enum_told.given.1 c.before.before.token.ensures in
-    unopened (namesIn a.table.now) s a.lost a.word blanks.skip-blanks.ensures missed
+    unopened (names_in a.table.now) s a.lost a.word blanks.skip-blanks.ensures missed
 
 -- Behind the `[`.
 module _ (c : tie.After-d) where
@@ -43,12 +43,12 @@ module _ (c : tie.After-d) where
   may_read = record { table = start.pre.0; short = start.pre.1; token = token-behind open-token }
 
   contents-read : (w : Keyword) → start.args.word ≡ w → (r : Heading)
-      → ContentsAnswer w (namesIn start.args.table.now) text inside start.args.lost r
-      → RestAnswer (namesIn start.args.table.now) text (behindWord start.args.word 0) (shownWord start.args.word)
+      → ContentsAnswer w (names_in start.args.table.now) text inside start.args.lost r
+      → RestAnswer (names_in start.args.table.now) text (behind_word start.args.word 0) (shown_word start.args.word)
       start.args.c.at start.args.lost r
   contents-read w e r h =
       let a = start.args in
-      let N = namesIn a.table.now in
+      let N = names_in a.table.now in
       opened N text a.lost a.word blanks.skip-blanks.ensures open-token r
       (subst (λ v. ContentsAnswer v N text inside a.lost r) (sym e) h)
 

@@ -1,8 +1,8 @@
 -- `put_keyword` puts the letters with `[`, the step condition, and `]` with its blank.
 use borrow.Author.Rules.{rules}
 use native.Mathlib.Omega.{arith}
-use Rattle.formulas.specs.inner.Access.{condIn}
-use Rattle.formula_pieces.proofs.Laws.Adds.{adds_then, room_after, over-after}
+use Rattle.formulas.specs.inner.Access.{cond_in}
+use Rattle.formula_pieces.proofs.Laws.Adds.{adds_then, room_after, over_after}
 use Rattle.formula_pieces.proofs.Laws.Masks.{cond_short}
 use Rattle.formula_keywords.proofs.put_keyword.Statement.{statement}
 use Rattle.formula_keywords.proofs.put_keyword.Tie as tie
@@ -11,14 +11,14 @@ put-condition-requires : tie.Need-put-condition-requires
 put-condition-requires c κs =
     let opened = c.before.before.before in
     let start = opened.before.before.before.before in
-    (over-after start.requires.0 opened.open.ensures 562 (omega arith), start.requires.1)
+    (over_after start.requires.0 opened.open.ensures 562 (omega arith), start.requires.1)
 
 shut-requires : tie.Need-shut-requires
 shut-requires c κs =
     let put = c.before.before.before in
     let opened = put.before.before.before.before in
     let start = opened.before.before.before.before in
-    let short = cond_short start.args.table.now start.requires.0.holds (condIn start.args.condition) in
+    let short = cond_short start.args.table.now start.requires.0.holds (cond_in start.args.condition) in
     room_after (room_after start.requires.0.room opened.open.ensures 564 (omega arith)) put.put-condition.ensures 2 (omega (arith, short))
 
 returns : tie.Need-returns

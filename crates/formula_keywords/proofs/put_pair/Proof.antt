@@ -1,7 +1,7 @@
 -- `put_pair` puts a set, `;` and a set.
 use borrow.Author.Rules.{rules}
 use native.Mathlib.Omega.{arith}
-use Rattle.formula_pieces.proofs.Laws.Adds.{adds_then, room_after, over-after}
+use Rattle.formula_pieces.proofs.Laws.Adds.{adds_then, room_after, over_after}
 use Rattle.formula_pieces.proofs.Laws.Masks.{set-short}
 use Rattle.formula_keywords.proofs.put_pair.Statement.{statement}
 use Rattle.formula_keywords.proofs.put_pair.Tie as tie
@@ -19,7 +19,7 @@ put-set-requires-2 c κs =
     let put = mark.before.before.before.before in
     let start = put.before.before.before.before in
     let short = set-short start.args.table.now start.requires.0.holds start.args.first in
-    (over-after (over-after start.requires.0 put.put-set.ensures 563 (omega (arith, short))) mark.put.ensures 562 (omega arith), start.requires.2)
+    (over_after (over_after start.requires.0 put.put-set.ensures 563 (omega (arith, short))) mark.put.ensures 562 (omega arith), start.requires.2)
 
 returns : tie.Need-returns
 returns c =

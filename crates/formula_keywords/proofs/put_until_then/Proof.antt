@@ -3,9 +3,9 @@ use borrow.Author.Rules.{rules}
 use mathlib.Core.List.{◌∷◌}
 use native.Mathlib.Omega.{arith}
 use lib.ListN.{length-append}
-use Rattle.lts.specs.inner.Prepared.{tableIn}
-use Rattle.written_back.specs.FormulaText.{setText}
-use Rattle.formula_pieces.proofs.Laws.Adds.{adds_then, room_after, over-after}
+use Rattle.lts.specs.inner.Prepared.{table_in}
+use Rattle.written_back_lem.specs.FormulaText.{set_text}
+use Rattle.formula_pieces.proofs.Laws.Adds.{adds_then, room_after, over_after}
 use Rattle.formula_pieces.proofs.Laws.Masks.{set-short}
 use Rattle.formula_keywords.proofs.put_until_then.Statement.{statement}
 use Rattle.formula_keywords.proofs.put_until_then.Tie as tie
@@ -14,7 +14,7 @@ put-pair-requires : tie.Need-put-pair-requires
 put-pair-requires c κs =
     let opened = c.before.before.before in
     let start = opened.before.before.before.before in
-    (over-after start.requires.0 opened.open.ensures 1125 (omega arith), start.requires.1, start.requires.2)
+    (over_after start.requires.0 opened.open.ensures 1125 (omega arith), start.requires.1, start.requires.2)
 
 shut-requires : tie.Need-shut-requires
 shut-requires c κs =
@@ -22,9 +22,9 @@ shut-requires c κs =
     let opened = put.before.before.before.before in
     let start = opened.before.before.before.before in
     let a = start.args in
-    let names = (tableIn a.table.now).names in
+    let names = (table_in a.table.now).names in
     let short = set-short a.table.now start.requires.0.holds in
-    let both = length-append (setText names a.first) (59 ∷ setText names a.second) in
+    let both = length-append (set_text names a.first) (59 ∷ set_text names a.second) in
     room_after (room_after start.requires.0.room opened.open.ensures 1127 (omega arith)) put.put-pair.ensures 2
     (omega (arith, both, short a.first, short a.second))
 

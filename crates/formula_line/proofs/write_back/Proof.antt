@@ -2,8 +2,8 @@
 use borrow.Author.Rules.{rules}
 use native.Mathlib.Omega.{arith}
 use Rattle.explaining.proofs.Answers.{said_of}
-use Rattle.explaining.proofs.Into.{was_read, was-refused}
-use Rattle.formula_line.proofs.Reading.{refused-back, written_back}
+use Rattle.explaining.proofs.Into.{was_read, was_refused}
+use Rattle.formula_line.proofs.Reading.{refused_back, written_back_lem}
 use Rattle.formula_line.proofs.write_back.Statement.{statement}
 use Rattle.formula_line.proofs.write_back.Tie as tie
 
@@ -16,8 +16,8 @@ returns c =
     let read = c.before.before.before.before.before in
     let a = (begun read).args in
     let left = read.read-both.new.1.1 in
-    refused-back a.tabletext.now a.formulatext.now a.text.now _ _
-    (was-refused a.tabletext.now a.formulatext.now left.0 left.1.0 read.read-both.ensures _ _ c.before.ready.given.1)
+    refused_back a.tabletext.now a.formulatext.now a.text.now _ _
+    (was_refused a.tabletext.now a.formulatext.now left.0 left.1.0 read.read-both.ensures _ _ c.before.ready.given.1)
 
 returns-2 : tie.Need-returns-2
 returns-2 c =
@@ -27,7 +27,7 @@ returns-2 c =
     let a = (begun read).args in
     let left = read.read-both.new.1.1 in
     let was = was_read a.tabletext.now a.formulatext.now left.0 left.1.0 read.read-both.ensures told.enum_told.given.1 in
-    written_back a.tabletext.now a.formulatext.now was a.text.now (omega arith) (omega arith) (omega arith)
+    written_back_lem a.tabletext.now a.formulatext.now was a.text.now (omega arith) (omega arith) (omega arith)
     (said_of c.write-answer.ensures wrote.write-formula.ensures.0) wrote.write-formula.ensures.1.0
 
 pub write-back-spec : {M : Type 1} → statement M

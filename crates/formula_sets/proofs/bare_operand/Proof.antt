@@ -1,7 +1,7 @@
 -- `bare_operand` reads a mark or a name, or is refused where neither stands.
 use borrow.Author.Rules.{rules}
 use mathlib.Core.Path.{subst}
-use Rattle.actl.specs.inner.Readers.{namesIn}
+use Rattle.actl.specs.inner.Readers.{names_in}
 use Rattle.formula_cursor.specs.inner.CursorReplies.{NameAnswer}
 use Rattle.formula_sets.specs.inner.SetReplies.{WildcardAnswer}
 use Rattle.formula_sets.proofs.ReadingSets.{operand-stops}
@@ -11,7 +11,7 @@ use Rattle.formula_sets.proofs.bare_operand.Tie as tie
 returns : tie.Need-returns
 returns c =
     let a = c.before.before.before.before.before.before.args in
-    subst (WildcardAnswer (namesIn a.table.now) a.text.now a.c.at) c.before.d.given.1 c.before.before.before.wildcard-labels.ensures a.lost
+    subst (WildcardAnswer (names_in a.table.now) a.text.now a.c.at) c.before.d.given.1 c.before.before.before.wildcard-labels.ensures a.lost
 
 label-requires : tie.Need-label-requires
 label-requires c κs =
@@ -21,7 +21,7 @@ label-requires c κs =
 returns-3 : tie.Need-returns-3
 returns-3 c =
     let e : tie.Start = c.before.before.before.before.before.before.before.before in
-    let N = namesIn e.args.table.now in
+    let N = names_in e.args.table.now in
     let s = e.args.text.now in
     let at = e.args.c.at in
     let no-mark = subst (WildcardAnswer N s at) c.before.before.before.enum_told.given.1 c.before.before.before.before.before.wildcard-labels.ensures in

@@ -4,16 +4,16 @@ use mathlib.Core.Path.{◌≡◌, ap, ap₂, ◌∙◌}
 use Prim.Native.Nat.{ℕ, suc, ◌+◌, ◌-◌, ◌≤◌}
 use native.Mathlib.Omega.{arith}
 use lib.ListN.{length}
-use Rattle.lts.specs.Directions.{Direction, labelDirection}
+use Rattle.lts.specs.Directions.{Direction, label_direction}
 use Rattle.actl.specs.Actions.{Action, mask_of}
-use Rattle.actl.specs.inner.Readers.{namesIn}
-use Rattle.label_names.specs.inner.Names.{directionIn}
-use Rattle.actl.proofs.ReadingMasks.{mask-none-yet, mask-more, mask-small}
+use Rattle.actl.specs.inner.Readers.{names_in}
+use Rattle.label_names.specs.inner.Names.{direction_in}
+use Rattle.actl.proofs.ReadingMasks.{mask-none_yet, mask-more, mask-small}
 use Rattle.formula_sets.proofs.directed_labels.Statement.{statement}
 use Rattle.formula_sets.proofs.directed_labels.Tie as tie
 
 abbrev invariant-loop : tie.invariant-loop
-invariant-loop table wanted count mask₀ k₀ mask k = (k ≤ count) × (mask ≡ mask_of (labelDirection (namesIn table)) k (Action.directed (directionIn wanted)))
+invariant-loop table wanted count mask₀ k₀ mask k = (k ≤ count) × (mask ≡ mask_of (label_direction (names_in table)) k (Action.directed (direction_in wanted)))
 
 abbrev decreases-loop : tie.decreases-loop
 decreases-loop table wanted count mask₀ k₀ mask k = count - k
@@ -21,7 +21,7 @@ decreases-loop table wanted count mask₀ k₀ mask k = count - k
 loop-holds : tie.Need-loop-init invariant-loop decreases-loop
 loop-holds c =
     let a = c.before.before.args in
-    (omega arith, mask-none-yet (labelDirection (namesIn a.table.now)) (Action.directed (directionIn a.wanted)))
+    (omega arith, mask-none_yet (label_direction (names_in a.table.now)) (Action.directed (direction_in a.wanted)))
 
 directed-bit-requires : tie.Need-directed-bit-requires invariant-loop decreases-loop
 directed-bit-requires c κs =
@@ -34,10 +34,10 @@ module _ (c : tie.After-directed-bit invariant-loop decreases-loop) where
   start = c.before.before.before.before.before
 
   abbrev directions : ℕ → Direction
-  directions = labelDirection (namesIn start.args.table.now)
+  directions = label_direction (names_in start.args.table.now)
 
   abbrev wanted : Action
-  wanted = Action.directed (directionIn start.args.wanted)
+  wanted = Action.directed (direction_in start.args.wanted)
 
   mask-so-far : c.before.before.loop.mask + c.directed-bit.result ≡ mask_of directions (suc c.before.before.loop.k) wanted
   mask-so-far = ap₂ ◌+◌ c.before.before.loop.invariant.1 c.directed-bit.ensures ∙ mask-more directions c.before.before.loop.k wanted
@@ -45,7 +45,7 @@ module _ (c : tie.After-directed-bit invariant-loop decreases-loop) where
 add-mask : tie.Need-overflow-add-mask invariant-loop decreases-loop
 add-mask c =
     let count = c.before.before.before.label-count.ensures.count in
-    let few = (start c).requires.in-range.few-labels in
+    let few = (start c).requires.in_range.few_labels in
     let small = mask-small (directions c) (suc c.before.before.loop.k) (wanted c) (omega (arith, count, c.before.loop-test.true, few)) in
     record { fits = omega (arith, mask-so-far c, small) }
 
@@ -64,8 +64,8 @@ returns : tie.Need-returns invariant-loop decreases-loop
 returns c =
     let a = c.before.before.before.before.args in
     let l = c.before.loop in
-    let all : l.k ≡ length (namesIn a.table.now) = omega (arith, l.invariant.0, c.loop-test.false, c.before.before.label-count.ensures.count) in
-    l.invariant.1 ∙ ap (λ n. mask_of (labelDirection (namesIn a.table.now)) n (Action.directed (directionIn a.wanted))) all
+    let all : l.k ≡ length (names_in a.table.now) = omega (arith, l.invariant.0, c.loop-test.false, c.before.before.label-count.ensures.count) in
+    l.invariant.1 ∙ ap (λ n. mask_of (label_direction (names_in a.table.now)) n (Action.directed (direction_in a.wanted))) all
 
 pub directed-labels-spec : {M : Type 1} → statement M
 directed-labels-spec =

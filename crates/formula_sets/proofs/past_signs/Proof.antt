@@ -7,7 +7,7 @@ use lib.ListN.{length}
 use Rattle.actl.specs.inner.Cursor.{Tokened}
 use Rattle.formula_cursor.specs.inner.CursorReplies.{TokenAnswer}
 use Rattle.formula_sets.specs.inner.OperandPhases.{SignsPassed}
-use Rattle.formula_sets.proofs.ReadingSets.{signs-none, signs-more}
+use Rattle.formula_sets.proofs.ReadingSets.{signs_none, signs_more}
 use Rattle.formula_sets.proofs.past_signs.Statement.{statement}
 use Rattle.formula_sets.proofs.past_signs.Tie as tie
 
@@ -18,7 +18,7 @@ abbrev decreases-loop : tie.decreases-loop
 decreases-loop text d₀ odd₀ d odd = length text - d.at
 
 loop-holds : tie.Need-loop-init invariant-loop decreases-loop
-loop-holds c = signs-none c.before.args.text.now c.before.args.c.at c.before.requires
+loop-holds c = signs_none c.before.args.text.now c.before.args.c.at c.before.requires
 
 token-requires : tie.Need-token-requires invariant-loop decreases-loop
 token-requires c κs = search rules
@@ -27,7 +27,7 @@ returns : tie.Need-returns invariant-loop decreases-loop
 returns c =
     let turn = c.before.before.before in
     let text = turn.before.before.args.text.now in
-    record { passed = turn.loop.invariant; no-not = subst (TokenAnswer text turn.loop.d.at 126) c.enum_told.given.1 c.before.before.token.ensures }
+    record { passed = turn.loop.invariant; no_not = subst (TokenAnswer text turn.loop.d.at 126) c.enum_told.given.1 c.before.before.token.ensures }
 
 -- A sign stands at the cursor.
 module _ (c : tie.After-e invariant-loop decreases-loop) where
@@ -41,7 +41,7 @@ loop-less : tie.Need-loop-smaller invariant-loop decreases-loop
 loop-less c = let t = sign c.before in omega (arith, t.skipped.up, t.skipped.within)
 
 loop-again : tie.Need-loop-preserved invariant-loop decreases-loop
-loop-again c = signs-more (turn c.before).loop.odd (turn c.before).loop.inv (sign c.before)
+loop-again c = signs_more (turn c.before).loop.odd (turn c.before).loop.inv (sign c.before)
 
 pub past-signs-spec : {M : Type 1} → statement M
 past-signs-spec =

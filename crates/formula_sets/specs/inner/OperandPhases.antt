@@ -1,7 +1,7 @@
 -- What the phases of reading an operand hand each other.
 use Rattle.std.specs.Prelude.{◌≡◌, Bool, cond, List, ℕ, ◌-◌, ◌≤◌}
 use Rattle.actl.specs.Actions.{Action}
-use Rattle.actl.specs.Meaning.{labelsOf}
+use Rattle.actl.specs.Meaning.{labels_of}
 use Rattle.actl.specs.inner.Cursor.{peek, Marked, Token}
 use Rattle.formula_sets.specs.inner.SetReplies.{OperandAnswer, SetAnswer, EnclosedAnswer}
 use Rattle.formula_sets.specs.declared.Wildcard.{Wildcard}
@@ -16,8 +16,8 @@ MarkedLabels s at mark mask wildcard.Missing = peek s at ≡ mark → ⊥
 
 -- A place at which neither `~` nor `(` stands.
 pub record NoOpening (s : List ℕ) (at : ℕ) : Type 0 where
-  pub no-not : peek s at ≡ 126 → ⊥
-  pub no-paren : peek s at ≡ 40 → ⊥
+  pub no_not : peek s at ≡ 126 → ⊥
+  pub no_paren : peek s at ≡ 40 → ⊥
 
 -- The labels that were read are among all of them.
 abbrev pub MaskWithin : ℕ → Labels → Type 0
@@ -37,12 +37,12 @@ signed odd all r = cond odd (complemented all r) r
 pub record SignsPassed (s : List ℕ) (at to : ℕ) (odd : Bool) : Type 0 where
   pub up : at ≤ to
   pub token : Token s to
-  pub says : (N : List (List ℕ)) (lost : ℕ) (r : Labels) → OperandAnswer N s to lost r → OperandAnswer N s at lost (signed odd (labelsOf N Action.any) r)
+  pub says : (N : List (List ℕ)) (lost : ℕ) (r : Labels) → OperandAnswer N s to lost r → OperandAnswer N s at lost (signed odd (labels_of N Action.any) r)
 
 -- And no more of them.
 pub record SignsRead (s : List ℕ) (at to : ℕ) (odd : Bool) : Type 0 where
   pub passed : SignsPassed s at to odd
-  pub no-not : peek s to ≡ 126 → ⊥
+  pub no_not : peek s to ≡ 126 → ⊥
 
 -- What was read as a set is a set in brackets, or is none.
 abbrev pub Closes : List ℕ → ℕ → Labels → Labels → Type 0

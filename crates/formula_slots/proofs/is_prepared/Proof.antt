@@ -5,20 +5,20 @@ use mathlib.Core.List.{List}
 use Prim.Native.Nat.{ℕ, ◌+◌, ◌*◌, ◌≤◌, ◌<◌}
 use native.Mathlib.Omega.{arith}
 use borrow.Author.Tests.{not-true, not-false}
-use Rattle.actl.specs.Sizes.{nodeSlotLength}
+use Rattle.actl.specs.Sizes.{node_slot_length}
 use Rattle.lts.specs.inner.Answers.{Decides}
-use Rattle.lts.specs.Sizes.{mostLabels}
+use Rattle.lts.specs.Sizes.{most_labels}
 use Rattle.actl.specs.Prepared.{FormOfSome}
-use Rattle.actl.specs.inner.Check.{isPrepared, slotsFit, zerosFrom, SpelledClassed}
-use Rattle.actl.proofs.Laws.Prepared.{form-tested}
-use Rattle.formula_classes.proofs.Laws.Decided.{short-bytes, many-nodes, slots-foreign, not_zeros, decided}
+use Rattle.actl.specs.inner.Check.{is_prepared, slots_fit, zeros_from, SpelledClassed}
+use Rattle.actl.proofs.Laws.Prepared.{form_tested}
+use Rattle.formula_classes.proofs.Laws.Decided.{short-bytes, many-nodes, slots_foreign, not_zeros, decided}
 use borrow.Author.Rules.{rules}
 use Rattle.formula_slots.proofs.is_prepared.Statement.{statement}
 use Rattle.formula_slots.proofs.is_prepared.Tie as tie
 
 -- The answer is the test's, and so it tells whether the bytes are some formula's form.
-tested : (n : ℕ) (b : List ℕ) {r : Bool} → r ≡ isPrepared n b → (r ≡ isPrepared n b) × (n ≤ mostLabels → Decides (FormOfSome n b) r)
-tested n b e = (e, λ few. subst (Decides (FormOfSome n b)) (sym e) (form-tested n few b))
+tested : (n : ℕ) (b : List ℕ) {r : Bool} → r ≡ is_prepared n b → (r ≡ is_prepared n b) × (n ≤ most_labels → Decides (FormOfSome n b) r)
+tested n b e = (e, λ few. subst (Decides (FormOfSome n b)) (sym e) (form_tested n few b))
 
 returns : tie.Need-returns
 returns c =
@@ -38,7 +38,7 @@ returns-3 c =
     let n = counted.before.before.before.args.labels in
     let b = counted.before.before.before.args.formula.now in
     let fails = sym c.before.slots-fit.ensures ∙ not-true c.before.slots-fit.result c.if3.true in
-    tested n b (slots-foreign n b (sym (ap (slotsFit n b) counted.node-count.ensures) ∙ fails))
+    tested n b (slots_foreign n b (sym (ap (slots_fit n b) counted.node-count.ensures) ∙ fails))
 
 returns-4 : tie.Need-returns-4
 returns-4 c =
@@ -46,7 +46,7 @@ returns-4 c =
     let n = counted.before.before.before.args.labels in
     let b = counted.before.before.before.args.formula.now in
     let fails = sym c.before.zeros-from.ensures ∙ not-true c.before.zeros-from.result c.if4.true in
-    tested n b (not_zeros n b (sym (ap (λ k. zerosFrom b (1 + k * nodeSlotLength)) counted.node-count.ensures) ∙ fails))
+    tested n b (not_zeros n b (sym (ap (λ k. zeros_from b (1 + k * node_slot_length)) counted.node-count.ensures) ∙ fails))
 
 returns-5 : tie.Need-returns-5
 returns-5 c =
@@ -61,8 +61,8 @@ returns-5 c =
     let slots = sym fit.slots-fit.ensures ∙ not-false fit.slots-fit.result zeros.before.if3.false in
     let rest = sym zeros.zeros-from.ensures ∙ not-false zeros.zeros-from.result c.before.if4.false in
     tested n b (decided n b counted.before.if1.false (λ i. (counted.before.before.shared-slice-known.given i).fits) (omega arith)
-    (sym (ap (slotsFit n b) count) ∙ slots)
-    (sym (ap (λ k. zerosFrom b (1 + k * nodeSlotLength)) count) ∙ rest)
+    (sym (ap (slots_fit n b) count) ∙ slots)
+    (sym (ap (λ k. zeros_from b (1 + k * node_slot_length)) count) ∙ rest)
     c.spelled.result
     (subst (λ k. Decides (SpelledClassed b k) c.spelled.result) count c.spelled.ensures))
 

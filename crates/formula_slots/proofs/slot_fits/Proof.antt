@@ -3,11 +3,11 @@ use mathlib.Core.Path.{◌≡◌, sym, ap, ◌∙◌}
 use mathlib.Core.Bool.{◌&&◌, ◌||◌}
 use Prim.Native.Nat.{ℕ}
 use lib.Dec.{eqb}
-use Rattle.actl.specs.inner.Shaped.{firstUsed, secondUsed}
-use Rattle.actl.specs.Prepared.{Slot, maskWithin}
+use Rattle.actl.specs.inner.Shaped.{first_used, second_used}
+use Rattle.actl.specs.Prepared.{Slot, mask_within}
 use Rattle.actl.specs.inner.Prepared.{slot_at}
-use Rattle.actl.specs.inner.Check.{slotFits}
-use Rattle.actl.proofs.Laws.Checked.{kind-low, kind-high, masks-fit}
+use Rattle.actl.specs.inner.Check.{slot_fits}
+use Rattle.actl.proofs.Laws.Checked.{kind-low, kind-high, masks_fit}
 use borrow.Author.Rules.{rules}
 use Rattle.formula_slots.proofs.slot_fits.Statement.{statement}
 use Rattle.formula_slots.proofs.slot_fits.Tie as tie
@@ -36,16 +36,16 @@ module _ (c : tie.After-mask-fits2) where
   abbrev s : Slot
   s = slot_at entry.args.formula.now entry.args.k
 
-  both : (c.before.before.mask_fits.result && c.mask-fits2.result) ≡ slotFits n s
+  both : (c.before.before.mask_fits.result && c.mask-fits2.result) ≡ slot_fits n s
   both =
-      let count = c.before.before.before.before.masks-of.ensures in
+      let count = c.before.before.before.before.masks_of_lem.ensures in
       let m = c.before.before.before.first-mask.ensures in
       let o = c.before.second-mask.ensures in
-      let first : c.before.before.mask_fits.result ≡ ((firstUsed s.kind || eqb s.first 0) && maskWithin n s.first) =
-      c.before.before.mask_fits.ensures ∙ (λ i. (count.0 i || eqb (m i) 0) && maskWithin n (m i)) in
-      let second : c.mask-fits2.result ≡ ((secondUsed s.kind || eqb s.second 0) && maskWithin n s.second) =
-      c.mask-fits2.ensures ∙ (λ i. (count.1 i || eqb (o i) 0) && maskWithin n (o i)) in
-      (λ i. first i && second i) ∙ masks-fit n s known.before.if1.left known.if2.left
+      let first : c.before.before.mask_fits.result ≡ ((first_used s.kind || eqb s.first 0) && mask_within n s.first) =
+      c.before.before.mask_fits.ensures ∙ (λ i. (count.0 i || eqb (m i) 0) && mask_within n (m i)) in
+      let second : c.mask-fits2.result ≡ ((second_used s.kind || eqb s.second 0) && mask_within n s.second) =
+      c.mask-fits2.ensures ∙ (λ i. (count.1 i || eqb (o i) 0) && mask_within n (o i)) in
+      (λ i. first i && second i) ∙ masks_fit n s known.before.if1.left known.if2.left
 
 returns-3 : tie.Need-returns-3
 returns-3 c = sym (ap (λ t. t && c.before.mask-fits2.result) c.if3.true) ∙ both c.before

@@ -4,13 +4,13 @@ use Prim.Native.Nat.{◌-◌, ◌≤◌}
 use native.Mathlib.Omega.{arith}
 use borrow.Author.Tests.{not-true, not-false}
 use Rattle.actl.specs.inner.Prepared.{slot_at}
-use Rattle.actl.specs.inner.Check.{slotFits}
-use Rattle.actl.proofs.Laws.Lists.{Passed, passed-more, passed-all, failed-one}
+use Rattle.actl.specs.inner.Check.{slot_fits}
+use Rattle.actl.proofs.Laws.Lists.{Passed, passed-more, passed-all, failed_one}
 use Rattle.formula_slots.proofs.slots_fit.Statement.{statement}
 use Rattle.formula_slots.proofs.slots_fit.Tie as tie
 
 abbrev invariant-loop : tie.invariant-loop
-invariant-loop labels formula count k₀ k = (k ≤ count) × Passed (λ i. slotFits labels (slot_at formula i)) 0 k
+invariant-loop labels formula count k₀ k = (k ≤ count) × Passed (λ i. slot_fits labels (slot_at formula i)) 0 k
 
 abbrev decreases-loop : tie.decreases-loop
 decreases-loop labels formula count k₀ k = count - k
@@ -27,7 +27,7 @@ returns c =
     let k = c.before.before.before.loop.k in
     let fails = sym c.before.slot-fits.ensures ∙ not-true c.before.slot-fits.result c.if1.true in
     let below = c.before.before.loop-test.true in
-    sym (failed-one (λ i. slotFits a.labels (slot_at a.formula.now i)) 0 a.count k (omega arith) (omega (arith, below)) fails)
+    sym (failed_one (λ i. slot_fits a.labels (slot_at a.formula.now i)) 0 a.count k (omega arith) (omega (arith, below)) fails)
 
 add-k : tie.Need-overflow-add-k invariant-loop decreases-loop
 add-k c = omega arith
@@ -40,13 +40,13 @@ loop-again c =
     let a = c.before.before.before.before.before.args in
     let turn = c.before.before.before.loop in
     let fits = sym c.before.slot-fits.ensures ∙ not-false c.before.slot-fits.result c.if1.false in
-    (omega arith, passed-more (λ i. slotFits a.labels (slot_at a.formula.now i)) 0 turn.k turn.invariant.1 fits)
+    (omega arith, passed-more (λ i. slot_fits a.labels (slot_at a.formula.now i)) 0 turn.k turn.invariant.1 fits)
 
 returns-2 : tie.Need-returns-2 invariant-loop decreases-loop
 returns-2 c =
     let a = c.before.before.before.args in
     let turn = c.before.loop in
-    sym (passed-all (λ i. slotFits a.labels (slot_at a.formula.now i)) 0 a.count turn.k (omega (arith, c.loop-test.false)) turn.invariant.1)
+    sym (passed-all (λ i. slot_fits a.labels (slot_at a.formula.now i)) 0 a.count turn.k (omega (arith, c.loop-test.false)) turn.invariant.1)
 
 pub slots-fit-spec : {M : Type 1} → statement M
 slots-fit-spec =

@@ -4,7 +4,7 @@ use mathlib.Core.Path.{subst}
 use Prim.Native.Nat.{◌-◌}
 use native.Mathlib.Omega.{arith}
 use lib.ListN.{length}
-use Rattle.actl.specs.inner.Readers.{namesIn}
+use Rattle.actl.specs.inner.Readers.{names_in}
 use Rattle.formula_terms.specs.inner.Prefixes.{PrefixAnswer, PrefixesPassed}
 use Rattle.formula_terms.specs.declared.Nodes.{Nodes}
 use Rattle.formula_terms.specs.declared.Nodes.TheVariants.{Read, Refused}
@@ -13,7 +13,7 @@ use Rattle.formula_terms.proofs.further.Statement.{statement}
 use Rattle.formula_terms.proofs.further.Tie as tie
 
 abbrev invariant-loop : tie.invariant-loop
-invariant-loop table text nodes₀ n lost d₀ k₀ lacks₀ nodes d k lacks = PrefixesPassed (namesIn table) text d₀.at n lost nodes₀ d.at k lacks nodes
+invariant-loop table text nodes₀ n lost d₀ k₀ lacks₀ nodes d k lacks = PrefixesPassed (names_in table) text d₀.at n lost nodes₀ d.at k lacks nodes
 
 abbrev decreases-loop : tie.decreases-loop
 decreases-loop table text nodes₀ n lost d₀ k₀ lacks₀ nodes d k lacks = length text - d.at
@@ -21,7 +21,7 @@ decreases-loop table text nodes₀ n lost d₀ k₀ lacks₀ nodes d k lacks = l
 loop-holds : tie.Need-loop-init invariant-loop decreases-loop
 loop-holds c =
     let e = c.before.before in
-    passed_none (namesIn e.args.table.now) e.args.text.now e.args.c.at e.args.n e.args.lost e.args.nodes.now e.requires.0.token e.requires.1
+    passed_none (names_in e.args.table.now) e.args.text.now e.args.c.at e.args.n e.args.lost e.args.nodes.now e.requires.0.token e.requires.1
 
 returns : tie.Need-returns invariant-loop decreases-loop
 returns c = record { passed = c.before.before.loop.invariant; atom = c.before.at-atom.ensures.yes c.if1.true }
@@ -42,7 +42,7 @@ module _ (c : tie.After-prefix invariant-loop decreases-loop) where
   start = turn.before.before.before
 
   abbrev Said : Nodes → Type 0
-  Said = PrefixAnswer (namesIn start.args.table.now) start.args.text.now turn.loop.d.at turn.loop.k turn.loop.lacks turn.loop.nodes
+  Said = PrefixAnswer (names_in start.args.table.now) start.args.text.now turn.loop.d.at turn.loop.k turn.loop.lacks turn.loop.nodes
       c.prefix.new.1.1.0
 
 returns-2 : tie.Need-returns-2 invariant-loop decreases-loop

@@ -2,7 +2,7 @@
 use borrow.Author.Rules.{rules}
 use mathlib.Core.Path.{subst}
 use native.Mathlib.Omega.{arith}
-use Rattle.actl.specs.inner.Readers.{namesIn}
+use Rattle.actl.specs.inner.Readers.{names_in}
 use Rattle.formula_heads.specs.inner.HeadReplies.{HeadAnswer}
 use Rattle.formula_heads.specs.declared.Heading.{Heading}
 use Rattle.formula_heads.specs.declared.Heading.TheVariants.{Read, Dual}
@@ -16,7 +16,7 @@ module _ (c : tie.After-head) where
   start = c.before.before.before
 
   abbrev Said : Heading → Type 0
-  Said = HeadAnswer (namesIn start.args.table.now) start.args.text.now start.args.c.at start.args.lost
+  Said = HeadAnswer (names_in start.args.table.now) start.args.text.now start.args.c.at start.args.lost
 
 -- It has a node of its own.
 module _ (c : tie.After-x2) where

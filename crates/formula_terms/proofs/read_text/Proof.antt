@@ -5,17 +5,17 @@ use mathlib.Core.List.{List}
 use Prim.Native.Nat.{ℕ}
 use native.Mathlib.Omega.{arith}
 use Rattle.formula_cursor.specs.inner.CursorReplies.{MarkAnswer}
-use Rattle.actl.specs.inner.Readers.{namesIn}
+use Rattle.actl.specs.inner.Readers.{names_in}
 use Rattle.formula_terms.specs.inner.TermReplies.{FormulaAnswer}
 use Rattle.formula_terms.specs.declared.Chain.{Chain}
-use Rattle.formula_cursor.proofs.ReadingTexts.{text-blank, text-token, text-fails, text-whole, text-rest}
+use Rattle.formula_cursor.proofs.ReadingTexts.{text_blank, text-token, text_fails, text-whole, text-rest}
 use Rattle.formula_terms.proofs.read_text.Statement.{statement}
 use Rattle.formula_terms.proofs.read_text.Tie as tie
 
 returns : tie.Need-returns
 returns c =
     let s = c.before.before.before.before.before.args.text.now in
-    text-blank s (subst (MarkAnswer s 0 32) c.enum_told.given.1 c.before.before.mark.ensures)
+    text_blank s (subst (MarkAnswer s 0 32) c.enum_told.given.1 c.before.before.mark.ensures)
 
 formula-requires : tie.Need-formula-requires
 formula-requires c κs =
@@ -33,10 +33,10 @@ module _ (c : tie.After-formula) where
   text = start.args.text.now
 
   abbrev Said : Chain → Type 0
-  Said = FormulaAnswer (namesIn start.args.table.now) text 0 0 0 start.args.nodes.now c.formula.new.1.1.0
+  Said = FormulaAnswer (names_in start.args.table.now) text 0 0 0 start.args.nodes.now c.formula.new.1.1.0
 
 returns-2 : tie.Need-returns-2
-returns-2 c = let f = c.before.before.before in text-fails (text f) (subst (Said f) c.before.x.given.1 f.formula.ensures)
+returns-2 c = let f = c.before.before.before in text_fails (text f) (subst (Said f) c.before.x.given.1 f.formula.ensures)
 
 returns-3 : tie.Need-returns-3
 returns-3 c =

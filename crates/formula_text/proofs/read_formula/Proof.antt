@@ -6,22 +6,22 @@ use mathlib.Core.List.{List}
 use Prim.Native.Nat.{ℕ}
 use borrow.Author.Tests.{not-true, not-false}
 use Rattle.lts.specs.inner.Answers.{is_some}
-use Rattle.lts.specs.inner.Prepared.{preparedTable}
-use Rattle.actl.specs.FormulaReading.{formulaReading, formulaReplied, formulaLeft}
+use Rattle.lts.specs.inner.Prepared.{prepared_table}
+use Rattle.actl.specs.FormulaReading.{formula_reading, formula_replied, formula_left}
 use Rattle.actl.specs.ByGrammar.{FormulaByGrammar}
-use Rattle.actl.proofs.Laws.ByGrammar.{formula-by-grammar}
-use Rattle.formula_text.specs.Replies.{formulaReply}
+use Rattle.actl.proofs.Laws.ByGrammar.{formula_by_grammar}
+use Rattle.formula_text.specs.Replies.{formula_reply}
 use Rattle.formula_text.specs.inner.FormulaAnswers.{FormulaAnswered}
 use Rattle.formula_text.specs.declared.FormulaReply.{FormulaReply}
-use Rattle.formula_text.proofs.ReadingEntry.{short-table, short-formula, foreign-table, on-prepared}
+use Rattle.formula_text.proofs.ReadingEntry.{short-table, short-formula, foreign_table, on-prepared}
 use Rattle.formula_text.proofs.read_formula.Statement.{statement}
 use Rattle.formula_text.proofs.read_formula.Tie as tie
 use Rattle.lts.proofs.Laws.Prepared.{found-holds}
 
 -- The reply and the bytes, by the definitions and by the grammar.
-both : {b s e : List ℕ} {r : FormulaReply} {x : List ℕ} → FormulaAnswered (formulaReading b s e) e r x
-    → (formulaReply r ≡ formulaReplied b s e) × ((x ≡ formulaLeft b s e) × FormulaByGrammar b s e (formulaReply r) x)
-both {b} {s} {e} h = (h.replies, (h.leaves, formula-by-grammar b s e h.replies h.leaves))
+both : {b s e : List ℕ} {r : FormulaReply} {x : List ℕ} → FormulaAnswered (formula_reading b s e) e r x
+    → (formula_reply r ≡ formula_replied b s e) × ((x ≡ formula_left b s e) × FormulaByGrammar b s e (formula_reply r) x)
+both {b} {s} {e} h = (h.replies, (h.leaves, formula_by_grammar b s e h.replies h.leaves))
 
 returns : tie.Need-returns
 returns c =
@@ -42,14 +42,14 @@ returns-3 c =
     let long = room.before in
     let a = long.before.before.before.before.args in
     let foreign = sym c.before.is-prepared.ensures ∙ not-true _ c.if3.true in
-    both (foreign-table a.table.now a.text.now a.formula.now long.if1.false room.if2.false foreign)
+    both (foreign_table a.table.now a.text.now a.formula.now long.if1.false room.if2.false foreign)
 
 -- Behind the tests of the bytes.
 module _ (c : tie.Else3) where
   abbrev start : tie.Start
   start = c.before.before.before.before.before.before.before
 
-  prepared : is_some (preparedTable start.args.table.now) ≡ true
+  prepared : is_some (prepared_table start.args.table.now) ≡ true
   prepared = sym c.before.is-prepared.ensures ∙ not-false _ c.if3.false
 
 read-text-over-requires : tie.Need-read-text-over-requires

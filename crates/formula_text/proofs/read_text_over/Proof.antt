@@ -4,8 +4,8 @@ use mathlib.Core.Path.{◌≡◌, subst}
 use mathlib.Core.List.{List}
 use Prim.Native.Nat.{ℕ}
 use lib.ListN.{replicate}
-use Rattle.actl.specs.Sizes.{formulaLength}
-use Rattle.actl.specs.inner.Readers.{namesIn}
+use Rattle.actl.specs.Sizes.{formula_length}
+use Rattle.actl.specs.inner.Readers.{names_in}
 use Rattle.formula_terms.specs.inner.TermReplies.{ReadingAnswer}
 use Rattle.formula_terms.specs.declared.Reading.{Reading}
 use Rattle.formula_text.proofs.ReadingEntry.{long-text, refused-text, whole-text}
@@ -15,7 +15,7 @@ use Rattle.formula_text.proofs.read_text_over.Tie as tie
 returns : tie.Need-returns
 returns c =
     let a = c.before.before.before.before.args in
-    long-text (namesIn a.table.now) a.text.now a.formula.now c.if1.true
+    long-text (names_in a.table.now) a.text.now a.formula.now c.if1.true
 
 -- Behind the text.
 module _ (c : tie.After-read-text) where
@@ -29,9 +29,9 @@ module _ (c : tie.After-read-text) where
   nodes = c.read-text.new.1.1.0
 
   text-read : (r : Reading) → c.read-text.result ≡ r
-      → ReadingAnswer (namesIn start.args.table.now) start.args.text.now (replicate formulaLength 0) nodes r
+      → ReadingAnswer (names_in start.args.table.now) start.args.text.now (replicate formula_length 0) nodes r
   text-read r e =
-      subst (ReadingAnswer (namesIn start.args.table.now) start.args.text.now (replicate formulaLength 0) nodes) e c.read-text.ensures
+      subst (ReadingAnswer (names_in start.args.table.now) start.args.text.now (replicate formula_length 0) nodes) e c.read-text.ensures
 
 answer-requires : tie.Need-answer-requires
 answer-requires c κs =
@@ -43,14 +43,14 @@ returns-2 : tie.Need-returns-2
 returns-2 c =
     let read = c.before.before.before in
     let a = (start read).args in
-    refused-text (namesIn a.table.now) a.text.now a.formula.now (short read).if1.false _ (text-read read _ c.before.x.given.1)
+    refused-text (names_in a.table.now) a.text.now a.formula.now (short read).if1.false _ (text-read read _ c.before.x.given.1)
 
 returns-3 : tie.Need-returns-3
 returns-3 c =
     let whole = c.before.before.before.before.before.before in
     let read = whole.before.before in
     let a = (start read).args in
-    whole-text (namesIn a.table.now) a.text.now a.formula.now (short read).if1.false (text-read read _ whole.x2.given.1)
+    whole-text (names_in a.table.now) a.text.now a.formula.now (short read).if1.false (text-read read _ whole.x2.given.1)
     c.before.before.answer.ensures
 
 pub read-text-over-spec : {M : Type 1} → statement M

@@ -3,7 +3,7 @@ use borrow.Author.Rules.{rules}
 use mathlib.Core.Path.{◌∙◌}
 use native.Mathlib.Omega.{arith}
 use Rattle.formula_pieces.proofs.Laws.Adds.{room_after}
-use Rattle.formula_walk.proofs.Laws.Closing.{Closing, closing-start, closing-more, closing-bar, closing_end}
+use Rattle.formula_walk.proofs.Laws.Closing.{Closing, closing-start, closing-more, closing_bar, closing_end}
 use Rattle.formula_walk.proofs.close.Statement.{statement}
 use Rattle.formula_walk.proofs.close.Tie as tie
 
@@ -37,7 +37,7 @@ returns : tie.Need-returns invariant-loop decreases-loop
 returns c =
     let put = c.before.before.before.before in
     let turn = put.before.before.before in
-    closing-bar _ _ _ _ turn.before.loop.invariant turn.loop-test.true put.put.ensures c.before.if1.true c.place_at.result c.place_at.ensures
+    closing_bar _ _ _ _ turn.before.loop.invariant turn.loop-test.true put.put.ensures c.before.if1.true c.place_at.result c.place_at.ensures
 
 loop-again : tie.Need-loop-preserved invariant-loop decreases-loop
 loop-again c =

@@ -4,9 +4,9 @@ use mathlib.Core.Bool.{Bool}
 use mathlib.Core.List.{List}
 use Prim.Native.Nat.{ℕ}
 use native.Mathlib.Omega.{arith}
-use Rattle.lts.specs.inner.Prepared.{tableIn}
-use Rattle.formulas.specs.inner.Access.{condIn}
-use Rattle.formula_walk.proofs.Laws.NodeTexts.{over-less, ex-within, ax-within, until-within, both-within, alone-walks, true-walks, or-walks}
+use Rattle.lts.specs.inner.Prepared.{table_in}
+use Rattle.formulas.specs.inner.Access.{cond_in}
+use Rattle.formula_walk.proofs.Laws.NodeTexts.{over_less, ex-within, ax-within, until-within, both-within, alone-walks, true-walks, or-walks}
 use Rattle.formula_walk.proofs.Laws.Walk.{alone-not, alone-ex, alone-ax, alone-until, alone-until-then}
 use Rattle.formula_walk.proofs.write_node.Statement.{statement}
 use Rattle.formula_walk.proofs.write_node.Tie as tie
@@ -14,7 +14,7 @@ use Rattle.formula_walk.proofs.write_node.Tie as tie
 -- What a node is written over.
 module _ (start : tie.Start) where
   abbrev N : List (List ℕ)
-  N = (tableIn start.args.table.now).names
+  N = (table_in start.args.table.now).names
 
   abbrev arm : Bool
   arm = start.args.arm
@@ -23,26 +23,26 @@ put-keyword-requires : tie.Need-put-keyword-requires
 put-keyword-requires c κs =
     let told = c.before.before in
     let start = told.before.before.before.before.before in
-    (over-less start.requires.0.0 567 (omega arith), ex-within _ _ start.requires.1 _ told.node.given.1)
+    (over_less start.requires.0.0 567 (omega arith), ex-within _ _ start.requires.1 _ told.node.given.1)
 
 put-keyword-requires-2 : tie.Need-put-keyword-requires-2
 put-keyword-requires-2 c κs =
     let told = c.before.before in
     let start = told.before.before.before.before.before in
-    (over-less start.requires.0.0 567 (omega arith), ax-within _ _ start.requires.1 _ told.node2.given.1)
+    (over_less start.requires.0.0 567 (omega arith), ax-within _ _ start.requires.1 _ told.node2.given.1)
 
 put-keyword-requires-3 : tie.Need-put-keyword-requires-3
 put-keyword-requires-3 c κs =
     let told = c.before.before in
     let start = told.before.before.before.before.before in
-    (over-less start.requires.0.0 567 (omega arith), until-within _ _ start.requires.1 _ told.node3.given.1)
+    (over_less start.requires.0.0 567 (omega arith), until-within _ _ start.requires.1 _ told.node3.given.1)
 
 put-until-then-requires : tie.Need-put-until-then-requires
 put-until-then-requires c κs =
     let told = c.before.before in
     let start = told.before.before.before.before.before in
     let both = both-within _ _ start.requires.1 _ _ told.node4.given.1 in
-    (over-less start.requires.0.0 1130 (omega arith), both.0, both.1)
+    (over_less start.requires.0.0 1130 (omega arith), both.0, both.1)
 
 returns : tie.Need-returns
 returns c =
@@ -68,14 +68,14 @@ returns-4 c =
     let put = c.before.before.before in
     let told = put.before.before.before in
     let start = told.before.before.before.before.before in
-    alone-walks (N start) _ (arm start) _ _ _ _ _ told.node.given.1 (alone-ex _ _ _ (condIn told.node.given.0.0)) put.put-keyword.ensures c.arm_at.result c.arm_at.ensures
+    alone-walks (N start) _ (arm start) _ _ _ _ _ told.node.given.1 (alone-ex _ _ _ (cond_in told.node.given.0.0)) put.put-keyword.ensures c.arm_at.result c.arm_at.ensures
 
 returns-5 : tie.Need-returns-5
 returns-5 c =
     let put = c.before.before.before in
     let told = put.before.before.before in
     let start = told.before.before.before.before.before in
-    alone-walks (N start) _ (arm start) _ _ _ _ _ told.node2.given.1 (alone-ax _ _ _ (condIn told.node2.given.0.0)) put.put-keyword2.ensures c.arm-at2.result c.arm-at2.ensures
+    alone-walks (N start) _ (arm start) _ _ _ _ _ told.node2.given.1 (alone-ax _ _ _ (cond_in told.node2.given.0.0)) put.put-keyword2.ensures c.arm-at2.result c.arm-at2.ensures
 
 returns-6 : tie.Need-returns-6
 returns-6 c =

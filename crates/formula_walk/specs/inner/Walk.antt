@@ -2,26 +2,26 @@
 use Rattle.std.specs.Prelude.{◌≡◌, Bool, cond, not, ◌&&◌, List, [], ◌∷◌, ◌++◌, ℕ, zero, suc, ◌+◌, ◌≤◌, eqb, length, get_or}
 use Rattle.std.proofs.Math.Option.{some}
 use Rattle.lts.specs.Steps.{labels}
-use Rattle.lts.specs.inner.Prepared.{tableIn}
+use Rattle.lts.specs.inner.Prepared.{table_in}
 use Rattle.actl.specs.Formulas.{Formula}
 use Rattle.actl.specs.Prepared.{Slot}
-use Rattle.actl.specs.inner.Prepared.{preparedFormula}
-use Rattle.written_back.specs.FormulaText.{setText, inSquare, formulaText}
+use Rattle.actl.specs.inner.Prepared.{prepared_formula}
+use Rattle.written_back_lem.specs.FormulaText.{set_text, in_square, formula_text}
 use Rattle.formula_walk.specs.declared.Place.{Place}
 use Rattle.formula_pieces.specs.inner.Adds.{Adds}
 
 -- A keyword with its square bracket.
 abbrev pub keyword : ℕ → ℕ → List ℕ → List ℕ
-keyword a b s = a ∷ b ∷ inSquare s
+keyword a b s = a ∷ b ∷ in_square s
 
 abbrev pub chosen : ℕ → ℕ → List ℕ → List ℕ → List ℕ
 chosen kind k this other = cond (eqb kind k) this other
 
 -- What is written of the node itself, by its slot.
-abbrev pub slotText : List (List ℕ) → Slot → List ℕ
-slotText N s =
+abbrev pub slot_text : List (List ℕ) → Slot → List ℕ
+slot_text N s =
     let k = s.kind in
-    let first = setText N s.first in
+    let first = set_text N s.first in
     chosen k 1 (84 ∷ []) (
     chosen k 2 (126 ∷ []) (
     chosen k 3 [] (
@@ -30,7 +30,7 @@ slotText N s =
     chosen k 6 (keyword 65 88 (46 ∷ [])) (
     chosen k 7 (keyword 65 88 first) (
     chosen k 8 (keyword 69 85 first) (
-    chosen k 9 (keyword 69 85 (first ++ (59 ∷ setText N s.second))) []))))))))
+    chosen k 9 (keyword 69 85 (first ++ (59 ∷ set_text N s.second))) []))))))))
 
 -- What is pending is written up to the next `|`, the top first; the rest stays pending.
 abbrev pub drained : List ℕ → List ℕ
@@ -48,19 +48,19 @@ opening arm kind = cond (arm && eqb kind 3) (40 ∷ []) []
 abbrev pub closing : ℕ → List ℕ → List ℕ
 closing kind p = cond (eqb kind 1) (drained p) []
 
-abbrev pub writtenAt : List (List ℕ) → Slot → Bool → List ℕ → List ℕ
-writtenAt N s arm p = opening arm s.kind ++ (slotText N s ++ closing s.kind p)
+abbrev pub written_at : List (List ℕ) → Slot → Bool → List ℕ → List ℕ
+written_at N s arm p = opening arm s.kind ++ (slot_text N s ++ closing s.kind p)
 
 -- Whether the next node is an arm that may need brackets, and what is pending there.
-abbrev pub armAfter : ℕ → Bool
-armAfter kind = not (eqb kind 3)
+abbrev pub arm_after : ℕ → Bool
+arm_after kind = not (eqb kind 3)
 
-abbrev pub pendingAfter : ℕ → Bool → List ℕ → List ℕ
-pendingAfter kind arm p = cond (eqb kind 1) (rested p) (cond (eqb kind 3) (124 ∷ cond arm (41 ∷ p) p) p)
+abbrev pub pending_after : ℕ → Bool → List ℕ → List ℕ
+pending_after kind arm p = cond (eqb kind 1) (rested p) (cond (eqb kind 3) (124 ∷ cond arm (41 ∷ p) p) p)
 
 abbrev pub walked : List (List ℕ) → List Slot → Bool → List ℕ → List ℕ
 walked N [] arm p = []
-walked N (s ∷ l) arm p = writtenAt N s arm p ++ walked N l (armAfter s.kind) (pendingAfter s.kind arm p)
+walked N (s ∷ l) arm p = written_at N s arm p ++ walked N l (arm_after s.kind) (pending_after s.kind arm p)
 
 -- What is pending, as the first `top` bytes of an array hold it.
 abbrev pub stack_of : List ℕ → ℕ → List ℕ
@@ -76,10 +76,10 @@ pub record Stack (b : List ℕ) (top : ℕ) : Type 0 where
 pub record Walks (l q : List ℕ) (arm : Bool) (top at : ℕ) (e x p pending : List ℕ) (r : Place) : Type 0 where
   pub adds : Adds l at e x r.at
   pub left : stack_of pending r.top ≡ q
-  pub next-arm : r.arm ≡ arm
+  pub next_arm : r.arm ≡ arm
   pub few : r.top ≤ top + 2
   pub long : length pending ≡ length p
 
 -- All of a prepared formula's text.
 pub record TextAdded (table formula e x : List ℕ) (n : ℕ) : Type 0 where
-  pub adds : (F : Formula) → preparedFormula (labels (tableIn table)) formula ≡ some F → Adds (formulaText (tableIn table).names F) 0 e x n
+  pub adds : (F : Formula) → prepared_formula (labels (table_in table)) formula ≡ some F → Adds (formula_text (table_in table).names F) 0 e x n

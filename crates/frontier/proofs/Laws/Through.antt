@@ -37,13 +37,13 @@ module _ {A : Type 0} (f : ℕ → A → A) (n : ℕ) where
             left-next k a x ∙ (ap (left (k + 1)) (idle k a (h k (omega arith) (omega arith))) ∙ (more ∙ ap (λ j. left j a) same))
         case (no x) more = left_over k a (omega arith) ∙ sym (left_over (k + suc d) a (omega arith))
 
-    pub left-skip : {m k r : ℕ} (a : A) → FirstFrom p k m r → left k a ≡ left r a
-    left-skip {m} {k} {r} a h =
+    pub left_skip : {m k r : ℕ} (a : A) → FirstFrom p k m r → left k a ≡ left r a
+    left_skip {m} {k} {r} a h =
         let far : k + (r - k) ≡ r = omega (arith, h.from) in
         skip (r - k) k a (λ j x y. h.none j x (omega (arith, h.from))) ∙ ap (λ j. left j a) far
 
-    pub left-turn : {m k r : ℕ} (a b : A) → k < n → f k a ≡ b → FirstFrom p (k + 1) m r → left k a ≡ left r b
-    left-turn {m} {k} a b h e g = left-next k a h ∙ (ap (left (k + 1)) e ∙ left-skip b g)
+    pub left_turn : {m k r : ℕ} (a b : A) → k < n → f k a ≡ b → FirstFrom p (k + 1) m r → left k a ≡ left r b
+    left_turn {m} {k} a b h e g = left-next k a h ∙ (ap (left (k + 1)) e ∙ left_skip b g)
 
 -- A test that number k adds h k to, of what is good.
 module _ {A : Type 0} (f : ℕ → A → A) (g : A → Bool) (h : ℕ → Bool) (Good : A → Type 0) (limit : ℕ)
@@ -57,11 +57,11 @@ module _ {A : Type 0} (f : ℕ → A → A) (g : A → Bool) (h : ℕ → Bool) 
       through-adds n (suc k) (f k a) (omega arith) (good k a here x)
       ∙ (ap (λ c. c || any_of h (up_from (suc k) n)) (adds k a here x) ∙ or_assoc (g a) (h k) (any_of h (up_from (suc k) n)))
 
-pub through-good : {A : Type 0} (f : ℕ → A → A) (Good : A → Type 0) (limit : ℕ) → ((k : ℕ) (a : A) → k < limit → Good a → Good (f k a))
+pub through_good : {A : Type 0} (f : ℕ → A → A) (Good : A → Type 0) (limit : ℕ) → ((k : ℕ) (a : A) → k < limit → Good a → Good (f k a))
     → (n k : ℕ) (a : A) → k + n ≤ limit → Good a → Good (through f n k a)
 unfolding through
-through-good f Good limit good zero k a b x = x
-through-good f Good limit good (suc n) k a b x = through-good f Good limit good n (suc k) (f k a) (omega arith) (good k a (omega arith) x)
+through_good f Good limit good zero k a b x = x
+through_good f Good limit good (suc n) k a b x = through_good f Good limit good n (suc k) (f k a) (omega arith) (good k a (omega arith) x)
 
 pub through_same : {A : Type 0} (f g : ℕ → A → A) (limit : ℕ) → ((k : ℕ) (a : A) → k < limit → f k a ≡ g k a)
     → (n k : ℕ) (a : A) → k + n ≤ limit → through f n k a ≡ through g n k a

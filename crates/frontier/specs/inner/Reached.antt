@@ -2,62 +2,62 @@
 use Rattle.std.specs.Prelude.{◌≡◌, Bool, cond, ◌&&◌, List, [], ◌∷◌, ℕ, ◌+◌, ◌*◌, ◌≤◌, ◌<◌, eqb, length, get_or}
 use Rattle.std.proofs.Math.Option.{some}
 use Rattle.std.specs.Int.Bits.{bit_or}
-use Rattle.automaton.specs.inner.Sizes.{placeCount, columnCount}
-use Rattle.lts.specs.Sizes.{mostStates}
+use Rattle.automaton.specs.inner.Sizes.{place_count, column_count}
+use Rattle.lts.specs.Sizes.{most_states}
 use Rattle.lts.specs.inner.Lists.{up_from}
 use Rattle.lts.specs.Lists.{any_of as any}
 use Rattle.lts.specs.Steps.{Step, labels}
 use Rattle.lts.specs.inner.Steps.{Carried}
-use Rattle.lts.specs.inner.Prepared.{tableIn}
+use Rattle.lts.specs.inner.Prepared.{table_in}
 use Rattle.actl.specs.Formulas.{Formula}
-use Rattle.actl.specs.inner.Prepared.{preparedFormula}
-use Rattle.until_search.specs.inner.Flags.{flagAt}
-use Rattle.automaton.specs.inner.Search.{onLabel}
-use Rattle.target_masks.specs.inner.Masks.{maskOn}
+use Rattle.actl.specs.inner.Prepared.{prepared_formula}
+use Rattle.until_search.specs.inner.Flags.{flag_at}
+use Rattle.automaton.specs.inner.Search.{on_label}
+use Rattle.target_masks.specs.inner.Masks.{mask_on}
 use Rattle.bits.specs.inner.Bits.{bit_at}
 use Rattle.automaton.specs.inner.Words.{accepts}
-use Rattle.frontier.specs.inner.Frontier.{hasState, nowhere, emptied, brought, through}
+use Rattle.frontier.specs.inner.Frontier.{has_state, nowhere, emptied, brought, through}
 
 -- The target places of a set of places: with those of place k, if it is in the set; and of all of them.
-abbrev pub targetsAdded : List ℕ → ℕ → ℕ → ℕ → ℕ → ℕ
-targetsAdded masks places l k found = cond (bit_at places k) (bit_or found (maskOn masks k l)) found
+abbrev pub targets_added : List ℕ → ℕ → ℕ → ℕ → ℕ → ℕ
+targets_added masks places l k found = cond (bit_at places k) (bit_or found (mask_on masks k l)) found
 
-abbrev pub targetsOf : List ℕ → ℕ → ℕ → ℕ
-targetsOf masks places l = through (targetsAdded masks places l) placeCount 0 0
+abbrev pub targets_of : List ℕ → ℕ → ℕ → ℕ
+targets_of masks places l = through (targets_added masks places l) place_count 0 0
 
 -- A step with the label l brings places to the state that it leads to.
-abbrev pub stepTaken : ℕ → ℕ → Step → List ℕ → List ℕ
-stepTaken l places st next = cond (onLabel l st) (brought st.to places next) next
+abbrev pub step_taken : ℕ → ℕ → Step → List ℕ → List ℕ
+step_taken l places st next = cond (on_label l st) (brought st.to places next) next
 
-unfoldable pub stepsTaken : ℕ → ℕ → List Step → List ℕ → List ℕ
-stepsTaken l places [] next = next
-stepsTaken l places (st ∷ steps) next = stepsTaken l places steps (stepTaken l places st next)
+unfoldable pub steps_taken : ℕ → ℕ → List Step → List ℕ → List ℕ
+steps_taken l places [] next = next
+steps_taken l places (st ∷ steps) next = steps_taken l places steps (step_taken l places st next)
 
 -- What a letter brings from places of a state, along the steps that leave it; from s, if it has places; and from all states.
-abbrev pub placesRead : List Step → List ℕ → ℕ → ℕ → List ℕ → List ℕ
-placesRead steps masks places l next = cond (eqb (targetsOf masks places l) 0) next (stepsTaken l (targetsOf masks places l) steps next)
+abbrev pub places_read : List Step → List ℕ → ℕ → ℕ → List ℕ → List ℕ
+places_read steps masks places l next = cond (eqb (targets_of masks places l) 0) next (steps_taken l (targets_of masks places l) steps next)
 
-abbrev pub stateRead : (ℕ → List Step) → List ℕ → List ℕ → ℕ → ℕ → List ℕ → List ℕ
-stateRead from masks reached l s next = cond (hasState reached s) (placesRead (from s) masks (get_or reached s 0) l next) next
+abbrev pub state_read : (ℕ → List Step) → List ℕ → List ℕ → ℕ → ℕ → List ℕ → List ℕ
+state_read from masks reached l s next = cond (has_state reached s) (places_read (from s) masks (get_or reached s 0) l next) next
 
-abbrev pub letterRead : (ℕ → List Step) → List ℕ → ℕ → List ℕ → List ℕ → List ℕ
-letterRead from masks l reached next = through (stateRead from masks reached l) mostStates 0 (emptied next)
+abbrev pub letter_read : (ℕ → List Step) → List ℕ → ℕ → List ℕ → List ℕ → List ℕ
+letter_read from masks l reached next = through (state_read from masks reached l) most_states 0 (emptied next)
 
 -- Two frontiers take turns.
-unfoldable pub wordRead : (ℕ → List Step) → List ℕ → List ℕ → List ℕ → List ℕ → List ℕ
-wordRead from masks [] reached next = reached
-wordRead from masks (l ∷ w) reached next = wordRead from masks w (letterRead from masks l reached next) reached
+unfoldable pub word_read : (ℕ → List Step) → List ℕ → List ℕ → List ℕ → List ℕ → List ℕ
+word_read from masks [] reached next = reached
+word_read from masks (l ∷ w) reached next = word_read from masks w (letter_read from masks l reached next) reached
 
 -- The root at the start state alone.
-abbrev pub rootReached : ℕ → List ℕ
-rootReached start = brought start 1 nowhere
+abbrev pub root_reached : ℕ → List ℕ
+root_reached start = brought start 1 nowhere
 
 -- Some place of a set is final.
-abbrev pub finalPlace : List Bool → ℕ → ℕ → Bool
-finalPlace finals places k = bit_at places k && flagAt finals k
+abbrev pub final_place : List Bool → ℕ → ℕ → Bool
+final_place finals places k = bit_at places k && flag_at finals k
 
-abbrev pub someFinal : List Bool → ℕ → Bool
-someFinal finals places = any (finalPlace finals places) (up_from 0 placeCount)
+abbrev pub some_final : List Bool → ℕ → Bool
+some_final finals places = any (final_place finals places) (up_from 0 place_count)
 
 -- Letters that have a mask.
 pub record Letters (w : List ℕ) : Type 0 where
@@ -65,4 +65,4 @@ pub record Letters (w : List ℕ) : Type 0 where
 
 -- The answer for the table and the formula in bytes.
 pub record AcceptsAnswer (table formula w : List ℕ) (r : Bool) : Type 0 where
-  pub answer : (F : Formula) → preparedFormula (labels (tableIn table)) formula ≡ some F → r ≡ accepts (tableIn table) F w
+  pub answer : (F : Formula) → prepared_formula (labels (table_in table)) formula ≡ some F → r ≡ accepts (table_in table) F w

@@ -5,12 +5,12 @@ use Prim.Native.Nat.{ℕ}
 use lib.Dec.{leb, eqb}
 use borrow.Author.Rules.{rules}
 use borrow.Author.Tests.{eq-eqb, ne_eqb, le-leb, lt-leb}
-use Rattle.lts.specs.Names.{isLower, isNameByte}
+use Rattle.lts.specs.Names.{is_lower, is_name_byte}
 use Rattle.label_names.proofs.is_name_byte.Statement.{statement}
 use Rattle.label_names.proofs.is_name_byte.Tie as tie
 
 -- No letter: the rest decides, test by test.
-no-letter : (b : ℕ) (s d : Bool) → isLower b ≡ false → eqb b 95 ≡ s → (leb 48 b && leb b 57) ≡ d → (s || d) ≡ isNameByte b
+no-letter : (b : ℕ) (s d : Bool) → is_lower b ≡ false → eqb b 95 ≡ s → (leb 48 b && leb b 57) ≡ d → (s || d) ≡ is_name_byte b
 no-letter b s d l e f =
     sym (ap (λ (t : Bool). t || (eqb b 95 || (leb 48 b && leb b 57))) l ∙ (ap (λ (t : Bool). t || (leb 48 b && leb b 57)) e ∙ ap (λ (t : Bool). s || t) f))
 

@@ -4,8 +4,8 @@ use mathlib.Core.Path.{◌≡◌, refl, ap}
 use Prim.Native.Nat.{◌+◌, ◌-◌, ◌*◌}
 use native.Mathlib.Omega.{arith}
 use lib.ListN.{take, drop}
-use Rattle.lts.specs.inner.Sizes.{headLength}
-use Rattle.lts.specs.Sizes.{nameSlotLength}
+use Rattle.lts.specs.inner.Sizes.{head_length}
+use Rattle.lts.specs.Sizes.{name_slot_length}
 use Rattle.lts.specs.inner.Prepared.{byte_at}
 use Rattle.label_names.proofs.name_span.Statement.{statement}
 use Rattle.label_names.proofs.name_span.Tie as tie
@@ -14,9 +14,9 @@ returns : tie.Need-returns
 returns c =
     let a = c.before.before.args in
     let b = a.table.now in
-    let at = headLength + 1 + a.k * nameSlotLength in
+    let at = head_length + 1 + a.k * name_slot_length in
     let size = c.byte.ensures in
-    let long : at + c.byte.result - at ≡ byte_at b (headLength + a.k * nameSlotLength) = omega (arith, size.count) in
+    let long : at + c.byte.result - at ≡ byte_at b (head_length + a.k * name_slot_length) = omega (arith, size.count) in
     record {
       starts = refl;
       ends = ap (λ n. at + n) size.count;

@@ -1,10 +1,10 @@
--- `stem_end` answers `stemEnd`: the invariant is `StemSoFar`, what is left of the run.
+-- `stem_end` answers `stem_end`: the invariant is `StemSoFar`, what is left of the run.
 use borrow.Author.Tests.{not-true, not-false}
 use mathlib.Core.Path.{sym, ◌∙◌}
 use Prim.Native.Nat.{◌+◌, ◌-◌}
 use borrow.Author.Rules.{rules}
 use native.Mathlib.Omega.{arith}
-use Rattle.lts.proofs.Laws.Stems.{StemSoFar, no_text, no-letter, run-starts, run-at-end, run-stops, run-goes-on, run-full}
+use Rattle.lts.proofs.Laws.Stems.{StemSoFar, no_text, no_letter, run-starts, run-at-end, run-stops, run_goes_on, run-full}
 use Rattle.label_names.proofs.stem_end.Statement.{statement}
 use Rattle.label_names.proofs.stem_end.Tie as tie
 
@@ -36,7 +36,7 @@ cast-is-lower c = record { fits = omega (arith, (c.shared-slice-known2.given c.b
 returns-2 : tie.Need-returns-2 invariant-loop decreases-loop
 returns-2 c =
     let some = c.before.before.before in
-    no-letter (entry some).args.text.now (entry some).args.from some.if1.false (sym c.before.is-lower.ensures ∙ not-true _ c.if2.true)
+    no_letter (entry some).args.text.now (entry some).args.from some.if1.false (sym c.before.is-lower.ensures ∙ not-true _ c.if2.true)
 
 loop-holds : tie.Need-loop-init invariant-loop decreases-loop
 loop-holds c =
@@ -79,7 +79,7 @@ loop-again c =
     let read = c.before in
     let start = begun (turn read) in
     let l = (turn read).loop in
-    run-goes-on start.args.text.now start.args.from l.n l.inv read.before.before.before.loop-test.true read.before.before.if3.false
+    run_goes_on start.args.text.now start.args.from l.n l.inv read.before.before.before.loop-test.true read.before.before.if3.false
     (sym c.before.is-name-byte.ensures ∙ not-false _ c.if4.false)
 
 add-result : tie.Need-overflow-add-result invariant-loop decreases-loop

@@ -6,9 +6,9 @@ use mathlib.Core.Path.{◌∙◌}
 use Prim.Native.Nat.{◌+◌, ◌*◌}
 use native.Mathlib.Omega.{arith}
 use lib.ListN.{length-set}
-use Rattle.automaton.specs.Bytes.{edgeLength}
-use Rattle.listing.specs.inner.Places.{edgeTo}
-use Rattle.listing.proofs.Laws.Stores.{edge-in-place}
+use Rattle.automaton.specs.Bytes.{edge_length}
+use Rattle.listing.specs.inner.Places.{edge_to}
+use Rattle.listing.proofs.Laws.Stores.{edge_in_place}
 
 put-pair-requires-2 : tie.Need-put-pair-requires-2
 put-pair-requires-2 c κs = simp length-set (omega (arith, c.before.before.before.put-pair.auto.0))
@@ -17,13 +17,13 @@ same_length : tie.Need-same-length
 same_length c =
     let first = c.before.before.before.before.before.before in
     let a = first.before.before.before.args in
-    c.before.before.put-pair2.auto.0 ∙ (length-set first.put-pair.new.0 (a.n * edgeLength + 2) a.label ∙ first.put-pair.auto.0)
+    c.before.before.put-pair2.auto.0 ∙ (length-set first.put-pair.new.0 (a.n * edge_length + 2) a.label ∙ first.put-pair.auto.0)
 
 returns : tie.Need-returns
 returns c =
     let first = c.before.before.before.before.before.before in
     let a = first.before.before.before.args in
-    edge-in-place a.n (edgeTo a.row a.label a.target) a.out.now first.before.before.before.requires.0
+    edge_in_place a.n (edge_to a.row a.label a.target) a.out.now first.before.before.before.requires.0
     first.put-pair.ensures c.before.before.put-pair2.ensures
 
 pub put-edge-spec : {M : Type 1} → statement M

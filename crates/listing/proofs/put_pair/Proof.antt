@@ -5,7 +5,7 @@ use Rattle.listing.proofs.put_pair.Tie as tie
 use Prim.Native.Nat.{◌/◌, ◌%◌}
 use native.Mathlib.Omega.{arith}
 use lib.ListN.{length-set}
-use Rattle.listing.proofs.Laws.Stores.{two-stores}
+use Rattle.listing.proofs.Laws.Stores.{two_stores}
 
 cast-out : tie.Need-overflow-cast-out
 cast-out c = search rules
@@ -26,7 +26,7 @@ same_length : tie.Need-same-length
 same_length c = simp length-set
 
 returns : tie.Need-returns
-returns c = two-stores _ _ _ _ c.requires
+returns c = two_stores _ _ _ _ c.requires
 
 pub put-pair-spec : {M : Type 1} → statement M
 put-pair-spec = tie.close (tie.spec cast-out slice-write-out cast-out-2 add-out slice-write-out-2 same_length returns)

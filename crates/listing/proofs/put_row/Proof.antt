@@ -7,10 +7,10 @@ use mathlib.Core.List.{[], ◌∷◌}
 use Prim.Native.Nat.{◌*◌}
 use native.Mathlib.Omega.{arith}
 use lib.ListN.{length-set}
-use Rattle.automaton.specs.Bytes.{rowLength}
+use Rattle.automaton.specs.Bytes.{row_length}
 use Rattle.columns.specs.inner.Write.{pasted}
-use Rattle.listing.specs.inner.Places.{putRow}
-use Rattle.listing.proofs.Laws.Stores.{three-stores}
+use Rattle.listing.specs.inner.Places.{put_row}
+use Rattle.listing.proofs.Laws.Stores.{three_stores}
 
 slice-write-out-2 : tie.Need-slice-write-out-2
 slice-write-out-2 c = simp length-set (omega arith)
@@ -22,11 +22,11 @@ same_length : tie.Need-same-length
 same_length c = simp length-set
 
 returns : tie.Need-returns
-unfolding putRow
+unfolding put_row
 returns c =
     let a = c.before.before.args in
-    three-stores _ _ _ _ _ c.before.before.requires.0
-    ∙ ap (λ f. pasted a.out.now (a.n * rowLength) (a.place ∷ a.state ∷ f ∷ [])) c.bit.ensures
+    three_stores _ _ _ _ _ c.before.before.requires.0
+    ∙ ap (λ f. pasted a.out.now (a.n * row_length) (a.place ∷ a.state ∷ f ∷ [])) c.bit.ensures
 
 pub put-row-spec : {M : Type 1} → statement M
 put-row-spec =

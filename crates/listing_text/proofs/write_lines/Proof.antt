@@ -4,13 +4,13 @@ use Rattle.listing_text.proofs.write_lines.Statement.{statement}
 use Rattle.listing_text.proofs.write_lines.Tie as tie
 use Prim.Native.Nat.{◌-◌, ◌≤◌}
 use native.Mathlib.Omega.{arith}
-use Rattle.columns.proofs.Laws.Pasting.{pasting-length}
+use Rattle.columns.proofs.Laws.Pasting.{pasting_length}
 use Rattle.explanations.proofs.Printing.{Lines}
-use Rattle.listing_text.specs.inner.Lines.{lineText, lineWidth}
+use Rattle.listing_text.specs.inner.Lines.{line_text, line_width}
 use Rattle.listing_text.proofs.Laws.Lines.{AreBytes, lines_start, line-fits, line-more, lines-written}
 
 abbrev invariant-loop : tie.invariant-loop
-invariant-loop of-rows bytes count out₀ at end₀ i₀ out end i = Lines (lineText of-rows bytes) (lineWidth of-rows) out₀ at out end i × (i ≤ count)
+invariant-loop of-rows bytes count out₀ at end₀ i₀ out end i = Lines (line_text of-rows bytes) (line_width of-rows) out₀ at out end i × (i ≤ count)
 
 abbrev decreases-loop : tie.decreases-loop
 decreases-loop of-rows bytes count out₀ at end₀ i₀ out end i = count - i
@@ -38,7 +38,7 @@ loop-again c =
     (line-more known.before.requires l.invariant.0 in-loop.loop-test.true bytes c.before.before.write-line.ensures, omega arith)
 
 same_length : tie.Need-same-length invariant-loop decreases-loop
-same_length c = pasting-length c.before.loop.invariant.0.pasting
+same_length c = pasting_length c.before.loop.invariant.0.pasting
 
 returns : tie.Need-returns invariant-loop decreases-loop
 returns c =

@@ -3,10 +3,10 @@ use borrow.Author.Rules.{rules}
 use Rattle.listing_text.proofs.write_listing.Statement.{statement}
 use Rattle.listing_text.proofs.write_listing.Tie as tie
 use native.Mathlib.Omega.{arith}
-use Rattle.explanations.specs.inner.Printed.{rowsText, edgesText}
-use Rattle.explanations.specs.Printed.{summaryLine}
-use Rattle.explanations.proofs.Printing.{three-texts}
-use Rattle.listing_text.specs.inner.Lines.{summaryOf}
+use Rattle.explanations.specs.inner.Printed.{rows_text, edges_text}
+use Rattle.explanations.specs.Printed.{summary_line}
+use Rattle.explanations.proofs.Printing.{three_texts}
+use Rattle.listing_text.specs.inner.Lines.{summary_of}
 
 write-numbers-requires : tie.Need-write-numbers-requires
 write-numbers-requires c κs = search rules
@@ -35,8 +35,8 @@ returns c =
     let first = x.write-numbers.ensures in
     let rows = y.write-lines.ensures in
     let edges = z.write-lines2.ensures in
-    let summary = summaryLine (summaryOf a.verdict a.class a.rowcount a.edgecount) in
-    let h = three-texts a.out.now summary (rowsText a.rows.now a.rowcount) (edgesText a.edges.now a.edgecount)
+    let summary = summary_line (summary_of a.verdict a.class a.rowcount a.edgecount) in
+    let h = three_texts a.out.now summary (rows_text a.rows.now a.rowcount) (edges_text a.edges.now a.edgecount)
     (omega (arith, first.1.1, rows.wide, edges.wide)) (omega (arith, rows.wide)) (omega (arith, edges.wide))
     first.1.0 first.0 rows.is rows.ends edges.is edges.ends in
     record { is = h.0; ends = h.1 }

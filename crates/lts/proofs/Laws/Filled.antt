@@ -10,8 +10,8 @@ use Rattle.columns.specs.Bytes.{padded}
 use Rattle.lts.specs.inner.Lists.{up_from}
 use Rattle.lts.specs.Lists.{bind}
 use Rattle.lts.specs.inner.Prepared.{byte_at}
-use Rattle.lts.proofs.Lists.{upFrom-snoc, bind-append}
-use Rattle.lts.proofs.Laws.Contents.{map-upFrom-length, map-upFrom-at}
+use Rattle.lts.proofs.Lists.{up_from_snoc, bind_append}
+use Rattle.lts.proofs.Laws.Contents.{map-up_from-length, map-up_from-at}
 
 pub bind-map : {A B C : Type 0} (g : B → List C) (h : A → B) (l : List A) → bind g (map h l) ≡ bind (λ x. g (h x)) l
 bind-map g h [] = refl
@@ -20,8 +20,8 @@ bind-map g h (x ∷ l) = ap (λ m. g (h x) ++ m) (bind-map g h l)
 -- A beginning, byte by byte.
 pub take-bytes : (n : ℕ) (s : List ℕ) → n ≤ length s → take n s ≡ map (byte_at s) (up_from 0 n)
 take-bytes n s h =
-    ext_get_or 0 (take n s) (map (byte_at s) (up_from 0 n)) (length-take-le n s h ∙ sym (map-upFrom-length (byte_at s) n))
-    (λ i k. let few : i < n = omega (arith, length-take-le n s h) in get_or-take n s i 0 few ∙ sym (map-upFrom-at (byte_at s) n i 0 few))
+    ext_get_or 0 (take n s) (map (byte_at s) (up_from 0 n)) (length-take-le n s h ∙ sym (map-up_from-length (byte_at s) n))
+    (λ i k. let few : i < n = omega (arith, length-take-le n s h) in get_or-take n s i 0 few ∙ sym (map-up_from-at (byte_at s) n i 0 few))
 
 pub take-zeros : (n : ℕ) (s : List ℕ) → n ≤ length s → ((i : ℕ) → i < n → byte_at s i ≡ 0) → take n s ≡ replicate n 0
 take-zeros n s h z =
@@ -34,7 +34,7 @@ slots-are f w s (suc n) h =
     ap (λ (m : ℕ). take m s) (suc-mul n w)
     ∙ (take-add (n * w) w s
     ∙ (ap₂ (λ (a b : List ℕ). a ++ b) (slots-are f w s n (λ k l. h k (omega arith))) (h n (omega arith) ∙ sym (append-nil (f n)))
-    ∙ (sym (bind-append f (up_from 0 n) (n ∷ [])) ∙ ap (bind f) (sym (upFrom-snoc n)))))
+    ∙ (sym (bind_append f (up_from 0 n) (n ∷ [])) ∙ ap (bind f) (sym (up_from_snoc n)))))
 
 -- Slots with zeros behind them.
 pub filled : (f : ℕ → List ℕ) (w n total : ℕ) (s : List ℕ) → n * w ≤ total → total ≤ length s

@@ -4,7 +4,7 @@ use mathlib.Core.Logic.{◌⊎◌, inl, inr}
 use mathlib.Core.List.Memᴰ
 use mathlib.Core.List.{List, [], ◌∷◌, ◌++◌, append_assoc, append-nil, Memᴰ}
 use Rattle.lts.specs.Lists.{Rising}
-use Rattle.lts.proofs.Lists.{rising-append}
+use Rattle.lts.proofs.Lists.{rising_append}
 
 module _ {A : Type 0} (P : A → Type 0) (Q : List A → A → Type 0) where
   -- The second list may follow the first.
@@ -13,9 +13,9 @@ module _ {A : Type 0} (P : A → Type 0) (Q : List A → A → Type 0) where
   Grown l (x ∷ m) = P x × Q l x × Grown (l ++ (x ∷ [])) m
 
 module _ {A : Type 0} (R : A → A → Type 0) where
-  pub rising-across : (l m : List A) → Rising R (l ++ m) → (x y : A) → Memᴰ x l → Memᴰ y m → R x y
-  rising-across [] m r x y c d = absurd (Memᴰ.not-nil c)
-  rising-across (z ∷ l) m r x y c d = step (rising-across l m r.1 x y) (Memᴰ.cases_cons c)
+  pub rising_across : (l m : List A) → Rising R (l ++ m) → (x y : A) → Memᴰ x l → Memᴰ y m → R x y
+  rising_across [] m r x y c d = absurd (Memᴰ.not-nil c)
+  rising_across (z ∷ l) m r x y c d = step (rising_across l m r.1 x y) (Memᴰ.cases_cons c)
     where
       step : (Memᴰ x l → Memᴰ y m → R x y) → (x ≡ z) ⊎ Memᴰ x l → R x y
       step h (inl e) = subst (λ w. R w y) (sym e) (r.0 y (Memᴰ.append_right l d))
@@ -23,7 +23,7 @@ module _ {A : Type 0} (R : A → A → Type 0) where
 
   pub rising_snoc : (l : List A) (x : A) → Rising R l → ((y : A) → Memᴰ y l → R y x) → Rising R (l ++ (x ∷ []))
   rising_snoc l x r h =
-      rising-append R l (x ∷ []) r (λ y m. absurd (Memᴰ.not-nil m), tt) (λ y z c d. subst (R y) (sym (Memᴰ.eq_of_singleton d)) (h y c))
+      rising_append R l (x ∷ []) r (λ y m. absurd (Memᴰ.not-nil m), tt) (λ y z c d. subst (R y) (sym (Memᴰ.eq_of_singleton d)) (h y c))
 
 module _ {A : Type 0} (P : A → Type 0) (Q : List A → A → Type 0) (R : A → A → Type 0)
     (of : (l : List A) (x : A) → Rising R l → Q l x → (y : A) → Memᴰ y l → R y x)
@@ -43,4 +43,4 @@ module _ {A : Type 0} (P : A → Type 0) (Q : List A → A → Type 0) (R : A �
   pub grown-to : (l m : List A) → ((x : A) → Memᴰ x m → P x) → Rising R (l ++ m) → Grown P Q l m
   grown-to l [] p r = tt
   grown-to l (x ∷ m) p r =
-      (p x (Memᴰ.head refl), to l x (λ y d. rising-across R l (x ∷ m) r y x d (Memᴰ.head refl)), grown-to (l ++ (x ∷ [])) m (λ y d. p y (Memᴰ.tail d)) (rw append_assoc r))
+      (p x (Memᴰ.head refl), to l x (λ y d. rising_across R l (x ∷ m) r y x d (Memᴰ.head refl)), grown-to (l ++ (x ∷ [])) m (λ y d. p y (Memᴰ.tail d)) (rw append_assoc r))

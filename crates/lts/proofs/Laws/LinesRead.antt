@@ -10,21 +10,21 @@ use borrow.Author.Tests.{eqb-true, ne_eqb}
 use lib.Dec.{eqb}
 use lib.ListN.{length, get_or, take, drop, take-append-drop, length-drop, get_or-eq_default}
 use lib.Seq.{drop-cons, drop-drop, take_at, drop_at, take-append-le}
-use Rattle.columns.specs.Columns.{column, valueFrom}
+use Rattle.columns.specs.Columns.{column, value_from}
 use Rattle.columns.proofs.Laws.Compared.{Each}
-use Rattle.columns.proofs.Laws.ColumnsRead.{ColumnAt, column-wide, column-length, column-narrow, value-column}
-use Rattle.lts.specs.Reading.{Line, missing, line, longer, firstLine}
+use Rattle.columns.proofs.Laws.ColumnsRead.{ColumnAt, column-wide, column-length, column_narrow, value-column}
+use Rattle.lts.specs.Reading.{Line, missing, line, longer, first_line}
 
 abbrev pub NoEnd : ℕ → Type 0
 NoEnd b = b ≡ 10 → ⊥
 
-pub line-here : (l rest : List ℕ) → Each NoEnd l → firstLine (l ++ (10 ∷ rest)) ≡ line l rest
+pub line-here : (l rest : List ℕ) → Each NoEnd l → first_line (l ++ (10 ∷ rest)) ≡ line l rest
 line-here [] rest h = refl
 line-here (b ∷ l) rest h = rw (ne_eqb b 10 h.0, line-here l rest h.1)
 
-pub line-parts : (x l rest : List ℕ) → firstLine x ≡ line l rest → x ≡ l ++ (10 ∷ rest)
-line-parts [] l rest e = let z : ◌≡◌ {A = ℕ} 0 1 = cc in absurd (omega arith)
-line-parts (b ∷ s) l rest e = step (eqb b 10) refl e (line-parts s)
+pub line_parts : (x l rest : List ℕ) → first_line x ≡ line l rest → x ≡ l ++ (10 ∷ rest)
+line_parts [] l rest e = let z : ◌≡◌ {A = ℕ} 0 1 = cc in absurd (omega arith)
+line_parts (b ∷ s) l rest e = step (eqb b 10) refl e (line_parts s)
   where
     more : (y : Line) → longer b y ≡ line l rest → ((m r : List ℕ) → y ≡ line m r → s ≡ m ++ (10 ∷ r)) → b ∷ s ≡ l ++ (10 ∷ rest)
     more missing d h = let z : ◌≡◌ {A = ℕ} 0 1 = cc in absurd (omega arith)
@@ -33,24 +33,24 @@ line-parts (b ∷ s) l rest e = step (eqb b 10) refl e (line-parts s)
         let second : rest ≡ r = cc in
         rw (first, second) (ap (λ z. b ∷ z) (h m r refl))
 
-    step : (t : Bool) → eqb b 10 ≡ t → cond t (line [] s) (longer b (firstLine s)) ≡ line l rest → ((m r : List ℕ) → firstLine s ≡ line m r → s ≡ m ++ (10 ∷ r)) → b ∷ s ≡ l ++ (10 ∷ rest)
+    step : (t : Bool) → eqb b 10 ≡ t → cond t (line [] s) (longer b (first_line s)) ≡ line l rest → ((m r : List ℕ) → first_line s ≡ line m r → s ≡ m ++ (10 ∷ r)) → b ∷ s ≡ l ++ (10 ∷ rest)
     step true d g h =
         let first : l ≡ [] = cc in
         let second : rest ≡ s = cc in
         rw (first, second) (ap (λ z. z ∷ s) (eqb-true b 10 d))
-    step false d g h = more (firstLine s) g h
+    step false d g h = more (first_line s) g h
 
 -- A column, or a byte, and what follows.
-pub drop-further : (s : List ℕ) (at i j : ℕ) → at + i ≡ j → drop i (drop at s) ≡ drop j s
-drop-further s at i j e = drop-drop i at s ∙ ap (λ p. drop p s) e
+pub drop_further : (s : List ℕ) (at i j : ℕ) → at + i ≡ j → drop i (drop at s) ≡ drop j s
+drop_further s at i j e = drop-drop i at s ∙ ap (λ p. drop p s) e
 
 pub column-front : (s : List ℕ) (at next v : ℕ) → at + 6 ≡ next → ColumnAt s at v → drop at s ≡ column v ++ drop next s
-column-front s at next v e r = sym (take-append-drop 6 (drop at s)) ∙ ap₂ (λ x y. x ++ y) r.bytes (drop-further s at 6 next e)
+column-front s at next v e r = sym (take-append-drop 6 (drop at s)) ∙ ap₂ (λ x y. x ++ y) r.bytes (drop_further s at 6 next e)
 
-pub column-back : (s : List ℕ) (at next v : ℕ) (m : List ℕ) → at + 6 ≡ next → v < 1000000 → drop at s ≡ column v ++ m → (take 6 (drop at s) ≡ column v) × (drop next s ≡ m)
-column-back s at next v m e k d = (
+pub column_back : (s : List ℕ) (at next v : ℕ) (m : List ℕ) → at + 6 ≡ next → v < 1000000 → drop at s ≡ column v ++ m → (take 6 (drop at s) ≡ column v) × (drop next s ≡ m)
+column_back s at next v m e k d = (
   ap (take 6) d ∙ take_at (column v) m 6 (column-length v k),
-  sym (drop-further s at 6 next e) ∙ ap (drop 6) d ∙ drop_at (column v) m 6 (column-length v k),
+  sym (drop_further s at 6 next e) ∙ ap (drop 6) d ∙ drop_at (column v) m 6 (column-length v k),
 )
 
 pub byte-within : (s : List ℕ) (at b : ℕ) → b < 256 → get_or s at 256 ≡ b → at < length s
@@ -68,8 +68,8 @@ byte-front s at next b f k e =
     let next-is : suc at ≡ next = omega arith in
     drop-cons s at 256 (byte-within s at b k e) ∙ ap₂ (λ x y. x ∷ drop y s) e next-is
 
-pub byte-back : (s : List ℕ) (at next b : ℕ) (m : List ℕ) → at + 1 ≡ next → drop at s ≡ b ∷ m → (get_or s at 256 ≡ b) × (drop next s ≡ m)
-byte-back s at next b m f d =
+pub byte_back : (s : List ℕ) (at next b : ℕ) (m : List ℕ) → at + 1 ≡ next → drop at s ≡ b ∷ m → (get_or s at 256 ≡ b) × (drop next s ≡ m)
+byte_back s at next b m f d =
     let some : 0 < length (drop at s) = omega (arith, ap length d) in
     let within : at < length s = omega (arith, length-drop at s) in
     let opened : get_or s at 256 ∷ drop (suc at) s ≡ b ∷ m = sym (drop-cons s at 256 within) ∙ d in
@@ -78,11 +78,11 @@ byte-back s at next b m f d =
     ((cc), ap (λ p. drop p s) next-is ∙ rest)
 
 -- What a line's own columns hold.
-pub column-peeled : (l m : List ℕ) → l ≡ column (valueFrom 0 (take 6 l)) ++ m → (valueFrom 0 (take 6 l) < 1000000) × (drop 6 l ≡ m)
-column-peeled l m e =
-    let v = valueFrom 0 (take 6 l) in
-    let narrow : v < 1000000 = column-narrow v (ap (valueFrom 0) (sym (ap (take 6) e ∙ take-append-le 6 (column v) m (column-wide v)))) in
+pub column_peeled : (l m : List ℕ) → l ≡ column (value_from 0 (take 6 l)) ++ m → (value_from 0 (take 6 l) < 1000000) × (drop 6 l ≡ m)
+column_peeled l m e =
+    let v = value_from 0 (take 6 l) in
+    let narrow : v < 1000000 = column_narrow v (ap (value_from 0) (sym (ap (take 6) e ∙ take-append-le 6 (column v) m (column-wide v)))) in
     (narrow, ap (drop 6) e ∙ drop_at (column v) m 6 (column-length v narrow))
 
-pub column-held : (v : ℕ) (m : List ℕ) → v < 1000000 → (valueFrom 0 (take 6 (column v ++ m)) ≡ v) × (drop 6 (column v ++ m) ≡ m)
-column-held v m k = (ap (valueFrom 0) (take_at (column v) m 6 (column-length v k)) ∙ value-column v, drop_at (column v) m 6 (column-length v k))
+pub column-held : (v : ℕ) (m : List ℕ) → v < 1000000 → (value_from 0 (take 6 (column v ++ m)) ≡ v) × (drop 6 (column v ++ m) ≡ m)
+column-held v m k = (ap (value_from 0) (take_at (column v) m 6 (column-length v k)) ∙ value-column v, drop_at (column v) m 6 (column-length v k))

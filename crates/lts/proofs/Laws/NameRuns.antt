@@ -10,119 +10,119 @@ use lib.Dec.{eqb}
 use lib.ListN.{length, get_or, take, drop, length-append, length-drop, drop_of_length-le}
 use lib.Seq.{drop_at, drop-cons, take-add}
 use Rattle.columns.proofs.Laws.Compared.{Each, each_append, each_weaken}
-use Rattle.lts.specs.Names.{isLower, isNameByte, at_most, isName}
-use Rattle.lts.specs.Marks.{unmarked, marked, isMark, isLastMark}
-use Rattle.lts.specs.inner.NameEnds.{stemLength, markLength, withMark, nameLength}
+use Rattle.lts.specs.Names.{is_lower, is_name_byte, at_most, is_name}
+use Rattle.lts.specs.Marks.{unmarked, marked, is_mark, is_last_mark}
+use Rattle.lts.specs.inner.NameEnds.{stem_length, mark_length, with_mark, name_length}
 use Rattle.lts.proofs.Booleans.{and-true-of, and-true-to, or-true-of, or-true-left, or_true_right}
-use Rattle.lts.proofs.Laws.Stems.{isStem, stem-high, stem-short, stem-is-name, stem-is-longest, stem-is-run}
+use Rattle.lts.proofs.Laws.Stems.{is_stem, stem-high, stem-short, stem-is-name, stem-is-longest, stem-is-run}
 
 -- No byte of a name without marks is a mark.
-pub mark-cases : (b : ℕ) → isMark b ≡ true → (b ≡ 63) ⊎ (b ≡ 33)
-mark-cases b e = case (or-true-of (eqb b 63) (eqb b 33) e)
+pub mark_cases : (b : ℕ) → is_mark b ≡ true → (b ≡ 63) ⊎ (b ≡ 33)
+mark_cases b e = case (or-true-of (eqb b 63) (eqb b 33) e)
   where
     case : (eqb b 63 ≡ true) ⊎ (eqb b 33 ≡ true) → (b ≡ 63) ⊎ (b ≡ 33)
     case (inl d) = inl (eqb-true b 63 d)
     case (inr d) = inr (eqb-true b 33 d)
 
-pub mark-foreign : (b : ℕ) → isMark b ≡ true → isNameByte b ≡ false
-mark-foreign b e = case (mark-cases b e)
+pub mark_foreign : (b : ℕ) → is_mark b ≡ true → is_name_byte b ≡ false
+mark_foreign b e = case (mark_cases b e)
   where
-    case : (b ≡ 63) ⊎ (b ≡ 33) → isNameByte b ≡ false
-    case (inl d) = ap isNameByte d
-    case (inr d) = ap isNameByte d
+    case : (b ≡ 63) ⊎ (b ≡ 33) → is_name_byte b ≡ false
+    case (inl d) = ap is_name_byte d
+    case (inr d) = ap is_name_byte d
 
 -- A name is a stem, or a stem and a mark.
 pub record MarkedBy (P : List ℕ → Type 0) (l : List ℕ) : Type 0 where
   pub stem : List ℕ
   pub mark : ℕ
   pub is-stem : P stem
-  pub is-mark : isMark mark ≡ true
+  pub is-mark : is_mark mark ≡ true
   pub parts : l ≡ stem ++ (mark ∷ [])
 
 abbrev pub AtMost : ℕ → List ℕ → Type 0
 AtMost n p = at_most unmarked n p ≡ true
 
-at-most-parts : (n : ℕ) (l : List ℕ) → at_most marked n l ≡ true → AtMost n l ⊎ MarkedBy (AtMost n) l
-at-most-parts n [] e = inl refl
-at-most-parts zero (b ∷ []) e = inr (record { stem = []; mark = b; is-stem = refl; is-mark = e; parts = refl })
-at-most-parts zero (b ∷ c ∷ l) e = absurd (false≢true e)
-at-most-parts (suc n) (b ∷ l) e = case (at-most-parts n l) (or-true-of (isLastMark marked b l) (isNameByte b && at_most marked n l) e)
+at-most_parts : (n : ℕ) (l : List ℕ) → at_most marked n l ≡ true → AtMost n l ⊎ MarkedBy (AtMost n) l
+at-most_parts n [] e = inl refl
+at-most_parts zero (b ∷ []) e = inr (record { stem = []; mark = b; is-stem = refl; is-mark = e; parts = refl })
+at-most_parts zero (b ∷ c ∷ l) e = absurd (false≢true e)
+at-most_parts (suc n) (b ∷ l) e = case (at-most_parts n l) (or-true-of (is_last_mark marked b l) (is_name_byte b && at_most marked n l) e)
   where
-    last : (l : List ℕ) → isLastMark marked b l ≡ true → MarkedBy (AtMost (suc n)) (b ∷ l)
+    last : (l : List ℕ) → is_last_mark marked b l ≡ true → MarkedBy (AtMost (suc n)) (b ∷ l)
     last [] d = record { stem = []; mark = b; is-stem = refl; is-mark = d; parts = refl }
     last (c ∷ l) d = absurd (false≢true d)
 
-    longer : isNameByte b ≡ true → AtMost n l ⊎ MarkedBy (AtMost n) l → AtMost (suc n) (b ∷ l) ⊎ MarkedBy (AtMost (suc n)) (b ∷ l)
-    longer d (inl h) = inl (and-true-to (isNameByte b) (at_most unmarked n l) d h)
+    longer : is_name_byte b ≡ true → AtMost n l ⊎ MarkedBy (AtMost n) l → AtMost (suc n) (b ∷ l) ⊎ MarkedBy (AtMost (suc n)) (b ∷ l)
+    longer d (inl h) = inl (and-true-to (is_name_byte b) (at_most unmarked n l) d h)
     longer d (inr h) = inr (record {
       stem = b ∷ h.stem;
       mark = h.mark;
-      is-stem = and-true-to (isNameByte b) (at_most unmarked n h.stem) d h.is-stem;
+      is-stem = and-true-to (is_name_byte b) (at_most unmarked n h.stem) d h.is-stem;
       is-mark =
           h.is-mark;
       parts = ap (λ t. b ∷ t) h.parts;
     })
 
-    case : (at_most marked n l ≡ true → AtMost n l ⊎ MarkedBy (AtMost n) l) → (isLastMark marked b l ≡ true) ⊎ ((isNameByte b && at_most marked n l) ≡ true)
+    case : (at_most marked n l ≡ true → AtMost n l ⊎ MarkedBy (AtMost n) l) → (is_last_mark marked b l ≡ true) ⊎ ((is_name_byte b && at_most marked n l) ≡ true)
         → AtMost (suc n) (b ∷ l) ⊎ MarkedBy (AtMost (suc n)) (b ∷ l)
     case again (inl d) = inr (last l d)
-    case again (inr d) = let p = and-true-of (isNameByte b) (at_most marked n l) d in longer p.0 (again p.1)
+    case again (inr d) = let p = and-true-of (is_name_byte b) (at_most marked n l) d in longer p.0 (again p.1)
 
 abbrev pub IsStem : List ℕ → Type 0
-IsStem l = isStem l ≡ true
+IsStem l = is_stem l ≡ true
 
-pub name-parts : (l : List ℕ) → isName l ≡ true → IsStem l ⊎ MarkedBy IsStem l
-name-parts [] e = absurd (false≢true e)
-name-parts (b ∷ l) e = let p = and-true-of (isLower b) (at_most marked 11 l) e in join p.0 (at-most-parts 11 l p.1)
+pub name_parts : (l : List ℕ) → is_name l ≡ true → IsStem l ⊎ MarkedBy IsStem l
+name_parts [] e = absurd (false≢true e)
+name_parts (b ∷ l) e = let p = and-true-of (is_lower b) (at_most marked 11 l) e in join p.0 (at-most_parts 11 l p.1)
   where
-    join : isLower b ≡ true → AtMost 11 l ⊎ MarkedBy (AtMost 11) l → IsStem (b ∷ l) ⊎ MarkedBy IsStem (b ∷ l)
-    join d (inl h) = inl (and-true-to (isLower b) (at_most unmarked 11 l) d h)
+    join : is_lower b ≡ true → AtMost 11 l ⊎ MarkedBy (AtMost 11) l → IsStem (b ∷ l) ⊎ MarkedBy IsStem (b ∷ l)
+    join d (inl h) = inl (and-true-to (is_lower b) (at_most unmarked 11 l) d h)
     join d (inr h) = inr (record {
       stem = b ∷ h.stem;
       mark = h.mark;
-      is-stem = and-true-to (isLower b) (at_most unmarked 11 h.stem) d h.is-stem;
+      is-stem = and-true-to (is_lower b) (at_most unmarked 11 h.stem) d h.is-stem;
       is-mark =
           h.is-mark;
       parts = ap (λ t. b ∷ t) h.parts;
     })
 
 -- And both are names.
-at-most-marked : (n : ℕ) (l : List ℕ) (m : ℕ) → isMark m ≡ true → AtMost n l → at_most marked n (l ++ (m ∷ [])) ≡ true
+at-most-marked : (n : ℕ) (l : List ℕ) (m : ℕ) → is_mark m ≡ true → AtMost n l → at_most marked n (l ++ (m ∷ [])) ≡ true
 at-most-marked zero [] m h e = h
-at-most-marked (suc n) [] m h e = or-true-left (isMark m) _ h
+at-most-marked (suc n) [] m h e = or-true-left (is_mark m) _ h
 at-most-marked zero (b ∷ l) m h e = absurd (false≢true e)
 at-most-marked (suc n) (b ∷ l) m h e =
-    let p = and-true-of (isNameByte b) (at_most unmarked n l) e in
-    or_true_right (isLastMark marked b (l ++ (m ∷ []))) _ (and-true-to (isNameByte b) (at_most marked n (l ++ (m ∷ []))) p.0 (at-most-marked n l m h p.1))
+    let p = and-true-of (is_name_byte b) (at_most unmarked n l) e in
+    or_true_right (is_last_mark marked b (l ++ (m ∷ []))) _ (and-true-to (is_name_byte b) (at_most marked n (l ++ (m ∷ []))) p.0 (at-most-marked n l m h p.1))
 
-at-most-unmarked : (n : ℕ) (l : List ℕ) → AtMost n l → at_most marked n l ≡ true
-at-most-unmarked n [] e = refl
-at-most-unmarked zero (b ∷ l) e = absurd (false≢true e)
-at-most-unmarked (suc n) (b ∷ l) e =
-    let p = and-true-of (isNameByte b) (at_most unmarked n l) e in
-    or_true_right (isLastMark marked b l) _ (and-true-to (isNameByte b) (at_most marked n l) p.0 (at-most-unmarked n l p.1))
+at-most_unmarked : (n : ℕ) (l : List ℕ) → AtMost n l → at_most marked n l ≡ true
+at-most_unmarked n [] e = refl
+at-most_unmarked zero (b ∷ l) e = absurd (false≢true e)
+at-most_unmarked (suc n) (b ∷ l) e =
+    let p = and-true-of (is_name_byte b) (at_most unmarked n l) e in
+    or_true_right (is_last_mark marked b l) _ (and-true-to (is_name_byte b) (at_most marked n l) p.0 (at-most_unmarked n l p.1))
 
-pub stem-marked : (l : List ℕ) (m : ℕ) → isMark m ≡ true → IsStem l → isName (l ++ (m ∷ [])) ≡ true
+pub stem-marked : (l : List ℕ) (m : ℕ) → is_mark m ≡ true → IsStem l → is_name (l ++ (m ∷ [])) ≡ true
 stem-marked [] m h e = absurd (false≢true e)
-stem-marked (b ∷ l) m h e = let p = and-true-of (isLower b) (at_most unmarked 11 l) e in and-true-to (isLower b) (at_most marked 11 (l ++ (m ∷ []))) p.0 (at-most-marked 11 l m h p.1)
+stem-marked (b ∷ l) m h e = let p = and-true-of (is_lower b) (at_most unmarked 11 l) e in and-true-to (is_lower b) (at_most marked 11 (l ++ (m ∷ []))) p.0 (at-most-marked 11 l m h p.1)
 
-pub stem-named : (l : List ℕ) → IsStem l → isName l ≡ true
+pub stem-named : (l : List ℕ) → IsStem l → is_name l ≡ true
 stem-named [] e = absurd (false≢true e)
-stem-named (b ∷ l) e = let p = and-true-of (isLower b) (at_most unmarked 11 l) e in and-true-to (isLower b) (at_most marked 11 l) p.0 (at-most-unmarked 11 l p.1)
+stem-named (b ∷ l) e = let p = and-true-of (is_lower b) (at_most unmarked 11 l) e in and-true-to (is_lower b) (at_most marked 11 l) p.0 (at-most_unmarked 11 l p.1)
 
 -- The bytes of a name are above LF and blank.
 abbrev pub High : ℕ → Type 0
 High b = 33 ≤ b
 
-mark-high : (b : ℕ) → isMark b ≡ true → High b
-mark-high b e = case (mark-cases b e)
+mark-high : (b : ℕ) → is_mark b ≡ true → High b
+mark-high b e = case (mark_cases b e)
   where
     case : (b ≡ 63) ⊎ (b ≡ 33) → 33 ≤ b
     case (inl d) = omega arith
     case (inr d) = omega arith
 
-pub name-high : (l : List ℕ) → isName l ≡ true → Each High l
-name-high l e = case (name-parts l e)
+pub name-high : (l : List ℕ) → is_name l ≡ true → Each High l
+name-high l e = case (name_parts l e)
   where
     stem-bytes : (p : List ℕ) → IsStem p → Each High p
     stem-bytes p h = each_weaken _ High (λ b k. omega arith) p (stem-high p h)
@@ -131,93 +131,93 @@ name-high l e = case (name-parts l e)
     case (inl h) = stem-bytes l h
     case (inr h) = subst (Each High) (sym h.parts) (each_append High h.stem (h.mark ∷ []) (stem-bytes h.stem h.is-stem) (mark-high h.mark h.is-mark, tt))
 
-pub name-short : (l : List ℕ) → isName l ≡ true → (0 < length l) × (length l ≤ 13)
-name-short l e = case (name-parts l e)
+pub name-short : (l : List ℕ) → is_name l ≡ true → (0 < length l) × (length l ≤ 13)
+name-short l e = case (name_parts l e)
   where
     case : IsStem l ⊎ MarkedBy IsStem l → (0 < length l) × (length l ≤ 13)
     case (inl h) = let s = stem-short l h in (s.0, omega (arith, s.1))
     case (inr h) = let n = ap length h.parts ∙ length-append h.stem (h.mark ∷ []) in let s = stem-short h.stem h.is-stem in (omega (arith, n), omega (arith, n, s.1))
 
 -- The longest name of a text is its stem, and the mark that stands behind that.
-pub length-split : (s : List ℕ) → 0 < stemLength s → nameLength s ≡ stemLength s + markLength (drop (stemLength s) s)
-length-split s h = split (stemLength s) h
+pub length_split : (s : List ℕ) → 0 < stem_length s → name_length s ≡ stem_length s + mark_length (drop (stem_length s) s)
+length_split s h = split (stem_length s) h
   where
-    split : (n : ℕ) → 0 < n → withMark n s ≡ n + markLength (drop n s)
+    split : (n : ℕ) → 0 < n → with_mark n s ≡ n + mark_length (drop n s)
     split zero h = absurd (omega arith)
     split (suc n) h = refl
 
-pub name-split : (s : List ℕ) → 0 < stemLength s → take (nameLength s) s ≡ take (stemLength s) s ++ take (markLength (drop (stemLength s) s)) (drop (stemLength s) s)
-name-split s h = ap (λ n. take n s) (length-split s h) ∙ take-add (stemLength s) (markLength (drop (stemLength s) s)) s
+pub name_split : (s : List ℕ) → 0 < stem_length s → take (name_length s) s ≡ take (stem_length s) s ++ take (mark_length (drop (stem_length s) s)) (drop (stem_length s) s)
+name_split s h = ap (λ n. take n s) (length_split s h) ∙ take-add (stem_length s) (mark_length (drop (stem_length s) s)) s
 
-pub stem-below : (s : List ℕ) → stemLength s ≤ nameLength s
-stem-below s = below (stemLength s)
+pub stem-below : (s : List ℕ) → stem_length s ≤ name_length s
+stem-below s = below (stem_length s)
   where
-    below : (n : ℕ) → n ≤ withMark n s
+    below : (n : ℕ) → n ≤ with_mark n s
     below zero = omega arith
     below (suc n) = omega arith
 
 -- What readers take for a name is one.
-marked-run : (p r : List ℕ) → IsStem p → (markLength r ≤ length r) × (isName (p ++ take (markLength r) r) ≡ true)
-marked-run p [] h = (omega arith, ap isName (append-nil p) ∙ stem-named p h)
-marked-run p (b ∷ r) h = case (isMark b) refl
+marked-run : (p r : List ℕ) → IsStem p → (mark_length r ≤ length r) × (is_name (p ++ take (mark_length r) r) ≡ true)
+marked-run p [] h = (omega arith, ap is_name (append-nil p) ∙ stem-named p h)
+marked-run p (b ∷ r) h = case (is_mark b) refl
   where
-    case : (t : Bool) → isMark b ≡ t → (cond t 1 0 ≤ suc (length r)) × (isName (p ++ take (cond t 1 0) (b ∷ r)) ≡ true)
+    case : (t : Bool) → is_mark b ≡ t → (cond t 1 0 ≤ suc (length r)) × (is_name (p ++ take (cond t 1 0) (b ∷ r)) ≡ true)
     case true e = (omega arith, stem-marked p b e h)
-    case false e = (omega arith, ap isName (append-nil p) ∙ stem-named p h)
+    case false e = (omega arith, ap is_name (append-nil p) ∙ stem-named p h)
 
-pub run-is-name : (s : List ℕ) → 0 < nameLength s → (nameLength s ≤ length s) × (isName (take (nameLength s) s) ≡ true)
-run-is-name s h = case (stemLength s) refl
+pub run-is-name : (s : List ℕ) → 0 < name_length s → (name_length s ≤ length s) × (is_name (take (name_length s) s) ≡ true)
+run-is-name s h = case (stem_length s) refl
   where
-    named : 0 < stemLength s → (nameLength s ≤ length s) × (isName (take (nameLength s) s) ≡ true)
+    named : 0 < stem_length s → (name_length s ≤ length s) × (is_name (take (name_length s) s) ≡ true)
     named k =
         let stem = stem-is-name s k in
-        let m = marked-run (take (stemLength s) s) (drop (stemLength s) s) stem.1 in
-        (omega (arith, length-split s k, stem.0, m.0, length-drop (stemLength s) s), ap isName (name-split s k) ∙ m.1)
+        let m = marked-run (take (stem_length s) s) (drop (stem_length s) s) stem.1 in
+        (omega (arith, length_split s k, stem.0, m.0, length-drop (stem_length s) s), ap is_name (name_split s k) ∙ m.1)
 
-    case : (n : ℕ) → stemLength s ≡ n → (nameLength s ≤ length s) × (isName (take (nameLength s) s) ≡ true)
-    case zero e = let none : nameLength s ≡ 0 = ap (λ n. withMark n s) e in absurd (omega arith)
+    case : (n : ℕ) → stem_length s ≡ n → (name_length s ≤ length s) × (is_name (take (name_length s) s) ≡ true)
+    case zero e = let none : name_length s ≡ 0 = ap (λ n. with_mark n s) e in absurd (omega arith)
     case (suc n) e = named (omega arith)
 
 -- A stem with a byte behind it that no stem has.
-module _ (p : List ℕ) (b : ℕ) (r : List ℕ) (stem : IsStem p) (foreign : isNameByte b ≡ false) where
+module _ (p : List ℕ) (b : ℕ) (r : List ℕ) (stem : IsStem p) (foreign : is_name_byte b ≡ false) where
   abbrev text : List ℕ
   text = p ++ (b ∷ r)
 
-  first : stemLength (p ++ (b ∷ r)) ≡ length p
+  first : stem_length (p ++ (b ∷ r)) ≡ length p
   first = stem-is-run b r foreign p stem
 
-  behind : drop (stemLength (p ++ (b ∷ r))) (p ++ (b ∷ r)) ≡ b ∷ r
-  behind = drop_at p (b ∷ r) (stemLength text) (sym first)
+  behind : drop (stem_length (p ++ (b ∷ r))) (p ++ (b ∷ r)) ≡ b ∷ r
+  behind = drop_at p (b ∷ r) (stem_length text) (sym first)
 
-  pub stem-then : nameLength (p ++ (b ∷ r)) ≡ length p + cond (isMark b) 1 0
-  stem-then = length-split text (omega (arith, first, (stem-short p stem).0)) ∙ ap₂ (λ n l. n + markLength l) first behind
+  pub stem-then : name_length (p ++ (b ∷ r)) ≡ length p + cond (is_mark b) 1 0
+  stem-then = length_split text (omega (arith, first, (stem-short p stem).0)) ∙ ap₂ (λ n l. n + mark_length l) first behind
 
 -- A name with a byte behind it that ends it is the longest one there; and no name that a text starts with is longer.
-marked-length : (l rest : List ℕ) (h : MarkedBy IsStem l) → nameLength (l ++ rest) ≡ length l
+marked-length : (l rest : List ℕ) (h : MarkedBy IsStem l) → name_length (l ++ rest) ≡ length l
 marked-length l rest h =
     let m = h.mark in
     let text : l ++ rest ≡ h.stem ++ (m ∷ rest) = ap (λ x. x ++ rest) h.parts ∙ append_assoc h.stem (m ∷ []) rest in
     let long : length l ≡ length h.stem + 1 = ap length h.parts ∙ length-append h.stem (m ∷ []) in
-    ap nameLength text ∙ (stem-then h.stem m rest h.is-stem (mark-foreign m h.is-mark) ∙ (ap (λ t. length h.stem + cond t 1 0) h.is-mark ∙ sym long))
+    ap name_length text ∙ (stem-then h.stem m rest h.is-stem (mark_foreign m h.is-mark) ∙ (ap (λ t. length h.stem + cond t 1 0) h.is-mark ∙ sym long))
 
-pub name-is-run : (stop : ℕ) (rest : List ℕ) → isNameByte stop ≡ false → isMark stop ≡ false → (l : List ℕ) → isName l ≡ true → nameLength (l ++ (stop ∷ rest)) ≡ length l
-name-is-run stop rest foreign plain l e = case (name-parts l e)
+pub name-is-run : (stop : ℕ) (rest : List ℕ) → is_name_byte stop ≡ false → is_mark stop ≡ false → (l : List ℕ) → is_name l ≡ true → name_length (l ++ (stop ∷ rest)) ≡ length l
+name-is-run stop rest foreign plain l e = case (name_parts l e)
   where
-    case : IsStem l ⊎ MarkedBy IsStem l → nameLength (l ++ (stop ∷ rest)) ≡ length l
+    case : IsStem l ⊎ MarkedBy IsStem l → name_length (l ++ (stop ∷ rest)) ≡ length l
     case (inl h) = stem-then l stop rest h foreign ∙ (ap (λ t. length l + cond t 1 0) plain ∙ omega arith)
     case (inr h) = marked-length l (stop ∷ rest) h
 
-pub run-is-longest : (l rest : List ℕ) → isName l ≡ true → length l ≤ nameLength (l ++ rest)
-run-is-longest l rest e = case (name-parts l e)
+pub run-is-longest : (l rest : List ℕ) → is_name l ≡ true → length l ≤ name_length (l ++ rest)
+run-is-longest l rest e = case (name_parts l e)
   where
-    case : IsStem l ⊎ MarkedBy IsStem l → length l ≤ nameLength (l ++ rest)
+    case : IsStem l ⊎ MarkedBy IsStem l → length l ≤ name_length (l ++ rest)
     case (inl h) = omega (arith, stem-is-longest l rest h, stem-below (l ++ rest))
     case (inr h) = omega (arith, marked-length l rest h)
 
 -- No mark stands at a place.
-pub no-mark-at-end : (s : List ℕ) (end : ℕ) → length s ≤ end → markLength (drop end s) ≡ 0
-no-mark-at-end s end h = ap markLength (drop_of_length-le s h)
+pub no-mark-at-end : (s : List ℕ) (end : ℕ) → length s ≤ end → mark_length (drop end s) ≡ 0
+no-mark-at-end s end h = ap mark_length (drop_of_length-le s h)
 
-pub no-mark-here : (s : List ℕ) (end : ℕ) → end < length s → (get_or s end 0 ≡ 63 → ⊥) → (get_or s end 0 ≡ 33 → ⊥) → markLength (drop end s) ≡ 0
+pub no-mark-here : (s : List ℕ) (end : ℕ) → end < length s → (get_or s end 0 ≡ 63 → ⊥) → (get_or s end 0 ≡ 33 → ⊥) → mark_length (drop end s) ≡ 0
 no-mark-here s end w p q =
-    ap markLength (drop-cons s end 0 w) ∙ (ap (λ t. cond (t || eqb (get_or s end 0) 33) 1 0) (ne_eqb (get_or s end 0) 63 p) ∙ ap (λ t. cond t 1 0) (ne_eqb (get_or s end 0) 33 q))
+    ap mark_length (drop-cons s end 0 w) ∙ (ap (λ t. cond (t || eqb (get_or s end 0) 33) 1 0) (ne_eqb (get_or s end 0) 63 p) ∙ ap (λ t. cond t 1 0) (ne_eqb (get_or s end 0) 33 q))

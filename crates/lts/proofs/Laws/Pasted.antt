@@ -6,8 +6,8 @@ use native.Mathlib.Nat.{zero-add}
 use native.Mathlib.Omega.{arith}
 use lib.ListN.{length, set, drop, length-append}
 use lib.Seq.{take_at, drop-append-add, drop-drop}
-use Rattle.lts.specs.inner.Sizes.{namesLength, transitionsLength}
-use Rattle.lts.specs.inner.Sizes.{transitionsAt}
+use Rattle.lts.specs.inner.Sizes.{names_length, transitions_length}
+use Rattle.lts.specs.inner.Sizes.{transitions_at}
 use Rattle.lts.specs.Reply.{overwritten}
 use Rattle.columns.specs.inner.Write.{pasted}
 use Rattle.columns.proofs.Laws.Pasted.{pasted-then, set-pasted}
@@ -28,10 +28,10 @@ pasted-behind d a v n e =
     ∙ ap (λ k. drop (k + length v) d) e ∙ ap (λ k. drop k d) long)
     ∙ sym (append_assoc a v (drop (length (a ++ v)) d))
 
-pub table-pasted : (head names slots d : List ℕ) → length head ≡ 6 → length names ≡ namesLength → length slots ≡ transitionsLength
-    → pasted (pasted (pasted d 0 head) 6 names) transitionsAt slots ≡ overwritten (head ++ (names ++ slots)) d
+pub table-pasted : (head names slots d : List ℕ) → length head ≡ 6 → length names ≡ names_length → length slots ≡ transitions_length
+    → pasted (pasted (pasted d 0 head) 6 names) transitions_at slots ≡ overwritten (head ++ (names ++ slots)) d
 table-pasted head names slots d e f g =
-    ap (λ x. pasted (pasted x 6 names) transitionsAt slots) (pasted-start d head)
-    ∙ ap (λ x. pasted x transitionsAt slots) (pasted-behind d head names 6 e)
-    ∙ pasted-behind d (head ++ names) slots transitionsAt (length-append head names ∙ omega arith)
+    ap (λ x. pasted (pasted x 6 names) transitions_at slots) (pasted-start d head)
+    ∙ ap (λ x. pasted x transitions_at slots) (pasted-behind d head names 6 e)
+    ∙ pasted-behind d (head ++ names) slots transitions_at (length-append head names ∙ omega arith)
     ∙ ap (λ x. overwritten x d) (append_assoc head names slots)

@@ -12,11 +12,11 @@ module _ {A : Type 0} (f : A → List ℕ) (w : ℕ) where
   abbrev pub Sized : List A → Type 0
   Sized l = (x : A) → Memᴰ x l → length (f x) ≡ w
 
-  pub slots_length : (l : List A) → Sized l → length (bind f l) ≡ length l * w
-  slots_length [] s = sym (zero-mul w)
-  slots_length (x ∷ l) s =
+  pub slots_length_lem : (l : List A) → Sized l → length (bind f l) ≡ length l * w
+  slots_length_lem [] s = sym (zero-mul w)
+  slots_length_lem (x ∷ l) s =
       length-append (f x) (bind f l)
-      ∙ omega (arith, s x (Memᴰ.head refl), slots_length l (λ y m. s y (Memᴰ.tail m)), suc-mul (length l) w)
+      ∙ omega (arith, s x (Memᴰ.head refl), slots_length_lem l (λ y m. s y (Memᴰ.tail m)), suc-mul (length l) w)
 
   -- From slot k on: the slot and what is behind it.
   pub slot_at : (l : List A) (k : ℕ) (d : A) (rest : List ℕ) → Sized l → k < length l

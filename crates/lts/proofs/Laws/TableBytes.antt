@@ -6,140 +6,140 @@ use native.Mathlib.Nat.{add-zero}
 use native.Mathlib.Omega.{arith}
 use lib.ListN.{length, get_or, take, drop, replicate, length-append}
 use lib.Seq.{take-append_seam, drop_at, drop-drop, get_or-drop, ext_get_or}
-use Rattle.lts.specs.inner.Sizes.{headLength, transitionsAt}
-use Rattle.lts.specs.Sizes.{nameSlotLength, transitionLength, tableLength}
-use Rattle.lts.specs.inner.Sizes.{namesLength, transitionsLength}
+use Rattle.lts.specs.inner.Sizes.{head_length, transitions_at}
+use Rattle.lts.specs.Sizes.{name_slot_length, transition_length, table_length}
+use Rattle.lts.specs.inner.Sizes.{names_length, transitions_length}
 use Rattle.columns.specs.Bytes.{low_first}
-use Rattle.columns.proofs.Laws.Bytes.{Bytes, bytes-none, bytes-cons, bytes-append, padded-length, padded-bytes, lowFirst-bytes, pair-value}
+use Rattle.columns.proofs.Laws.Bytes.{Bytes, bytes-none, bytes-cons, bytes_append, padded-length, padded-bytes, low_first-bytes, pair_value}
 use Rattle.lts.specs.inner.Lists.{up_from}
 use Rattle.lts.specs.Lists.{bind}
 use Rattle.lts.specs.Steps.{Step, Table, labels}
-use Rattle.lts.specs.inner.Steps.{idleAt}
+use Rattle.lts.specs.inner.Steps.{idle_at}
 use Rattle.lts.specs.inner.Range.{InRange}
-use Rattle.lts.specs.inner.Slots.{nameBytes, stepBytes, headBytes}
+use Rattle.lts.specs.inner.Slots.{name_bytes, step_bytes, head_bytes}
 use Rattle.lts.specs.Reading.{Header}
-use Rattle.lts.specs.Prepared.{nameSlot, transitionSlot, nameSlots, transitionSlots, tableBytes}
-use Rattle.lts.specs.inner.Prepared.{byte_at, name_at, transitionAt, tableIn}
+use Rattle.lts.specs.Prepared.{name_slot, transition_slot, name_slots, transition_slots, table_bytes}
+use Rattle.lts.specs.inner.Prepared.{byte_at, name_at, transition_at, table_in}
 use Rattle.lts.proofs.Lists.{bind-of}
-use Rattle.lts.proofs.Laws.Tests.{name-shape}
-use Rattle.lts.proofs.Laws.Contents.{map-upFrom-length, map-upFrom-at}
-use Rattle.lts.proofs.Laws.Slots.{slots_length, slot_at}
+use Rattle.lts.proofs.Laws.Tests.{name_shape}
+use Rattle.lts.proofs.Laws.Contents.{map-up_from-length, map-up_from-at}
+use Rattle.lts.proofs.Laws.Slots.{slots_length_lem, slot_at}
 
 -- A slot says what it was made of.
-pub size-of-slot : (b n z : List ℕ) (k : ℕ) → drop (headLength + k * nameSlotLength) b ≡ nameSlot n ++ z → byte_at b (headLength + k * nameSlotLength) ≡ length n
-size-of-slot b n z k e = ap (byte_at b) (sym (add-zero (headLength + k * nameSlotLength))) ∙ (sym (get_or-drop (headLength + k * nameSlotLength) b 0 0) ∙ ap (λ (s : List ℕ). byte_at s 0) e)
+pub size-of-slot : (b n z : List ℕ) (k : ℕ) → drop (head_length + k * name_slot_length) b ≡ name_slot n ++ z → byte_at b (head_length + k * name_slot_length) ≡ length n
+size-of-slot b n z k e = ap (byte_at b) (sym (add-zero (head_length + k * name_slot_length))) ∙ (sym (get_or-drop (head_length + k * name_slot_length) b 0 0) ∙ ap (λ (s : List ℕ). byte_at s 0) e)
 
-pub name-of-slot : (b n z : List ℕ) (k : ℕ) → drop (headLength + k * nameSlotLength) b ≡ nameSlot n ++ z → name_at b k ≡ n
+pub name-of-slot : (b n z : List ℕ) (k : ℕ) → drop (head_length + k * name_slot_length) b ≡ name_slot n ++ z → name_at b k ≡ n
 name-of-slot b n z k e =
     let zeros : List ℕ = replicate (16 - suc (length n)) 0 in
-    let next : (headLength + k * nameSlotLength) + 1 ≡ headLength + 1 + k * nameSlotLength = omega arith in
-    let bytes : drop (headLength + 1 + k * nameSlotLength) b ≡ n ++ (zeros ++ z)
-    = ap (λ (j : ℕ). drop j b) (sym next) ∙ (sym (drop-drop 1 (headLength + k * nameSlotLength) b) ∙ (ap (drop 1) e ∙ append_assoc n zeros z)) in
+    let next : (head_length + k * name_slot_length) + 1 ≡ head_length + 1 + k * name_slot_length = omega arith in
+    let bytes : drop (head_length + 1 + k * name_slot_length) b ≡ n ++ (zeros ++ z)
+    = ap (λ (j : ℕ). drop j b) (sym next) ∙ (sym (drop-drop 1 (head_length + k * name_slot_length) b) ∙ (ap (drop 1) e ∙ append_assoc n zeros z)) in
     ap₂ take (size-of-slot b n z k e) bytes ∙ take-append_seam n (zeros ++ z)
 
-pub transition-of-slot : (b z : List ℕ) (st : Step) (k : ℕ) → drop (transitionsAt + k * transitionLength) b ≡ transitionSlot st ++ z → transitionAt b k ≡ st
-transition-of-slot b z st k e =
-    let first : byte_at b (transitionsAt + k * transitionLength) ≡ st.from = at 0 (omega arith) in
-    let second : byte_at b ((transitionsAt + 1) + k * transitionLength) ≡ st.label = at 1 (omega arith) in
-    let third : byte_at b ((transitionsAt + 2) + k * transitionLength) ≡ st.to = at 2 (omega arith) in
+pub transition_of-slot : (b z : List ℕ) (st : Step) (k : ℕ) → drop (transitions_at + k * transition_length) b ≡ transition_slot st ++ z → transition_at b k ≡ st
+transition_of-slot b z st k e =
+    let first : byte_at b (transitions_at + k * transition_length) ≡ st.from = at 0 (omega arith) in
+    let second : byte_at b ((transitions_at + 1) + k * transition_length) ≡ st.label = at 1 (omega arith) in
+    let third : byte_at b ((transitions_at + 2) + k * transition_length) ≡ st.to = at 2 (omega arith) in
     λ i. record { from = first i; label = second i; to = third i }
   where
-    at : (i : ℕ) {j : ℕ} → (transitionsAt + k * transitionLength) + i ≡ j → byte_at b j ≡ get_or (transitionSlot st ++ z) i 0
-    at i d = ap (byte_at b) (sym d) ∙ (sym (get_or-drop (transitionsAt + k * transitionLength) b i 0) ∙ ap (λ (s : List ℕ). get_or s i 0) e)
+    at : (i : ℕ) {j : ℕ} → (transitions_at + k * transition_length) + i ≡ j → byte_at b j ≡ get_or (transition_slot st ++ z) i 0
+    at i d = ap (byte_at b) (sym d) ∙ (sym (get_or-drop (transitions_at + k * transition_length) b i 0) ∙ ap (λ (s : List ℕ). get_or s i 0) e)
 
 module _ (t : Table) (r : InRange t) where
-  pub names-sized : (n : List ℕ) → Memᴰ n t.names → length (nameSlot n) ≡ 16
-  names-sized n m = padded-length 16 (length n ∷ n) (omega (arith, (name-shape n (r.named n m)).short))
+  pub names_sized : (n : List ℕ) → Memᴰ n t.names → length (name_slot n) ≡ 16
+  names_sized n m = padded-length 16 (length n ∷ n) (omega (arith, (name_shape n (r.named n m)).short))
 
-  names-fit : length (bind nameSlot t.names) ≤ namesLength
-  names-fit = omega (arith, slots_length nameSlot 16 t.names names-sized, r.few-labels)
+  names-fit : length (bind name_slot t.names) ≤ names_length
+  names-fit = omega (arith, slots_length_lem name_slot 16 t.names names_sized, r.few_labels)
 
-  transitions-fit : length (bind transitionSlot t.transitions) ≤ transitionsLength
-  transitions-fit = omega (arith, slots_length transitionSlot 3 t.transitions (λ st m. refl), r.few-transitions)
+  transitions-fit : length (bind transition_slot t.transitions) ≤ transitions_length
+  transitions-fit = omega (arith, slots_length_lem transition_slot 3 t.transitions (λ st m. refl), r.few_transitions)
 
-  pub name-slots-length : length (nameSlots t) ≡ namesLength
-  name-slots-length = padded-length namesLength (bind nameSlot t.names) names-fit
+  pub name-slots-length : length (name_slots t) ≡ names_length
+  name-slots-length = padded-length names_length (bind name_slot t.names) names-fit
 
-  pub transition-slots-length : length (transitionSlots t) ≡ transitionsLength
-  transition-slots-length = padded-length transitionsLength (bind transitionSlot t.transitions) transitions-fit
+  pub transition_slots-length : length (transition_slots t) ≡ transitions_length
+  transition_slots-length = padded-length transitions_length (bind transition_slot t.transitions) transitions-fit
 
-  pub table-bytes-length : length (tableBytes t) ≡ tableLength
-  unfolding tableBytes
-  table-bytes-length = omega (arith, length-append (nameSlots t) (transitionSlots t), name-slots-length, transition-slots-length)
+  pub table-bytes-length : length (table_bytes t) ≡ table_length
+  unfolding table_bytes
+  table-bytes-length = omega (arith, length-append (name_slots t) (transition_slots t), name-slots-length, transition_slots-length)
 
-  name-bytes : Bytes (bind nameSlot t.names)
-  name-bytes b m = let (n, d, e) = bind-of nameSlot t.names m in
-      let shape = name-shape n (r.named n d) in
+  name-bytes : Bytes (bind name_slot t.names)
+  name-bytes b m = let (n, d, e) = bind-of name_slot t.names m in
+      let shape = name_shape n (r.named n d) in
       padded-bytes 16 (length n ∷ n) (bytes-cons (omega (arith, shape.short)) (λ x k. omega (arith, (shape.bytes x k).1))) b e
 
-  transition-bytes : Bytes (bind transitionSlot t.transitions)
-  transition-bytes b m = let (st, d, e) = bind-of transitionSlot t.transitions m in
-      let k = r.steps-in-range st d in
-      bytes-cons (omega (arith, k.leaves, r.few-states))
-      (bytes-cons (omega (arith, k.labelled, r.few-labels)) (bytes-cons (omega (arith, k.enters, r.few-states)) bytes-none)) b e
+  transition_bytes : Bytes (bind transition_slot t.transitions)
+  transition_bytes b m = let (st, d, e) = bind-of transition_slot t.transitions m in
+      let k = r.steps_in_range st d in
+      bytes-cons (omega (arith, k.leaves, r.few_states))
+      (bytes-cons (omega (arith, k.labelled, r.few_labels)) (bytes-cons (omega (arith, k.enters, r.few_states)) bytes-none)) b e
 
   -- Every byte is below 256.
-  pub table-bytes-bytes : Bytes (tableBytes t)
-  unfolding tableBytes
+  pub table-bytes-bytes : Bytes (table_bytes t)
+  unfolding table_bytes
   table-bytes-bytes =
-      bytes-append (low_first 2 t.states) (lowFirst-bytes 2 t.states)
-      (bytes-cons (omega (arith, r.few-labels))
-      (bytes-append (low_first 2 (length t.transitions)) (lowFirst-bytes 2 (length t.transitions))
-      (bytes-cons (omega (arith, r.starts, r.few-states))
-      (bytes-append (nameSlots t) (padded-bytes namesLength (bind nameSlot t.names) name-bytes) (padded-bytes transitionsLength (bind transitionSlot t.transitions) transition-bytes)))))
+      bytes_append (low_first 2 t.states) (low_first-bytes 2 t.states)
+      (bytes-cons (omega (arith, r.few_labels))
+      (bytes_append (low_first 2 (length t.transitions)) (low_first-bytes 2 (length t.transitions))
+      (bytes-cons (omega (arith, r.starts, r.few_states))
+      (bytes_append (name_slots t) (padded-bytes names_length (bind name_slot t.names) name-bytes) (padded-bytes transitions_length (bind transition_slot t.transitions) transition_bytes)))))
 
   module _ (rest : List ℕ) where
     abbrev pub whole : List ℕ
-    whole = tableBytes t ++ rest
+    whole = table_bytes t ++ rest
 
-    pub names-behind : drop 6 whole ≡ nameSlots t ++ (transitionSlots t ++ rest)
-    unfolding tableBytes
-    names-behind = append_assoc (nameSlots t) (transitionSlots t) rest
+    pub names-behind : drop 6 whole ≡ name_slots t ++ (transition_slots t ++ rest)
+    unfolding table_bytes
+    names-behind = append_assoc (name_slots t) (transition_slots t) rest
 
-    pub transitions-behind : drop transitionsAt whole ≡ transitionSlots t ++ rest
+    pub transitions-behind : drop transitions_at whole ≡ transition_slots t ++ rest
     transitions-behind =
-        sym (drop-drop namesLength 6 whole) ∙ (ap (drop namesLength) names-behind ∙ drop_at (nameSlots t) (transitionSlots t ++ rest) namesLength name-slots-length)
+        sym (drop-drop names_length 6 whole) ∙ (ap (drop names_length) names-behind ∙ drop_at (name_slots t) (transition_slots t ++ rest) names_length name-slots-length)
 
-    pub name-slot-there : (k : ℕ) → k < labels t → (z : List ℕ) × (drop (headLength + k * nameSlotLength) whole ≡ nameSlot (get_or t.names k []) ++ z)
+    pub name-slot-there : (k : ℕ) → k < labels t → (z : List ℕ) × (drop (head_length + k * name_slot_length) whole ≡ name_slot (get_or t.names k []) ++ z)
     name-slot-there k h =
-        let zeros : List ℕ = replicate (namesLength - length (bind nameSlot t.names)) 0 in
-        let (z, e) = slot_at nameSlot 16 t.names k [] (zeros ++ (transitionSlots t ++ rest)) names-sized h in (
+        let zeros : List ℕ = replicate (names_length - length (bind name_slot t.names)) 0 in
+        let (z, e) = slot_at name_slot 16 t.names k [] (zeros ++ (transition_slots t ++ rest)) names_sized h in (
           z,
-          sym (drop-drop (k * nameSlotLength) 6 whole)
-              ∙ (ap (drop (k * nameSlotLength)) (names-behind ∙ append_assoc (bind nameSlot t.names) zeros (transitionSlots t ++ rest)) ∙ e),
+          sym (drop-drop (k * name_slot_length) 6 whole)
+              ∙ (ap (drop (k * name_slot_length)) (names-behind ∙ append_assoc (bind name_slot t.names) zeros (transition_slots t ++ rest)) ∙ e),
         )
 
     name-there : (k : ℕ) → k < labels t → name_at whole k ≡ get_or t.names k []
     name-there k h = let (z, e) = name-slot-there k h in name-of-slot whole (get_or t.names k []) z k e
 
-    transition-there : (k : ℕ) → k < length t.transitions → transitionAt whole k ≡ get_or t.transitions k (idleAt 0)
-    transition-there k h =
-        let zeros : List ℕ = replicate (transitionsLength - length (bind transitionSlot t.transitions)) 0 in
-        let (z, e) = slot_at transitionSlot 3 t.transitions k (idleAt 0) (zeros ++ rest) (λ st m. refl) h in
-        transition-of-slot whole z (get_or t.transitions k (idleAt 0)) k
-        (sym (drop-drop (k * transitionLength) transitionsAt whole)
-        ∙ (ap (drop (k * transitionLength)) (transitions-behind ∙ append_assoc (bind transitionSlot t.transitions) zeros rest) ∙ e))
+    transition_there : (k : ℕ) → k < length t.transitions → transition_at whole k ≡ get_or t.transitions k (idle_at 0)
+    transition_there k h =
+        let zeros : List ℕ = replicate (transitions_length - length (bind transition_slot t.transitions)) 0 in
+        let (z, e) = slot_at transition_slot 3 t.transitions k (idle_at 0) (zeros ++ rest) (λ st m. refl) h in
+        transition_of-slot whole z (get_or t.transitions k (idle_at 0)) k
+        (sym (drop-drop (k * transition_length) transitions_at whole)
+        ∙ (ap (drop (k * transition_length)) (transitions-behind ∙ append_assoc (bind transition_slot t.transitions) zeros rest) ∙ e))
 
     -- The table stands in its bytes.
-    pub table-in-bytes : tableIn (tableBytes t ++ rest) ≡ t
-    unfolding tableIn tableBytes
-    table-in-bytes =
+    pub table_in_bytes : table_in (table_bytes t ++ rest) ≡ t
+    unfolding table_in table_bytes
+    table_in_bytes =
         let counted : length t.transitions % 256 + (length t.transitions / 256) % 256 * 256 ≡ length t.transitions
-        = pair-value (length t.transitions) (omega (arith, r.few-transitions)) in
-        let states-are : t.states % 256 + (t.states / 256) % 256 * 256 ≡ t.states = pair-value t.states (omega (arith, r.few-states)) in
-        let names-are : map (name_at whole) (up_from 0 (labels t)) ≡ t.names
-        = ext_get_or [] (map (name_at whole) (up_from 0 (labels t))) t.names (map-upFrom-length (name_at whole) (labels t))
-        (λ i h. let few : i < labels t = omega (arith, map-upFrom-length (name_at whole) (labels t)) in
-        map-upFrom-at (name_at whole) (labels t) i [] few ∙ name-there i few) in
-        let steps-are : map (transitionAt whole) (up_from 0 (length t.transitions)) ≡ t.transitions
-        = ext_get_or (idleAt 0) (map (transitionAt whole) (up_from 0 (length t.transitions))) t.transitions (map-upFrom-length (transitionAt whole) (length t.transitions))
-        (λ i h. let few : i < length t.transitions = omega (arith, map-upFrom-length (transitionAt whole) (length t.transitions)) in
-        map-upFrom-at (transitionAt whole) (length t.transitions) i (idleAt 0) few ∙ transition-there i few) in
-        let transitions-are = ap (λ (n : ℕ). map (transitionAt whole) (up_from 0 n)) counted ∙ steps-are in
-        λ i. record { states = states-are i; names = names-are i; transitions = transitions-are i; start = t.start }
+        = pair_value (length t.transitions) (omega (arith, r.few_transitions)) in
+        let states_are : t.states % 256 + (t.states / 256) % 256 * 256 ≡ t.states = pair_value t.states (omega (arith, r.few_states)) in
+        let names_are : map (name_at whole) (up_from 0 (labels t)) ≡ t.names
+        = ext_get_or [] (map (name_at whole) (up_from 0 (labels t))) t.names (map-up_from-length (name_at whole) (labels t))
+        (λ i h. let few : i < labels t = omega (arith, map-up_from-length (name_at whole) (labels t)) in
+        map-up_from-at (name_at whole) (labels t) i [] few ∙ name-there i few) in
+        let steps_are : map (transition_at whole) (up_from 0 (length t.transitions)) ≡ t.transitions
+        = ext_get_or (idle_at 0) (map (transition_at whole) (up_from 0 (length t.transitions))) t.transitions (map-up_from-length (transition_at whole) (length t.transitions))
+        (λ i h. let few : i < length t.transitions = omega (arith, map-up_from-length (transition_at whole) (length t.transitions)) in
+        map-up_from-at (transition_at whole) (length t.transitions) i (idle_at 0) few ∙ transition_there i few) in
+        let transitions-are = ap (λ (n : ℕ). map (transition_at whole) (up_from 0 n)) counted ∙ steps_are in
+        λ i. record { states = states_are i; names = names_are i; transitions = transitions-are i; start = t.start }
 
 -- The parts of the prepared bytes.
-pub table-bytes : (h : Header) (names : List (List ℕ)) (steps : List Step) → length names ≡ h.labels → length steps ≡ h.transitions
-    → headBytes h ++ (nameBytes names ++ stepBytes steps) ≡ tableBytes (record { states = h.states; names = names; transitions = steps; start = h.start })
-unfolding tableBytes
-table-bytes h names steps e f = rw (e, f)
+pub table_bytes_lem : (h : Header) (names : List (List ℕ)) (steps : List Step) → length names ≡ h.labels → length steps ≡ h.transitions
+    → head_bytes h ++ (name_bytes names ++ step_bytes steps) ≡ table_bytes (record { states = h.states; names = names; transitions = steps; start = h.start })
+unfolding table_bytes
+table_bytes_lem h names steps e f = rw (e, f)

@@ -6,13 +6,13 @@ up_from k zero = []
 up_from k (suc n) = k ∷ up_from (suc k) n
 
 module _ {A : Type 0} where
-  abbrev pub consIf : Bool → A → List A → List A
-  consIf true x l = x ∷ l
-  consIf false x l = l
+  abbrev pub cons_if : Bool → A → List A → List A
+  cons_if true x l = x ∷ l
+  cons_if false x l = l
 
   abbrev pub keep : (A → Bool) → List A → List A
   keep p [] = []
-  keep p (x ∷ l) = consIf (p x) x (keep p l)
+  keep p (x ∷ l) = cons_if (p x) x (keep p l)
 
   abbrev pub or_else : List A → List A → List A
   or_else [] d = d

@@ -1,43 +1,43 @@
 -- The executable twin of `LeftByReading` (../Prepared.antt): `prepared-left` (proofs/Laws/Prepared.antt) makes them equal.
 use Rattle.std.specs.Prelude.{cond, List, map, ℕ, ◌+◌, ◌*◌, get_or, take, drop}
 use Rattle.std.proofs.Math.Option.{Option, none, some}
-use Rattle.lts.specs.inner.Sizes.{headLength, transitionsAt}
-use Rattle.lts.specs.Sizes.{nameSlotLength, transitionLength, tableLength}
-use Rattle.columns.specs.Bytes.{sameBytes}
+use Rattle.lts.specs.inner.Sizes.{head_length, transitions_at}
+use Rattle.lts.specs.Sizes.{name_slot_length, transition_length, table_length}
+use Rattle.columns.specs.Bytes.{same_bytes}
 use Rattle.lts.specs.inner.Lists.{up_from}
 use Rattle.lts.specs.Steps.{Step, Table}
-use Rattle.lts.specs.TableText.{tableText}
+use Rattle.lts.specs.TableText.{table_text}
 use Rattle.lts.specs.Reply.{Reply, accepted, refusal}
-use Rattle.lts.specs.Reading.{readTable}
-use Rattle.lts.specs.Prepared.{tableBytes}
+use Rattle.lts.specs.Reading.{read_table}
+use Rattle.lts.specs.Prepared.{table_bytes}
 
 -- What bytes say: their counts, names and transitions.
 abbrev pub byte_at : List ℕ → ℕ → ℕ
 byte_at b i = get_or b i 0
 
 abbrev pub name_at : List ℕ → ℕ → List ℕ
-name_at b k = take (byte_at b (headLength + k * nameSlotLength)) (drop (headLength + 1 + k * nameSlotLength) b)
+name_at b k = take (byte_at b (head_length + k * name_slot_length)) (drop (head_length + 1 + k * name_slot_length) b)
 
-abbrev pub transitionAt : List ℕ → ℕ → Step
-transitionAt b k = record {
-  from = byte_at b (transitionsAt + k * transitionLength);
-  label = byte_at b ((transitionsAt + 1) + k * transitionLength);
+abbrev pub transition_at : List ℕ → ℕ → Step
+transition_at b k = record {
+  from = byte_at b (transitions_at + k * transition_length);
+  label = byte_at b ((transitions_at + 1) + k * transition_length);
   to =
-      byte_at b ((transitionsAt + 2) + k * transitionLength);
+      byte_at b ((transitions_at + 2) + k * transition_length);
 }
 
-unfoldable pub tableIn : List ℕ → Table
-tableIn b = record {
+unfoldable pub table_in : List ℕ → Table
+table_in b = record {
   states = byte_at b 0 + byte_at b 1 * 256;
   names = map (name_at b) (up_from 0 (byte_at b 2));
-  transitions = map (transitionAt b) (up_from 0 (byte_at b 3 + byte_at b 4 * 256));
+  transitions = map (transition_at b) (up_from 0 (byte_at b 3 + byte_at b 4 * 256));
   start = byte_at b 5;
 }
 
 -- The same, as a test: the bytes are those that reading the text of the table in them leaves.
-abbrev pub leftBy : List ℕ → Reply Table → Option Table
-leftBy b (accepted t) = cond (sameBytes (take tableLength b) (tableBytes t)) (some t) none
-leftBy b (refusal number figure) = none
+abbrev pub left_by : List ℕ → Reply Table → Option Table
+left_by b (accepted t) = cond (same_bytes (take table_length b) (table_bytes t)) (some t) none
+left_by b (refusal number figure) = none
 
-unfoldable pub preparedTable : List ℕ → Option Table
-preparedTable b = leftBy b (readTable (tableText (tableIn b)))
+unfoldable pub prepared_table : List ℕ → Option Table
+prepared_table b = left_by b (read_table (table_text (table_in b)))

@@ -1,10 +1,10 @@
 -- What 01 asks of a table: its ranges and its orders.
 use Rattle.std.specs.Prelude.{◌≡◌, ◌⊎◌, true, ℕ, ◌≤◌, ◌<◌, length}
 use mathlib.Core.List.{List, Memᴰ}
-use Rattle.lts.specs.Sizes.{mostStates, mostLabels, mostTransitions}
+use Rattle.lts.specs.Sizes.{most_states, most_labels, most_transitions}
 use Rattle.lts.specs.Lists.{Rising}
 use Rattle.lts.specs.Steps.{Step, Table, labels}
-use Rattle.lts.specs.Names.{isName}
+use Rattle.lts.specs.Names.{is_name}
 
 -- 01: "Lines rise strictly by (from, label, to)."
 abbrev pub Below : Step → Step → Type 0
@@ -21,12 +21,12 @@ pub record StepInRange (t : Table) (st : Step) : Type 0 where
 
 -- 01: "states (1 to 256), labels (0 to 40), transitions (0 to 1,024), start (below states)"
 pub record InRange (t : Table) : Type 0 where
-  pub some-state : 1 ≤ t.states
-  pub few-states : t.states ≤ mostStates
-  pub few-labels : labels t ≤ mostLabels
-  pub few-transitions : length t.transitions ≤ mostTransitions
+  pub some_state : 1 ≤ t.states
+  pub few_states : t.states ≤ most_states
+  pub few_labels : labels t ≤ most_labels
+  pub few_transitions : length t.transitions ≤ most_transitions
   pub starts : t.start < t.states
-  pub named : (n : List ℕ) → Memᴰ n t.names → isName n ≡ true
-  pub names-differ : Rising Differ t.names
-  pub steps-in-range : (st : Step) → Memᴰ st t.transitions → StepInRange t st
-  pub steps-rise : Rising Below t.transitions
+  pub named : (n : List ℕ) → Memᴰ n t.names → is_name n ≡ true
+  pub names_differ : Rising Differ t.names
+  pub steps_in_range : (st : Step) → Memᴰ st t.transitions → StepInRange t st
+  pub steps_rise : Rising Below t.transitions

@@ -5,8 +5,8 @@ use Rattle.merging.proofs.alike.Tie as tie
 use mathlib.Core.Bool.{false}
 use native.Mathlib.Omega.{arith}
 use lib.ListN.{get_or}
-use Rattle.lts.proofs.Laws.Decides.{decided-no, decided-by}
-use Rattle.merging.proofs.Laws.Signatures.{marks-apart, marks-alike}
+use Rattle.lts.proofs.Laws.Decides.{decided_no, decided_by}
+use Rattle.merging.proofs.Laws.Signatures.{marks-apart, marks_alike}
 
 element-copy-out-if1 : tie.Need-element-copy-out-if1
 element-copy-out-if1 c = let p = c.before.requires in
@@ -17,7 +17,7 @@ element-copy-out-if1-2 c = let p = c.before.before.requires in
     omega (arith, p.1.0.few, p.1.1.1)
 
 returns : tie.Need-returns
-returns c = decided-no (λ q. c.if1.true q.block)
+returns c = decided_no (λ q. c.if1.true q.block)
 
 element-copy-out-if2 : tie.Need-element-copy-out-if2
 element-copy-out-if2 c = search rules
@@ -28,7 +28,7 @@ element-copy-out-if2-2 c = search rules
 returns-2 : tie.Need-returns-2
 returns-2 c =
     let a = c.before.before.before.before.before.before.before.args in
-    decided-no (λ q. marks-apart (get_or a.marks.now a.j false) (get_or a.marks.now a.k false) c.if2.true q.mark)
+    decided_no (λ q. marks-apart (get_or a.marks.now a.j false) (get_or a.marks.now a.k false) c.if2.true q.mark)
 
 same-targets-requires : tie.Need-same-targets-requires
 same-targets-requires c κs = c.before.before.before.before.before.before.before.requires
@@ -36,9 +36,9 @@ same-targets-requires c κs = c.before.before.before.before.before.before.before
 returns-3 : tie.Need-returns-3
 returns-3 c =
     let a = c.before.before.before.before.before.before.before.before.args in
-    let marks = marks-alike (get_or a.marks.now a.j false) (get_or a.marks.now a.k false) c.before.if2.false in
+    let marks = marks_alike (get_or a.marks.now a.j false) (get_or a.marks.now a.k false) c.before.if2.false in
     let block = c.before.before.before.before.if1.false in
-    decided-by c.same-targets.ensures (λ f. record { block = block; mark = marks; targets = f }) (λ q. q.targets)
+    decided_by c.same-targets.ensures (λ f. record { block = block; mark = marks; targets = f }) (λ q. q.targets)
 
 pub alike_spec : {M : Type 1} → statement M
 alike_spec =

@@ -4,13 +4,13 @@ use Rattle.merging.proofs.merge.Tie as tie
 use mathlib.Core.Path.{◌≡◌}
 use native.Mathlib.Omega.{arith}
 use lib.ListN.{length, drop}
-use Rattle.deterministic.specs.Sizes.{workLength}
-use Rattle.deterministic.specs.inner.Arrays.{arrayTable}
+use Rattle.deterministic.specs.Sizes.{work_length}
+use Rattle.deterministic.specs.inner.Arrays.{array_table}
 use Rattle.packed_steps.specs.inner.Packed.{Sized}
 use Rattle.merging.proofs.Laws.Rounds.{states-merged}
 
 sized : (c : tie.After-pack-arg) → Sized c.before.before.args.next.now c.before.before.args.n c.before.before.args.columns
-sized c = let p = c.before.before.requires in record { whole = c.pack-arg.given.0; few = p.0; some-column = p.1.0.0; few-columns = p.1.0.1 }
+sized c = let p = c.before.before.requires in record { whole = c.pack-arg.given.0; few = p.0; some_column = p.1.0.0; few_columns = p.1.0.1 }
 
 pack-requires : tie.Need-pack-requires
 pack-requires c κs = (sized c.before, c.before.before.before.requires.1.1)
@@ -35,10 +35,10 @@ returns c =
     let arg = packed.before.before in
     let a = arg.before.before.args in
     let all = settled.settle.ensures.0 a.next.now a.columns (sized arg) packed.pack.ensures.0 in
-    let m = states-merged (arrayTable a.next.now a.marks.now a.n a.columns) _ _ (sized arg).few settled.settle.ensures.1 c.of-states.ensures all in
+    let m = states-merged (array_table a.next.now a.marks.now a.n a.columns) _ _ (sized arg).few settled.settle.ensures.1 c.of_states_lem.ensures all in
     let work = packed.pack.new.1.1.1.0 in
-    -- With its lists written out: compared in another form, `drop workLength` is computed step by step.
-    let kept : (length work ≡ length a.work.now) × (drop workLength work ≡ drop workLength a.work.now) = packed.pack.ensures.1 in
+    -- With its lists written out: compared in another form, `drop work_length` is computed step by step.
+    let kept : (length work ≡ length a.work.now) × (drop work_length work ≡ drop work_length a.work.now) = packed.pack.ensures.1 in
     (m.are, (m.low, kept))
 
 pub merge-spec : {M : Type 1} → statement M

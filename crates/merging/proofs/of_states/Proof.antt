@@ -5,14 +5,14 @@ use mathlib.Core.Path.{◌≡◌, ◌∙◌}
 use Prim.Native.Nat.{ℕ, ◌-◌, ◌<◌, ◌≤◌}
 use native.Mathlib.Omega.{arith}
 use lib.ListN.{length, get_or, length-set}
-use Rattle.deterministic.specs.Sizes.{mostSets}
+use Rattle.deterministic.specs.Sizes.{most_sets}
 use Rattle.merging.proofs.Laws.Rounds.{copied_more, copied_all}
 
 abbrev invariant-loop : tie.invariant-loop
-invariant-loop names blocks₀ k₀ blocks k = (k ≤ mostSets) × (length blocks ≡ mostSets) × ((i : ℕ) → i < k → get_or blocks i 0 ≡ get_or names i 0)
+invariant-loop names blocks₀ k₀ blocks k = (k ≤ most_sets) × (length blocks ≡ most_sets) × ((i : ℕ) → i < k → get_or blocks i 0 ≡ get_or names i 0)
 
 abbrev decreases-loop : tie.decreases-loop
-decreases-loop names blocks₀ k₀ blocks k = mostSets - k
+decreases-loop names blocks₀ k₀ blocks k = most_sets - k
 
 loop-holds : tie.Need-loop-init invariant-loop decreases-loop
 loop-holds c = (omega arith, omega arith, λ i h. absurd (omega arith))

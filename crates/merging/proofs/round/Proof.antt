@@ -5,14 +5,14 @@ use Rattle.merging.proofs.round.Tie as tie
 use mathlib.Core.List.{List}
 use Prim.Native.Nat.{ℕ, ◌-◌, ◌≤◌}
 use native.Mathlib.Omega.{arith}
-use Rattle.deterministic.specs.inner.Arrays.{arrayTable}
+use Rattle.deterministic.specs.inner.Arrays.{array_table}
 use Rattle.merging.specs.inner.Rounds.{Ended}
 use Rattle.packed_steps.specs.inner.Packed.{Packed, Sized}
 use Rattle.merging.proofs.Laws.Rounds.{Going, going_start, going_more, going_done, first-is, ended-stays}
 
 abbrev invariant-loop : tie.invariant-loop
 invariant-loop work marks old new₀ n many steady₀ k₀ new steady k =
-    (k ≤ n) × Ended n new × ((next : List ℕ) (columns : ℕ) → Sized next n columns → Packed next n columns work many → Going (arrayTable next marks n columns) old new k steady)
+    (k ≤ n) × Ended n new × ((next : List ℕ) (columns : ℕ) → Sized next n columns → Packed next n columns work many → Going (array_table next marks n columns) old new k steady)
 
 abbrev decreases-loop : tie.decreases-loop
 decreases-loop work marks old new₀ n many steady₀ k₀ new steady k = n - k
@@ -28,7 +28,7 @@ loop-holds c =
     let e = d.requires.1.1 in (
       omega arith,
       e,
-      λ next columns s p. going_start (arrayTable next a.marks.now a.n columns) a.old.now a.new.now (omega (arith, e.whole, s.few)),
+      λ next columns s p. going_start (array_table next a.marks.now a.n columns) a.old.now a.new.now (omega (arith, e.whole, s.few)),
     )
 
 first-like-requires : tie.Need-first-like-requires invariant-loop decreases-loop
@@ -76,7 +76,7 @@ loop-again c =
       λ next columns s p.
           let g = l.invariant.2 next columns s p in
           let block = first-is next a.marks.now a.n columns a.work.now a.many s p a.old.now (old-ended d) l.new l.k x.result d.requires.1.0 h g.made x.ensures in
-          going_more (arrayTable next a.marks.now a.n columns) a.old.now l.new l.k x.result y.result l.steady c.still.result g h
+          going_more (array_table next a.marks.now a.n columns) a.old.now l.new l.k x.result y.result l.steady c.still.result g h
           block y.ensures c.still.ensures,
     )
 
@@ -86,7 +86,7 @@ returns c =
     let d = c.before.before.before in
     let a = d.args in (
       λ next columns s p.
-          going_done (arrayTable next a.marks.now a.n columns) a.old.now l.new l.k l.steady d.requires.1.0.long (l.invariant.2 next columns s p) c.loop-test.false,
+          going_done (array_table next a.marks.now a.n columns) a.old.now l.new l.k l.steady d.requires.1.0.long (l.invariant.2 next columns s p) c.loop-test.false,
       l.invariant.1,
     )
 

@@ -5,7 +5,7 @@ use mathlib.Core.Path.{sym, ◌∙◌}
 use Prim.Native.Nat.{◌-◌, ◌≤◌}
 use native.Mathlib.Omega.{arith}
 use Rattle.merging.specs.inner.Alike.{SameIn}
-use Rattle.lts.proofs.Laws.Decides.{decided-yes, decided-no}
+use Rattle.lts.proofs.Laws.Decides.{decided_yes, decided_no}
 use Rattle.merging.proofs.Laws.Looked.{same_more}
 
 abbrev invariant-loop : tie.invariant-loop
@@ -23,7 +23,7 @@ block-at-requires c κs =
     let r = p.1.0 in
     let l = c.before.loop.i in
     let h = c.loop-test.true in
-    (omega (arith, r.few, r.few-columns, r.long, p.1.1.0), (omega (arith, r.few-columns), (omega (arith, r.few, p.1.1.0), r.small l _ h p.1.1.0)))
+    (omega (arith, r.few, r.few_columns, r.long, p.1.1.0), (omega (arith, r.few_columns), (omega (arith, r.few, p.1.1.0), r.small l _ h p.1.1.0)))
 
 block-at-requires-2 : tie.Need-block-at-requires-2 invariant-loop decreases-loop
 block-at-requires-2 c κs =
@@ -31,18 +31,18 @@ block-at-requires-2 c κs =
     let r = p.1.0 in
     let l = c.before.before.loop.i in
     let h = c.before.loop-test.true in
-    (omega (arith, r.few, r.few-columns, r.long, p.1.1.1), (omega (arith, r.few-columns), (omega (arith, r.few, p.1.1.1), r.small l _ h p.1.1.1)))
+    (omega (arith, r.few, r.few_columns, r.long, p.1.1.1), (omega (arith, r.few_columns), (omega (arith, r.few, p.1.1.1), r.small l _ h p.1.1.1)))
 
 returns : tie.Need-returns invariant-loop decreases-loop
 returns c =
     let in-loop = c.before.before.before in
     let x = c.before.before.block_at.ensures in
     let y = c.before.block-at2.ensures in
-    decided-no (λ f. c.if1.true (x ∙ (f in-loop.before.loop.i in-loop.loop-test.true ∙ sym y)))
+    decided_no (λ f. c.if1.true (x ∙ (f in-loop.before.loop.i in-loop.loop-test.true ∙ sym y)))
 
 add-i : tie.Need-overflow-add-i invariant-loop decreases-loop
 add-i c = let p = c.before.before.before.before.before.before.requires in
-    omega (arith, p.1.0.few-columns)
+    omega (arith, p.1.0.few_columns)
 
 loop-less : tie.Need-loop-smaller invariant-loop decreases-loop
 loop-less c = omega arith
@@ -58,7 +58,7 @@ loop-again c =
 
 returns-2 : tie.Need-returns-2 invariant-loop decreases-loop
 returns-2 c = let l = c.before.loop in
-    decided-yes (λ i h. l.invariant.1 i (omega arith))
+    decided_yes (λ i h. l.invariant.1 i (omega arith))
 
 pub same-targets-spec : {M : Type 1} → statement M
 same-targets-spec =

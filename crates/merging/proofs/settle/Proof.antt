@@ -8,16 +8,16 @@ use Prim.Native.Nat.{ℕ, ◌+◌, ◌-◌, ◌≤◌}
 use native.Mathlib.Omega.{arith}
 use lib.ListN.{take}
 use Rattle.deterministic.specs.inner.Blocks.{Table, refined}
-use Rattle.deterministic.specs.inner.Arrays.{arrayTable}
+use Rattle.deterministic.specs.inner.Arrays.{array_table}
 use Rattle.merging.specs.inner.Rounds.{Named, Ended}
 use Rattle.packed_steps.specs.inner.Packed.{Packed, Sized}
 use Rattle.merging.specs.inner.Alike.{Ready}
-use Rattle.merging.proofs.Laws.Looked.{packed-ready}
-use Rattle.merging.proofs.Laws.Rounds.{ended-start, refined-start, refined-named, refined-more, merged-early, merged-late}
+use Rattle.merging.proofs.Laws.Looked.{packed_ready}
+use Rattle.merging.proofs.Laws.Rounds.{ended-start, refined-start, refined-named, refined-more, merged_early, merged_late}
 
 -- Behind r rounds, whatever table it is whose columns the bytes have.
 abbrev Behind : List ℕ → List Bool → ℕ → ℕ → List ℕ → ℕ → Type 0
-Behind work marks n many names r = (next : List ℕ) (columns : ℕ) → Sized next n columns → Packed next n columns work many → take n names ≡ refined (arrayTable next marks n columns) r
+Behind work marks n many names r = (next : List ℕ) (columns : ℕ) → Sized next n columns → Packed next n columns work many → take n names ≡ refined (array_table next marks n columns) r
 
 abbrev invariant-loop : tie.invariant-loop
 invariant-loop work marks n many here₀ there₀ r₀ here there r = (r ≤ n + 1) × Ended n here × Ended n there × Behind work marks n many here r
@@ -28,7 +28,7 @@ decreases-loop work marks n many here₀ there₀ r₀ here there r = n - r
 -- The table that there is.
 module _ (d : tie.Start invariant-loop decreases-loop) where
   abbrev t : Table
-  t = let a = d.args in arrayTable d.requires.0.0 a.marks.now a.n d.requires.0.1
+  t = let a = d.args in array_table d.requires.0.0 a.marks.now a.n d.requires.0.1
 
   abbrev sized : Sized d.pre.0.0 d.args.n d.pre.0.1
   sized = d.pre.0.2.0
@@ -38,7 +38,7 @@ module _ (d : tie.Start invariant-loop decreases-loop) where
 
   ready : (names : List ℕ) → Ended d.args.n names → Ready d.args.work.now d.args.n d.args.many names
   ready names e = let a = d.args in
-      packed-ready d.pre.0.0 a.n d.pre.0.1 a.work.now a.many sized packed names d.pre.1 e
+      packed_ready d.pre.0.0 a.n d.pre.0.1 a.work.now a.many sized packed names d.pre.1 e
 
   named : (names : List ℕ) (r : ℕ) → Behind d.args.work.now d.args.marks.now d.args.n d.args.many names r → Named d.args.n names
   named names r f = refined-named t names r (f d.pre.0.0 d.pre.0.1 sized packed)
@@ -61,7 +61,7 @@ loop-holds c =
       omega arith,
       ended-start a.n,
       ended-start a.n,
-      λ next columns s p. refined-start (arrayTable next a.marks.now a.n columns) 257 256 a.n (omega (arith, s.few)) s.few,
+      λ next columns s p. refined-start (array_table next a.marks.now a.n columns) 257 256 a.n (omega (arith, s.few)) s.few,
     )
 
 round-requires : tie.Need-round-requires invariant-loop decreases-loop
@@ -76,7 +76,7 @@ returns c =
     let a = c.before.before.before.before.before.before.before.args in
     let h = c.before.before.before.before.loop-test.true in (
       λ next columns s p.
-          merged-early (arrayTable next a.marks.now a.n columns) l.here l.r (l.invariant.3 next columns s p)
+          merged_early (array_table next a.marks.now a.n columns) l.here l.r (l.invariant.3 next columns s p)
           ((c.before.round.ensures.0 next columns s p).same.yes c.if1.true) (omega (arith, h)),
       l.invariant.1.whole,
     )
@@ -94,7 +94,7 @@ module _ (c : tie.After-round invariant-loop decreases-loop) where
 
   one_more : Behind start.args.work.now start.args.marks.now start.args.n start.args.many there (at-loop.loop.r + 1)
   one_more next columns s p =
-      refined-more (arrayTable next start.args.marks.now start.args.n columns) at-loop.loop.here there at-loop.loop.r (at-loop.loop.inv.3 next columns s p)
+      refined-more (array_table next start.args.marks.now start.args.n columns) at-loop.loop.here there at-loop.loop.r (at-loop.loop.inv.3 next columns s p)
       (c.round.ensures.0 next columns s p).made
 
 round-requires-2 : tie.Need-round-requires-2 invariant-loop decreases-loop
@@ -111,7 +111,7 @@ returns-2 c =
     let a = (start first).args in
     let h = first.before.before.before.loop-test.true in (
       λ next columns s p.
-          merged-early (arrayTable next a.marks.now a.n columns) (there first) (l.r + 1) (one_more first next columns s p)
+          merged_early (array_table next a.marks.now a.n columns) (there first) (l.r + 1) (one_more first next columns s p)
           ((c.before.round2.ensures.0 next columns s p).same.yes c.if2.true) (omega (arith, h)),
       first.round.ensures.1.whole,
     )
@@ -134,7 +134,7 @@ loop-again c =
       second.1,
       first.round.ensures.1,
       λ next columns s p.
-          let t = arrayTable next a.marks.now a.n columns in
+          let t = array_table next a.marks.now a.n columns in
           refined-more t (there first) here (l.r + 1) (one_more first next columns s p) (second.0 next columns s p).made ∙ ap (refined t) two,
     )
 
@@ -142,7 +142,7 @@ returns-3 : tie.Need-returns-3 invariant-loop decreases-loop
 returns-3 c =
     let l = c.before.loop in
     let a = c.before.before.before.args in (
-      λ next columns s p. merged-late (arrayTable next a.marks.now a.n columns) l.here l.r (l.invariant.3 next columns s p) c.loop-test.false,
+      λ next columns s p. merged_late (array_table next a.marks.now a.n columns) l.here l.r (l.invariant.3 next columns s p) c.loop-test.false,
       l.invariant.1.whole,
     )
 

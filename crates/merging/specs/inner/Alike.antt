@@ -1,20 +1,20 @@
 -- What a round reads in the packed columns: which states are alike, and the first block that is like a state.
 use Rattle.std.specs.Prelude.{◌≡◌, Bool, false, List, ℕ, suc, ◌+◌, ◌*◌, ◌<◌, ◌≤◌, length, get_or}
-use Rattle.deterministic.specs.Sizes.{mostSets, mostLetters, workLength}
+use Rattle.deterministic.specs.Sizes.{most_sets, most_letters, work_length}
 use Rattle.packed_steps.specs.inner.Packed.{entry_at}
 
 -- What a round may read: columns of n states, and the block of every target.
 pub record Ready (b : List ℕ) (n many : ℕ) (old : List ℕ) : Type 0 where
-  pub few : n ≤ mostSets
-  pub few-columns : many ≤ mostLetters
-  pub long : workLength ≤ length b
-  pub small : (i k : ℕ) → i < many → k < n → entry_at b (i * mostSets + k) ≤ mostSets
-  pub whole : length old ≡ suc mostSets
-  pub last : get_or old mostSets 0 ≡ n
+  pub few : n ≤ most_sets
+  pub few_columns : many ≤ most_letters
+  pub long : work_length ≤ length b
+  pub small : (i k : ℕ) → i < many → k < n → entry_at b (i * most_sets + k) ≤ most_sets
+  pub whole : length old ≡ suc most_sets
+  pub last : get_or old most_sets 0 ≡ n
 
 -- Two states have targets of one block in each column.
 abbrev pub SameIn : List ℕ → List ℕ → ℕ → ℕ → ℕ → Type 0
-SameIn b old many j k = (i : ℕ) → i < many → get_or old (entry_at b (i * mostSets + j)) 0 ≡ get_or old (entry_at b (i * mostSets + k)) 0
+SameIn b old many j k = (i : ℕ) → i < many → get_or old (entry_at b (i * most_sets + j)) 0 ≡ get_or old (entry_at b (i * most_sets + k)) 0
 
 -- Also one old block and one mark.
 pub record Alike (b : List ℕ) (marks : List Bool) (old : List ℕ) (many j k : ℕ) : Type 0 where

@@ -1,7 +1,7 @@
 -- What is known of the arrays of a round of partition refinement. A state's block is named by the lowest state in it.
 use Rattle.std.specs.Prelude.{◌≡◌, Bool, List, ℕ, suc, ◌+◌, ◌*◌, ◌<◌, ◌≤◌, length, take, get_or}
 use Rattle.lts.specs.inner.Answers.{Decides}
-use Rattle.deterministic.specs.Sizes.{mostSets, mostLetters}
+use Rattle.deterministic.specs.Sizes.{most_sets, most_letters}
 use Rattle.deterministic.specs.inner.Blocks.{Table, block_of, refine, blocks}
 
 -- An array has a block for each of n states, none named by a later state.
@@ -11,15 +11,15 @@ pub record Named (n : ℕ) (old : List ℕ) : Type 0 where
 
 -- Behind the blocks of the states stands the one of what is no state.
 pub record Ended (n : ℕ) (names : List ℕ) : Type 0 where
-  pub whole : length names ≡ suc mostSets
-  pub last : get_or names mostSets 0 ≡ n
+  pub whole : length names ≡ suc most_sets
+  pub last : get_or names most_sets 0 ≡ n
 
 -- The block of the state that a column of state k leads to.
-abbrev pub targetBlock : List ℕ → List ℕ → ℕ → ℕ → ℕ → ℕ
-targetBlock next c n k i = get_or c (get_or next (k * mostLetters + i) n) n
+abbrev pub target_block : List ℕ → List ℕ → ℕ → ℕ → ℕ → ℕ
+target_block next c n k i = get_or c (get_or next (k * most_letters + i) n) n
 
 abbrev pub SameTargets : List ℕ → List ℕ → ℕ → ℕ → ℕ → ℕ → Type 0
-SameTargets next c n columns j k = (i : ℕ) → i < columns → targetBlock next c n j i ≡ targetBlock next c n k i
+SameTargets next c n columns j k = (i : ℕ) → i < columns → target_block next c n j i ≡ target_block next c n k i
 
 -- The first k blocks are those of a round.
 abbrev pub RoundTo : Table → List ℕ → List ℕ → ℕ → Type 0

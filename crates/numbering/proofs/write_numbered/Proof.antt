@@ -9,7 +9,7 @@ find-blocks-requires c κs =
     let known = c.before.before in
     let d = known.before.before in
     let long = known.lengths.ensures in
-    (record { all-next = long.0; all_blocks = long.1; states = d.requires.0; letters = d.requires.1.0; inside = d.requires.1.1.0 }, rows_none)
+    (record { all_next = long.0; all_blocks = long.1; states = d.requires.0; letters = d.requires.1.0; inside = d.requires.1.1.0 }, rows_none)
 
 pub write-numbered-spec : {M : Type 1} → statement M
 write-numbered-spec =

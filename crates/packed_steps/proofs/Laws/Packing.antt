@@ -10,16 +10,16 @@ use native.Mathlib.Omega.{arith}
 use lib.ListN.{length, get_or, set, length-set}
 use lib.Seq.{get_or-set_same, get_or-set_other, drop-set-lt}
 use borrow.Author.Tests.{lt-ltb, le-ltb}
-use Rattle.deterministic.specs.Sizes.{mostSets, mostLetters, workLength}
-use Rattle.packed_steps.specs.inner.Packed.{entry_at, EntryPut, targetIn, ColumnIs, Nowhere, ColumnTo, Packed}
+use Rattle.deterministic.specs.Sizes.{most_sets, most_letters, work_length}
+use Rattle.packed_steps.specs.inner.Packed.{entry_at, EntryPut, target_in, ColumnIs, Nowhere, ColumnTo, Packed}
 use Rattle.lts.proofs.Laws.Compare.{get_d_any}
 
 -- The two bytes of an entry.
-pub entry-is : (b : List ℕ) (p x y r : ℕ) → x ≡ get_or b (p * 2) 0 → y ≡ get_or b (p * 2 + 1) 0 → r ≡ x + y * 256 → r ≡ entry_at b p
+pub entry_is : (b : List ℕ) (p x y r : ℕ) → x ≡ get_or b (p * 2) 0 → y ≡ get_or b (p * 2 + 1) 0 → r ≡ x + y * 256 → r ≡ entry_at b p
 unfolding entry_at
-entry-is b p x y r e f g = omega (arith, e, f, g)
+entry_is b p x y r e f g = omega (arith, e, f, g)
 
-module _ (b : List ℕ) (p x : ℕ) (low : p < mostSets * mostLetters) (long : workLength ≤ length b) (small : x < 65536) where
+module _ (b : List ℕ) (p x : ℕ) (low : p < most_sets * most_letters) (long : work_length ≤ length b) (small : x < 65536) where
   abbrev one : List ℕ
   one = set b (p * 2) (x % 256)
 
@@ -38,29 +38,29 @@ module _ (b : List ℕ) (p x : ℕ) (low : p < mostSets * mostLetters) (long : w
   other : (i : ℕ) → (i ≡ p * 2 → ⊥) → (i ≡ p * 2 + 1 → ⊥) → get_or both i 0 ≡ get_or b i 0
   other i e f = get_or-set_other one (p * 2 + 1) i (x / 256) 0 f ∙ get_or-set_other b (p * 2) i (x % 256) 0 e
 
-  pub entry-put : EntryPut b p x both
+  pub entry_put : EntryPut b p x both
   unfolding entry_at
-  entry-put = record {
+  entry_put = record {
     long = length-set one (p * 2 + 1) (x / 256) ∙ one-long;
     put = omega (arith, first, second);
     others = λ q d.
         let e = other (q * 2) (λ z. d (omega arith)) (λ z. absurd (omega arith)) in
         let f = other (q * 2 + 1) (λ z. absurd (omega arith)) (λ z. d (omega arith)) in
         omega (arith, e, f);
-    behind = drop-set-lt workLength one (p * 2 + 1) (x / 256) (omega arith) ∙ drop-set-lt workLength b (p * 2) (x % 256) (omega arith);
+    behind = drop-set-lt work_length one (p * 2 + 1) (x / 256) (omega arith) ∙ drop-set-lt work_length b (p * 2) (x % 256) (omega arith);
   }
 
 -- Targets by which blocks are looked up.
-pub target_is : (n x : ℕ) → x < n → targetIn n x ≡ x
-target_is n x h = ap (λ b. cond b x mostSets) (lt-ltb x n h)
+pub target_is : (n x : ℕ) → x < n → target_in n x ≡ x
+target_is n x h = ap (λ b. cond b x most_sets) (lt-ltb x n h)
 
-pub target_none : (n x : ℕ) → n ≤ x → targetIn n x ≡ mostSets
-target_none n x h = ap (λ b. cond b x mostSets) (le-ltb x n h)
+pub target_none : (n x : ℕ) → n ≤ x → target_in n x ≡ most_sets
+target_none n x h = ap (λ b. cond b x most_sets) (le-ltb x n h)
 
-pub target_small : (n x : ℕ) → n ≤ mostSets → targetIn n x ≤ mostSets
+pub target_small : (n x : ℕ) → n ≤ most_sets → target_in n x ≤ most_sets
 target_small n x b = case (dec_lt x n)
   where
-    case : Dec (x < n) → targetIn n x ≤ mostSets
+    case : Dec (x < n) → target_in n x ≤ most_sets
     case (yes h) = omega (arith, target_is n x h)
     case (no h) = omega (arith, target_none n x (omega (arith, h)))
 
@@ -69,7 +69,7 @@ module _ (next : List ℕ) (n c i : ℕ) (before : List ℕ) where
   pub column-start : ColumnTo next n c i 0 before before
   column-start = record { long = refl; behind = refl; stayed = λ p h. refl; put = λ l h. absurd (omega arith) }
 
-  pub column-more : (k x : ℕ) (now after : List ℕ) → ColumnTo next n c i k before now → x ≡ targetIn n (get_or next (k * mostLetters + c) n) → EntryPut now (i * mostSets + k) x after
+  pub column-more : (k x : ℕ) (now after : List ℕ) → ColumnTo next n c i k before now → x ≡ target_in n (get_or next (k * most_letters + c) n) → EntryPut now (i * most_sets + k) x after
       → ColumnTo next n c i (k + 1) before after
   column-more k x now after g e w = record {
     long = w.long ∙ g.long;
@@ -78,32 +78,32 @@ module _ (next : List ℕ) (n c i : ℕ) (before : List ℕ) where
     put = λ l h. case l (eq-or-lt_of_le (omega arith));
   }
     where
-      case : (l : ℕ) → (l ≡ k) ⊎ (l < k) → entry_at after (i * mostSets + l) ≡ targetIn n (get_or next (l * mostLetters + c) n)
-      case l (inl z) = subst (λ (m : ℕ). entry_at after (i * mostSets + m) ≡ targetIn n (get_or next (m * mostLetters + c) n)) (sym z) (w.put ∙ e)
-      case l (inr z) = w.others (i * mostSets + l) (λ y. absurd (omega arith)) ∙ g.put l z
+      case : (l : ℕ) → (l ≡ k) ⊎ (l < k) → entry_at after (i * most_sets + l) ≡ target_in n (get_or next (l * most_letters + c) n)
+      case l (inl z) = subst (λ (m : ℕ). entry_at after (i * most_sets + m) ≡ target_in n (get_or next (m * most_letters + c) n)) (sym z) (w.put ∙ e)
+      case l (inr z) = w.others (i * most_sets + l) (λ y. absurd (omega arith)) ∙ g.put l z
 
-  pub column-done : (k : ℕ) (after : List ℕ) → n ≤ k → ColumnTo next n c i k before after → ColumnTo next n c i n before after
-  column-done k after h g = record { long = g.long; behind = g.behind; stayed = g.stayed; put = λ l d. g.put l (omega arith) }
+  pub column_done : (k : ℕ) (after : List ℕ) → n ≤ k → ColumnTo next n c i k before after → ColumnTo next n c i n before after
+  column_done k after h g = record { long = g.long; behind = g.behind; stayed = g.stayed; put = λ l d. g.put l (omega arith) }
 
 -- A target as it is read.
 pub target-read : (next : List ℕ) (n i to : ℕ) → i < length next → to ≡ get_or next i 0 → to ≡ get_or next i n
 target-read next n i to h e = e ∙ get_d_any 0 n next i h
 
-pub nowhere-more : (next : List ℕ) (n c k to : ℕ) (s r : Bool) → (s ≡ false → Nowhere next n c k) → to ≡ get_or next (k * mostLetters + c) n → (r ≡ false → (s ≡ false) × (n ≤ to)) → r ≡ false
+pub nowhere-more : (next : List ℕ) (n c k to : ℕ) (s r : Bool) → (s ≡ false → Nowhere next n c k) → to ≡ get_or next (k * most_letters + c) n → (r ≡ false → (s ≡ false) × (n ≤ to)) → r ≡ false
     → Nowhere next n c (k + 1)
 nowhere-more next n c k to s r f e g d l h = case (eq-or-lt_of_le (omega arith))
   where
-    case : (l ≡ k) ⊎ (l < k) → n ≤ get_or next (l * mostLetters + c) n
-    case (inl z) = subst (λ (m : ℕ). n ≤ get_or next (m * mostLetters + c) n) (sym z) (omega (arith, e, (g d).1))
+    case : (l ≡ k) ⊎ (l < k) → n ≤ get_or next (l * most_letters + c) n
+    case (inl z) = subst (λ (m : ℕ). n ≤ get_or next (m * most_letters + c) n) (sym z) (omega (arith, e, (g d).1))
     case (inr z) = f (g d).0 l z
 
 -- One column more.
 pub packed_none : (next : List ℕ) (n : ℕ) (b : List ℕ) → Packed next n 0 b 0
 packed_none next n b = record { few = omega arith; of = λ i h. absurd (omega arith); to = λ c h. absurd (omega arith) }
 
-module _ (next : List ℕ) (n c many : ℕ) (b after : List ℕ) (p : Packed next n c b many) (g : ColumnTo next n c many n b after) (few : n ≤ mostSets) where
+module _ (next : List ℕ) (n c many : ℕ) (b after : List ℕ) (p : Packed next n c b many) (g : ColumnTo next n c many n b after) (few : n ≤ most_sets) where
   stays : (i e : ℕ) → i < many → ColumnIs next n e i n b → ColumnIs next n e i n after
-  stays i e h f l d = g.stayed (i * mostSets + l) (omega arith) ∙ f l d
+  stays i e h f l d = g.stayed (i * most_sets + l) (omega arith) ∙ f l d
 
   packed_more : (some : Bool) → (some ≡ false → Nowhere next n c n) → Packed next n (c + 1) after (cond some (many + 1) many)
   packed_more true f = record {
@@ -137,5 +137,5 @@ module _ (next : List ℕ) (n c many : ℕ) (b after : List ℕ) (p : Packed nex
           old (inl (i, h, q)) = inl (i, h, stays i e h q)
           old (inr q) = inr q
 
-  pub packed-count : (some : Bool) (r : ℕ) → r ≡ cond some (many + 1) many → (some ≡ false → Nowhere next n c n) → Packed next n (c + 1) after r
-  packed-count some r e f = subst (λ (m : ℕ). Packed next n (c + 1) after m) (sym e) (packed_more some f)
+  pub packed_count : (some : Bool) (r : ℕ) → r ≡ cond some (many + 1) many → (some ≡ false → Nowhere next n c n) → Packed next n (c + 1) after r
+  packed_count some r e f = subst (λ (m : ℕ). Packed next n (c + 1) after m) (sym e) (packed_more some f)

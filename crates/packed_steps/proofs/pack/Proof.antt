@@ -5,13 +5,13 @@ use mathlib.Core.Path.{◌≡◌, refl, ◌∙◌, subst}
 use Prim.Native.Nat.{ℕ, ◌-◌, ◌≤◌}
 use native.Mathlib.Omega.{arith}
 use lib.ListN.{length, drop}
-use Rattle.deterministic.specs.Sizes.{workLength}
+use Rattle.deterministic.specs.Sizes.{work_length}
 use Rattle.packed_steps.specs.inner.Packed.{Packed}
-use Rattle.packed_steps.proofs.Laws.Packing.{packed_none, packed-count}
+use Rattle.packed_steps.proofs.Laws.Packing.{packed_none, packed_count}
 
 abbrev invariant-loop : tie.invariant-loop
 invariant-loop next n columns work₀ many₀ c₀ work many c =
-    (c ≤ columns) × Packed next n c work many × (length work ≡ length work₀) × (drop workLength work ≡ drop workLength work₀)
+    (c ≤ columns) × Packed next n c work many × (length work ≡ length work₀) × (drop work_length work ≡ drop work_length work₀)
 
 abbrev decreases-loop : tie.decreases-loop
 decreases-loop next n columns work₀ many₀ c₀ work many c = columns - c
@@ -26,13 +26,13 @@ pack-column-requires c κs =
     let l = c.before.before.loop.invariant in
     let p = c.before.before.before.before.before.requires in
     let h = c.before.loop-test.true in
-    ((p.0.whole, p.0.few), (omega (arith, p.0.few-columns), (omega (arith, l.1.few, p.0.few-columns), omega (arith, l.2, p.1))))
+    ((p.0.whole, p.0.few), (omega (arith, p.0.few_columns), (omega (arith, l.1.few, p.0.few_columns), omega (arith, l.2, p.1))))
 
 one-more-requires : tie.Need-one-more-requires invariant-loop decreases-loop
 one-more-requires c κs =
     let in-loop = c.before.before.before.before in
     let p = in-loop.before.before.before.before.requires in
-    omega (arith, in-loop.before.loop.invariant.1.few, in-loop.loop-test.true, p.0.few-columns)
+    omega (arith, in-loop.before.loop.invariant.1.few, in-loop.loop-test.true, p.0.few_columns)
 
 add-c : tie.Need-overflow-add-c invariant-loop decreases-loop
 add-c c = omega arith
@@ -50,7 +50,7 @@ loop-again c =
     let g = column.ensures.0 in
     let more = c.one_more in (
       omega arith,
-      packed-count a.next.now a.n l.c l.many l.work _ l.invariant.1 g d.requires.0.few column.result more.result more.ensures column.ensures.1,
+      packed_count a.next.now a.n l.c l.many l.work _ l.invariant.1 g d.requires.0.few column.result more.result more.ensures column.ensures.1,
       g.long ∙ l.invariant.2,
       g.behind ∙ l.invariant.3,
     )

@@ -6,9 +6,9 @@ use mathlib.Core.Path.{◌≡◌, ap, ◌∙◌}
 use mathlib.Core.Bool.{false}
 use Prim.Native.Nat.{◌+◌, ◌-◌, ◌*◌, ◌≤◌}
 use native.Mathlib.Omega.{arith}
-use Rattle.deterministic.specs.Sizes.{mostLetters}
-use Rattle.packed_steps.specs.inner.Packed.{Nowhere, ColumnTo, targetIn}
-use Rattle.packed_steps.proofs.Laws.Packing.{column-start, column-more, column-done, target-read, nowhere-more}
+use Rattle.deterministic.specs.Sizes.{most_letters}
+use Rattle.packed_steps.specs.inner.Packed.{Nowhere, ColumnTo, target_in}
+use Rattle.packed_steps.proofs.Laws.Packing.{column-start, column-more, column_done, target-read, nowhere-more}
 
 abbrev invariant-loop : tie.invariant-loop
 invariant-loop next n c i work₀ some₀ k₀ work some k = (k ≤ n) × ColumnTo next n c i k work₀ work × (some ≡ false → Nowhere next n c k)
@@ -59,11 +59,11 @@ loop-again c =
     let d = in-loop.before.before.before.before in
     let a = d.args in
     let to = arg.before.wide in
-    let read = target-read a.next.now a.n (l.k * mostLetters + a.c) to.result (omega arith) to.ensures in
+    let read = target-read a.next.now a.n (l.k * most_letters + a.c) to.result (omega arith) to.ensures in
     let target = put.before.target-in in (
       omega arith,
       column-more a.next.now a.n a.c a.i a.work.now l.k target.result l.work _ l.invariant.1
-          (target.ensures.0 ∙ ap (targetIn a.n) read) put.put-entry.ensures,
+          (target.ensures.0 ∙ ap (target_in a.n) read) put.put-entry.ensures,
       nowhere-more a.next.now a.n a.c l.k to.result l.some c.leads.result l.invariant.2 read c.leads.ensures,
     )
 
@@ -74,7 +74,7 @@ returns : tie.Need-returns invariant-loop decreases-loop
 returns c =
     let l = c.before.loop in
     let a = c.before.before.before.before.args in
-    (column-done a.next.now a.n a.c a.i a.work.now l.k l.work (omega arith) l.invariant.1, λ e i h. l.invariant.2 e i (omega arith))
+    (column_done a.next.now a.n a.c a.i a.work.now l.k l.work (omega arith) l.invariant.1, λ e i h. l.invariant.2 e i (omega arith))
 
 pub pack-column-spec : {M : Type 1} → statement M
 pack-column-spec =

@@ -4,14 +4,14 @@ use Rattle.packed_steps.proofs.put_entry.Statement.{statement}
 use Rattle.packed_steps.proofs.put_entry.Tie as tie
 use native.Mathlib.Omega.{arith}
 use lib.ListN.{length-set}
-use Rattle.packed_steps.proofs.Laws.Packing.{entry-put}
+use Rattle.packed_steps.proofs.Laws.Packing.{entry_put}
 
 slice-write-work-2 : tie.Need-slice-write-work-2
 slice-write-work-2 c = simp length-set (omega arith)
 
 returns : tie.Need-returns
 returns c = let a = c.args in
-    entry-put a.work.now a.p a.x c.requires.0.0 c.requires.0.1 c.requires.1
+    entry_put a.work.now a.p a.x c.requires.0.0 c.requires.0.1 c.requires.1
 
 pub put-entry-spec : {M : Type 1} → statement M
 put-entry-spec =

@@ -1,6 +1,6 @@
 -- `answer` meets its contract: a refusal of the inputs, and else what is laid out.
 use borrow.Author.Rules.{rules}
-use Rattle.formula_check.proofs.Laws.Inputs.{Both, inputs-prepared, both-held}
+use Rattle.formula_check.proofs.Laws.Inputs.{Both, inputs_prepared, both-held}
 use Rattle.smallest.proofs.Laws.Entry.{answered-refused, answered-laid}
 use Rattle.smallest.proofs.answer.Statement.{statement}
 use Rattle.smallest.proofs.answer.Tie as tie
@@ -16,7 +16,7 @@ returns c =
     answered-refused a.table.now a.formula.now a.rows.now a.edges.now a.out.now a.work.now asked.check-inputs.ensures c.before.why.given.1
 
 prepared : (c : tie.After-enum-told) → let a = (entry c.before.before).args in Both a.table.now a.formula.now
-prepared c = inputs-prepared _ _ c.before.before.check-inputs.ensures c.enum_told.given.1
+prepared c = inputs_prepared _ _ c.before.before.check-inputs.ensures c.enum_told.given.1
 
 beside-requires : tie.Need-beside-requires
 beside-requires c κs =

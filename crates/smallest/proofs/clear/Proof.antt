@@ -4,17 +4,17 @@ use Prim.Native.Nat.{suc, ◌+◌, ◌-◌, ◌≤◌}
 use native.Mathlib.Omega.{arith}
 use lib.ListN.{length, set, replicate, length-set}
 use Rattle.lts.specs.Reply.{overwritten}
-use Rattle.deterministic.specs.Sizes.{workLength}
+use Rattle.deterministic.specs.Sizes.{work_length}
 use Rattle.deterministic.specs.SmallestAsked.{cleared}
 use Rattle.smallest.proofs.Laws.Zeros.{zero_more}
 use Rattle.smallest.proofs.clear.Statement.{statement}
 use Rattle.smallest.proofs.clear.Tie as tie
 
 abbrev invariant-loop : tie.invariant-loop
-invariant-loop work₀ i₀ work i = (i ≤ workLength) × (length work ≡ length work₀) × (work ≡ overwritten (replicate i 0) work₀)
+invariant-loop work₀ i₀ work i = (i ≤ work_length) × (length work ≡ length work₀) × (work ≡ overwritten (replicate i 0) work₀)
 
 abbrev decreases-loop : tie.decreases-loop
-decreases-loop work₀ i₀ work i = workLength - i
+decreases-loop work₀ i₀ work i = work_length - i
 
 loop-holds : tie.Need-loop-init invariant-loop decreases-loop
 loop-holds c = (omega arith, refl, refl)
@@ -33,7 +33,7 @@ returns : tie.Need-returns invariant-loop decreases-loop
 unfolding cleared
 returns c =
     let l = c.before.loop in
-    let all : l.i ≡ workLength = omega arith in
+    let all : l.i ≡ work_length = omega arith in
     l.invariant.2 ∙ ap (λ n. overwritten (replicate n 0) c.before.before.args.work.now) all
 
 pub clear_spec : {M : Type 1} → statement M

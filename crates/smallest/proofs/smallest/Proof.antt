@@ -1,7 +1,7 @@
 -- `smallest` meets its contract: 14 for each buffer, and else what is answered, with the work buffer cleared.
 use borrow.Author.Rules.{rules}
 use native.Mathlib.Omega.{arith}
-use Rattle.smallest.proofs.Laws.Entry.{short, short-table, short-formula, short-out, short-work, answered}
+use Rattle.smallest.proofs.Laws.Entry.{short, short-table, short-formula, short_out, short-work, answered}
 use Rattle.smallest.proofs.smallest.Statement.{statement}
 use Rattle.smallest.proofs.smallest.Tie as tie
 
@@ -12,7 +12,7 @@ returns-2 : tie.Need-returns-2
 returns-2 c = short _ _ _ _ _ _ _ (short-formula _ _ _ _ _ _ c.before.if1.false c.if2.true)
 
 returns-3 : tie.Need-returns-3
-returns-3 c = let second = c.before in short _ _ _ _ _ _ _ (short-out _ _ _ _ _ _ second.before.if1.false second.if2.false c.if3.true)
+returns-3 c = let second = c.before in short _ _ _ _ _ _ _ (short_out _ _ _ _ _ _ second.before.if1.false second.if2.false c.if3.true)
 
 returns-4 : tie.Need-returns-4
 returns-4 c =

@@ -3,52 +3,52 @@ use mathlib.Core.Path.{◌≡◌, sym, ap, ◌∙◌}
 use mathlib.Core.List.{List}
 use Prim.Native.Nat.{ℕ, ◌≤◌}
 use lib.ListN.{length}
-use Rattle.lts.specs.Sizes.{tableLength}
-use Rattle.lts.specs.Reply.{Reply, refusal, leftIn, answers}
-use Rattle.actl.specs.Sizes.{formulaLength}
-use Rattle.actl.proofs.Laws.Replies.{on-prepared-goes}
+use Rattle.lts.specs.Sizes.{table_length}
+use Rattle.lts.specs.Reply.{Reply, refusal, left_in, answers}
+use Rattle.actl.specs.Sizes.{formula_length}
+use Rattle.actl.proofs.Laws.Replies.{on-prepared_goes}
 use Rattle.explanations.specs.Explanation.{and_then}
 use Rattle.explanations.specs.inner.BothTexts.{Read, readings}
 use Rattle.explanations.proofs.Beginnings.{of-readings}
-use Rattle.replies.specs.Interface.{number_in, figureIn}
+use Rattle.replies.specs.Interface.{number_in, figure_in}
 use Rattle.replies.specs.declared.Answer.{Answer}
 use Rattle.explaining.proofs.Answers.{said_of}
 use Rattle.explaining.proofs.Into.{WasRead}
-use Rattle.deterministic.specs.Sizes.{smallestLength, workLength}
-use Rattle.deterministic.specs.SmallestAsked.{Beside, besideIn, smallestAsked, countsBeside, smallestBytes}
-use Rattle.deterministic.proofs.Answered.{with-room}
-use Rattle.smallest_lines.specs.SmallestText.{lentSmallest}
-use Rattle.smallest_lines.specs.inner.Asking.{lentRows, lentEdges, rowsIn, Found, Asked}
+use Rattle.deterministic.specs.Sizes.{smallest_length, work_length}
+use Rattle.deterministic.specs.SmallestAsked.{Beside, beside_in, smallest_asked, counts_beside, smallest_bytes}
+use Rattle.deterministic.proofs.Answered.{with_room}
+use Rattle.smallest_lines.specs.SmallestText.{lent_smallest}
+use Rattle.smallest_lines.specs.inner.Asking.{lent_rows, lent_edges, rows_in, Found, Asked}
 
-module _ (tableText text : List ℕ) where
+module _ (table_text text : List ℕ) where
   abbrev asking : Read → Reply Beside
-  asking x = besideIn lentRows lentEdges x.table x.formula
+  asking x = beside_in lent_rows lent_edges x.table x.formula
 
-  of-read : {r : Reply Read} → readings tableText text ≡ r → lentSmallest tableText text ≡ and_then r asking
-  unfolding lentSmallest
-  of-read e = of-readings (besideIn lentRows lentEdges) tableText text ∙ ap (λ r. and_then r asking) e
+  of-read : {r : Reply Read} → readings table_text text ≡ r → lent_smallest table_text text ≡ and_then r asking
+  unfolding lent_smallest
+  of-read e = of-readings (beside_in lent_rows lent_edges) table_text text ∙ ap (λ r. and_then r asking) e
 
-  pub refused-texts : (buffer : List ℕ) (n g : ℕ) → readings tableText text ≡ refusal n g → Asked tableText text buffer buffer (record { number = n; figure = g })
-  refused-texts buffer n g d =
+  pub refused_texts : (buffer : List ℕ) (n g : ℕ) → readings table_text text ≡ refusal n g → Asked table_text text buffer buffer (record { number = n; figure = g })
+  refused_texts buffer n g d =
       let is = of-read d in
       record {
-        says = record { number-said = sym (ap (λ r. number_in (answers countsBeside r)) is); figure-said = sym (ap (λ r. figureIn rowsIn (answers countsBeside r)) is) };
-        left = sym (ap (λ r. leftIn smallestBytes r buffer) is);
+        says = record { number_said = sym (ap (λ r. number_in (answers counts_beside r)) is); figure_said = sym (ap (λ r. figure_in rows_in (answers counts_beside r)) is) };
+        left = sym (ap (λ r. left_in smallest_bytes r buffer) is);
       }
 
   -- The prepared bytes that both readings leave, and a buffer that is long enough.
-  module _ {t f : List ℕ} (w : WasRead tableText text t f) (buffer : List ℕ)
-      (whole : tableLength ≤ length t) (wide : formulaLength ≤ length f) (room : smallestLength ≤ length buffer) where
-    is-asked : (work : List ℕ) → workLength ≤ length work → smallestAsked t f lentRows lentEdges buffer work ≡ lentSmallest tableText text
+  module _ {t f : List ℕ} (w : WasRead table_text text t f) (buffer : List ℕ)
+      (whole : table_length ≤ length t) (wide : formula_length ≤ length f) (room : smallest_length ≤ length buffer) where
+    is-asked : (work : List ℕ) → work_length ≤ length work → smallest_asked t f lent_rows lent_edges buffer work ≡ lent_smallest table_text text
     is-asked work enough =
-        with-room t f lentRows lentEdges buffer work room enough
-        ∙ on-prepared-goes t f w.held.is-table w.held.is-formula (besideIn lentRows lentEdges) whole wide
+        with_room t f lent_rows lent_edges buffer work room enough
+        ∙ on-prepared_goes t f w.held.is_table w.held.is_formula (beside_in lent_rows lent_edges) whole wide
         ∙ sym (of-read w.read)
 
-    pub asked-texts : {buffer' : List ℕ} {a : Answer} → Found t f buffer buffer' a → Asked tableText text buffer buffer' a
-    asked-texts found =
+    pub asked_texts : {buffer' : List ℕ} {a : Answer} → Found t f buffer buffer' a → Asked table_text text buffer buffer' a
+    asked_texts found =
         let is = is-asked found.work found.enough in
         record {
-          says = said_of found.says (ap (answers countsBeside) is);
-          left = found.left ∙ ap (λ r. leftIn smallestBytes r buffer) is;
+          says = said_of found.says (ap (answers counts_beside) is);
+          left = found.left ∙ ap (λ r. left_in smallest_bytes r buffer) is;
         }

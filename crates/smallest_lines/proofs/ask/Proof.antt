@@ -1,8 +1,8 @@
 -- `ask` meets its contract: the refusal of a reading, or what `find` answers and leaves of what was read.
 use borrow.Author.Rules.{rules}
 use native.Mathlib.Omega.{arith}
-use Rattle.explaining.proofs.Into.{was_read, was-refused}
-use Rattle.smallest_lines.proofs.Laws.Asking.{refused-texts, asked-texts}
+use Rattle.explaining.proofs.Into.{was_read, was_refused}
+use Rattle.smallest_lines.proofs.Laws.Asking.{refused_texts, asked_texts}
 use Rattle.smallest_lines.proofs.ask.Statement.{statement}
 use Rattle.smallest_lines.proofs.ask.Tie as tie
 
@@ -15,8 +15,8 @@ returns c =
     let read = c.before.before.before.before.before in
     let a = (begun read).args in
     let left = read.read-both.new.1.1 in
-    refused-texts a.tabletext.now a.formulatext.now a.automaton.now _ _
-    (was-refused a.tabletext.now a.formulatext.now left.0 left.1.0 read.read-both.ensures _ _ c.before.ready.given.1)
+    refused_texts a.tabletext.now a.formulatext.now a.automaton.now _ _
+    (was_refused a.tabletext.now a.formulatext.now left.0 left.1.0 read.read-both.ensures _ _ c.before.ready.given.1)
 
 returns-2 : tie.Need-returns-2
 returns-2 c =
@@ -26,7 +26,7 @@ returns-2 c =
     let a = (begun read).args in
     let left = read.read-both.new.1.1 in
     let was = was_read a.tabletext.now a.formulatext.now left.0 left.1.0 read.read-both.ensures told.enum_told.given.1 in
-    asked-texts a.tabletext.now a.formulatext.now was a.automaton.now (omega arith) (omega arith) (omega arith) found.find.ensures
+    asked_texts a.tabletext.now a.formulatext.now was a.automaton.now (omega arith) (omega arith) (omega arith) found.find.ensures
 
 pub ask-spec : {M : Type 1} → statement M
 ask-spec =

@@ -2,7 +2,7 @@
 use borrow.Author.Rules.{rules}
 use native.Mathlib.Omega.{arith}
 use lib.ListN.{replicate}
-use Rattle.deterministic.specs.Sizes.{workLength}
+use Rattle.deterministic.specs.Sizes.{work_length}
 use Rattle.explaining.proofs.Answers.{said_of}
 use Rattle.smallest_lines.proofs.find.Statement.{statement}
 use Rattle.smallest_lines.proofs.find.Tie as tie
@@ -10,7 +10,7 @@ use Rattle.smallest_lines.proofs.find.Tie as tie
 returns : tie.Need-returns
 returns c =
     let asked = c.before.before.before.before.before.before.smallest.ensures in
-    record { work = replicate workLength 0; enough = omega arith; says = said_of c.smallest-answer.ensures asked.0; left = asked.1.1.1.0 }
+    record { work = replicate work_length 0; enough = omega arith; says = said_of c.smallest-answer.ensures asked.0; left = asked.1.1.1.0 }
 
 pub find_spec : {M : Type 1} → statement M
 find_spec =

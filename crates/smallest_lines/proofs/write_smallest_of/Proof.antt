@@ -5,10 +5,10 @@ use mathlib.Core.List.{List}
 use Prim.Native.Nat.{ℕ, min}
 use native.Mathlib.Omega.{arith}
 use lib.ListN.{take, length-take}
-use Rattle.explanations.specs.inner.Sizes.{keptLength}
+use Rattle.explanations.specs.inner.Sizes.{kept_length}
 use Rattle.explanations.specs.inner.Printed.{TextWritten}
-use Rattle.smallest_lines.specs.SmallestText.{lentSmallest}
-use Rattle.smallest_lines.specs.inner.FileText.{countedText, fileText}
+use Rattle.smallest_lines.specs.SmallestText.{lent_smallest}
+use Rattle.smallest_lines.specs.inner.FileText.{counted_text, file_text}
 use Rattle.smallest_lines.proofs.write_smallest_of.Statement.{statement}
 use Rattle.smallest_lines.proofs.write_smallest_of.Tie as tie
 
@@ -19,15 +19,15 @@ slice-aggregate-write-text c =
     omega (arith, kept.least.ensures, length-take kept.least.result a.head.now)
 
 returns : tie.Need-returns
-unfolding fileText
+unfolding file_text
 returns c =
     let kept = c.before.before.before.before in
     let a = kept.before.before.before.args in
     let long = kept.before.text-length in
-    let first = kept.least.ensures ∙ ap (λ k. min k keptLength) long.ensures in
+    let first = kept.least.ensures ∙ ap (λ k. min k kept_length) long.ensures in
     let written = c.write-text in (
       subst (λ (l : List ℕ). TextWritten l a.out.now written.new.1.1.1.0 written.result)
-          (λ i. countedText (long.ensures i) (lentSmallest a.tablefile.now (take (first i) a.head.now))) written.ensures.0,
+          (λ i. counted_text (long.ensures i) (lent_smallest a.tablefile.now (take (first i) a.head.now))) written.ensures.0,
       written.ensures.1,
     )
 

@@ -3,7 +3,7 @@ use borrow.Author.Rules.{rules}
 use mathlib.Core.Path.{◌≡◌}
 use native.Mathlib.Omega.{arith}
 use Rattle.files.proofs.Counts.{written-counts}
-use Rattle.smallest_lines.proofs.Laws.Written.{was-held, refused-text, held-text}
+use Rattle.smallest_lines.proofs.Laws.Written.{was_held, refused-text, held-text}
 use Rattle.smallest_lines.proofs.write_text.Statement.{statement}
 use Rattle.smallest_lines.proofs.write_text.Tie as tie
 
@@ -34,7 +34,7 @@ write-smallest-requires c κs =
     let told = c.before.before in
     let question = asked told in
     let a = (start question).args in
-    let held = was-held a.tablefile.now a.text.now _ _ question.ask.ensures (zero told) in
+    let held = was_held a.tablefile.now a.text.now _ _ question.ask.ensures (zero told) in
     ((held.beside.smallest, held.held), omega (arith, (start question).pre))
 
 returns-2 : tie.Need-returns-2

@@ -5,14 +5,14 @@ use mathlib.Core.Path.{ap}
 use Prim.Native.Nat.{◌-◌, ◌≤◌}
 use native.Mathlib.Omega.{arith}
 use lib.ListN.{take}
-use Rattle.columns.specs.Lines.{numbersLine}
-use Rattle.columns.proofs.Laws.Pasting.{pasting-length}
+use Rattle.columns.specs.Lines.{numbers_line}
+use Rattle.columns.proofs.Laws.Pasting.{pasting_length}
 use Rattle.explanations.proofs.Printing.{Lines}
-use Rattle.smallest_text.specs.inner.Lines.{stepText}
+use Rattle.smallest_text.specs.inner.Lines.{step_text}
 use Rattle.smallest_text.proofs.Laws.Lines.{AreBytes, step-wide, lines_start, line-room, line-more, lines-written}
 
 abbrev invariant-loop : tie.invariant-loop
-invariant-loop smallest first edges out₀ at end₀ j₀ out end j = Lines (stepText smallest first) 19 out₀ at out end j × (j ≤ edges)
+invariant-loop smallest first edges out₀ at end₀ j₀ out end j = Lines (step_text smallest first) 19 out₀ at out end j × (j ≤ edges)
 
 abbrev decreases-loop : tie.decreases-loop
 decreases-loop smallest first edges out₀ at end₀ j₀ out end j = edges - j
@@ -50,14 +50,14 @@ loop-again c =
     let known = turn.before.before.before in
     let a = known.before.args in
     let bytes : AreBytes a.smallest.now = λ k. omega (arith, known.shared-slice-known.given k) in
-    let text = ap (λ n. numbersLine (take 3 n)) edge.three-at.ensures in (
-      line-more known.before.requires.1 l.invariant.0 turn.loop-test.true (numbersLine (take 3 edge.three-at.result))
+    let text = ap (λ n. numbers_line (take 3 n)) edge.three-at.ensures in (
+      line-more known.before.requires.1 l.invariant.0 turn.loop-test.true (numbers_line (take 3 edge.three-at.result))
           w.write-numbers.ensures.1.0 w.write-numbers.ensures.0 text (step-wide a.smallest.now a.first l.j bytes),
       omega arith,
     )
 
 same_length : tie.Need-same-length invariant-loop decreases-loop
-same_length c = pasting-length c.before.loop.invariant.0.pasting
+same_length c = pasting_length c.before.loop.invariant.0.pasting
 
 returns : tie.Need-returns invariant-loop decreases-loop
 returns c =

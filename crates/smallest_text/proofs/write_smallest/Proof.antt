@@ -7,10 +7,10 @@ use mathlib.Core.List.{[], ◌∷◌}
 use Prim.Native.Nat.{◌+◌}
 use native.Mathlib.Omega.{arith}
 use lib.ListN.{length}
-use Rattle.columns.specs.Lines.{numbersLine}
+use Rattle.columns.specs.Lines.{numbers_line}
 use Rattle.lts.specs.Reply.{overwritten}
-use Rattle.explanations.proofs.Printing.{three-texts}
-use Rattle.smallest_text.specs.inner.Lines.{stateText, stepText, linesText}
+use Rattle.explanations.proofs.Printing.{three_texts}
+use Rattle.smallest_text.specs.inner.Lines.{state_text, step_text, lines_text}
 use Rattle.smallest_text.proofs.Laws.Held.{held-long, counts-held, text-held}
 
 pair-at-requires : tie.Need-pair-at-requires
@@ -28,8 +28,8 @@ write-states-requires c κs =
     let p = w.before.before in
     let start = p.before.before.before.before in
     let k = counts-held start.requires.0.1 p.before.pair-at.ensures.0 p.pair-at2.ensures.0 in (
-      (omega (arith, k.stand), omega (arith, k.few-states)),
-      record { room = omega (arith, k.few-states, k.head, start.requires.1, w.write-numbers.ensures.0, w.write-numbers.auto.1.1.0) },
+      (omega (arith, k.stand), omega (arith, k.few_states)),
+      record { room = omega (arith, k.few_states, k.head, start.requires.1, w.write-numbers.ensures.0, w.write-numbers.auto.1.1.0) },
     )
 
 add-write-edges : tie.Need-overflow-add-write-edges
@@ -45,7 +45,7 @@ write-edges-requires c κs =
     let head = w.write-numbers in
     let states = s.write-states in (
       omega (arith, k.stand),
-      record { room = omega (arith, k.few-states, k.few-edges, k.head, start.requires.1, head.ensures.0, head.auto.1.1.0, states.ensures.wide, states.auto.1.1.0) },
+      record { room = omega (arith, k.few_states, k.few_edges, k.head, start.requires.1, head.ensures.0, head.auto.1.1.0, states.ensures.wide, states.auto.1.1.0) },
     )
 
 same_length : tie.Need-same-length
@@ -65,9 +65,9 @@ returns c d held =
     let head = x.write-numbers.ensures in
     let marks = y.write-states.ensures in
     let steps = z.write-edges.ensures in
-    let t = three-texts start.args.out.now (numbersLine (states.result ∷ edges.result ∷ [])) (linesText (stateText bytes) states.result)
-    (linesText (stepText bytes (4 + states.result)) edges.result)
-    (omega (arith, k.few-states, k.few-edges, k.head, start.requires.1, head.0, marks.wide, steps.wide)) (omega (arith, marks.wide)) (omega (arith, steps.wide))
+    let t = three_texts start.args.out.now (numbers_line (states.result ∷ edges.result ∷ [])) (lines_text (state_text bytes) states.result)
+    (lines_text (step_text bytes (4 + states.result)) edges.result)
+    (omega (arith, k.few_states, k.few_edges, k.head, start.requires.1, head.0, marks.wide, steps.wide)) (omega (arith, marks.wide)) (omega (arith, steps.wide))
     head.1.0 head.0 marks.is marks.ends steps.is steps.ends in
     let text = text-held held states.ensures.0 edges.ensures.0 in
     record { is = t.0 ∙ ap (λ l. overwritten l start.args.out.now) text; ends = t.1 ∙ ap length text }

@@ -6,14 +6,14 @@ use mathlib.Core.Path.{ap}
 use mathlib.Core.List.{[], ◌∷◌}
 use Prim.Native.Nat.{◌-◌, ◌≤◌}
 use native.Mathlib.Omega.{arith}
-use Rattle.columns.specs.Lines.{numbersLine}
-use Rattle.columns.proofs.Laws.Pasting.{pasting-length}
+use Rattle.columns.specs.Lines.{numbers_line}
+use Rattle.columns.proofs.Laws.Pasting.{pasting_length}
 use Rattle.explanations.proofs.Printing.{Lines}
-use Rattle.smallest_text.specs.inner.Lines.{stateText}
+use Rattle.smallest_text.specs.inner.Lines.{state_text}
 use Rattle.smallest_text.proofs.Laws.Lines.{AreBytes, state-wide, lines_start, line-room, line-more, lines-written}
 
 abbrev invariant-loop : tie.invariant-loop
-invariant-loop smallest states out₀ at end₀ i₀ out end i = Lines (stateText smallest) 13 out₀ at out end i × (i ≤ states)
+invariant-loop smallest states out₀ at end₀ i₀ out end i = Lines (state_text smallest) 13 out₀ at out end i × (i ≤ states)
 
 abbrev decreases-loop : tie.decreases-loop
 decreases-loop smallest states out₀ at end₀ i₀ out end i = states - i
@@ -51,14 +51,14 @@ loop-again c =
     let known = turn.before.before.before in
     let a = known.before.args in
     let bytes : AreBytes a.smallest.now = λ k. omega (arith, known.shared-slice-known.given k) in
-    let text = ap (λ m. numbersLine (l.i ∷ m ∷ [])) mark.wide.ensures.0 in (
-      line-more known.before.requires.1 l.invariant.0 turn.loop-test.true (numbersLine (l.i ∷ mark.wide.result ∷ []))
+    let text = ap (λ m. numbers_line (l.i ∷ m ∷ [])) mark.wide.ensures.0 in (
+      line-more known.before.requires.1 l.invariant.0 turn.loop-test.true (numbers_line (l.i ∷ mark.wide.result ∷ []))
           w.write-numbers.ensures.1.0 w.write-numbers.ensures.0 text (state-wide a.smallest.now l.i bytes (omega (arith, known.before.requires.0.1))),
       omega arith,
     )
 
 same_length : tie.Need-same-length invariant-loop decreases-loop
-same_length c = pasting-length c.before.loop.invariant.0.pasting
+same_length c = pasting_length c.before.loop.invariant.0.pasting
 
 returns : tie.Need-returns invariant-loop decreases-loop
 returns c =

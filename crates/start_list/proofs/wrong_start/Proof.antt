@@ -6,22 +6,22 @@ use Prim.Native.Nat.{◌≤◌, ◌<◌, ◌-◌}
 use native.Mathlib.Omega.{arith}
 use borrow.Author.Rules.{rules}
 use lib.ListN.{length, take}
-use Rattle.tables.specs.inner.Access.{foundIn}
-use Rattle.starts.specs.Starts.{isRight, wrongStart}
-use Rattle.starts.specs.inner.Search.{earlier, leastAfter}
-use Rattle.starts.proofs.Beginnings.{wrong-next, least-next, wrong-begun}
+use Rattle.tables.specs.inner.Access.{found_in}
+use Rattle.starts.specs.Starts.{is_right, wrong_start}
+use Rattle.starts.specs.inner.Search.{earlier, least_after}
+use Rattle.starts.proofs.Beginnings.{wrong-next, least_next, wrong-begun}
 use Rattle.start_list.proofs.wrong_start.Statement.{statement}
 use Rattle.start_list.proofs.wrong_start.Tie as tie
 
 abbrev invariant-loop : tie.invariant-loop
 invariant-loop states starts end found₀ least₀ i₀ found least i =
-    (i ≤ end) × (foundIn found ≡ wrongStart states (take i starts)) × (least ≡ leastAfter 0 (take i starts))
+    (i ≤ end) × (found_in found ≡ wrong_start states (take i starts)) × (least ≡ least_after 0 (take i starts))
 
 abbrev decreases-loop : tie.decreases-loop
 decreases-loop states starts end found₀ least₀ i₀ found least i = end - i
 
 loop-holds : tie.Need-loop-init invariant-loop decreases-loop
-unfolding wrongStart
+unfolding wrong_start
 loop-holds c = (omega arith, refl, refl)
 
 byte-requires : tie.Need-byte-requires invariant-loop decreases-loop
@@ -53,10 +53,10 @@ loop-again c =
     let loop = (turn c).loop in
     let l = a.starts.now in
     let entry = (looked c).byte.ensures.count in
-    let right = c.before.is_right.ensures ∙ (λ k. isRight a.states (loop.inv.2 k) (entry k)) in (
+    let right = c.before.is_right.ensures ∙ (λ k. is_right a.states (loop.inv.2 k) (entry k)) in (
       omega (arith, (looked c).before.loop-test.true),
       c.found-with.ensures ∙ (λ k. earlier (loop.inv.1 k) (cond (right k) none (some loop.i))) ∙ sym (wrong-next a.states l loop.i (listed c)),
-      omega (arith, entry, least-next a.states l loop.i (listed c)),
+      omega (arith, entry, least_next a.states l loop.i (listed c)),
     )
 
 returns : tie.Need-returns invariant-loop decreases-loop

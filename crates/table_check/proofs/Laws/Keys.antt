@@ -5,15 +5,15 @@ use mathlib.Core.List.{List}
 use Prim.Native.Nat.{ℕ, zero, suc, ◌+◌, ◌*◌, ◌≤◌, ◌<◌}
 use native.Mathlib.Nat.{eq-or-lt_of_le}
 use native.Mathlib.Omega.{arith}
-use Rattle.lts.specs.Sizes.{transitionLength}
-use Rattle.lts.specs.inner.Sizes.{transitionsAt}
+use Rattle.lts.specs.Sizes.{transition_length}
+use Rattle.lts.specs.inner.Sizes.{transitions_at}
 use Rattle.lts.specs.Steps.{Step}
 use Rattle.lts.specs.inner.Range.{Below}
-use Rattle.lts.specs.inner.Prepared.{byte_at, transitionAt}
+use Rattle.lts.specs.inner.Prepared.{byte_at, transition_at}
 use Rattle.lts.specs.inner.Check.{TransitionHeld}
-use Rattle.table_check.specs.inner.Keys.{stepKey, SlotHeld}
+use Rattle.table_check.specs.inner.Keys.{step_key, SlotHeld}
 
-key_below : (a b : Step) → b.label < 256 → b.to < 256 → stepKey a < stepKey b → Below a b
+key_below : (a b : Step) → b.label < 256 → b.to < 256 → step_key a < step_key b → Below a b
 key_below a b l t h = state (eq-or-lt_of_le (omega arith))
   where
     label : a.from ≡ b.from → (a.label ≡ b.label) ⊎ (a.label < b.label)
@@ -25,7 +25,7 @@ key_below a b l t h = state (eq-or-lt_of_le (omega arith))
     state (inl e) = inr (e, label e (eq-or-lt_of_le (omega arith)))
     state (inr m) = inl m
 
-below_key : (a b : Step) → a.label < 256 → a.to < 256 → Below a b → stepKey a < stepKey b
+below_key : (a b : Step) → a.label < 256 → a.to < 256 → Below a b → step_key a < step_key b
 below_key a b l t (inl m) = omega arith
 below_key a b l t (inr (e, inl m)) = omega arith
 below_key a b l t (inr (e, inr (d, m))) = omega arith
@@ -33,21 +33,21 @@ below_key a b l t (inr (e, inr (d, m))) = omega arith
 -- The least key that may stand in slot k is above the one before.
 pub record Least (b : List ℕ) (k least : ℕ) : Type 0 where
   pub first : k ≡ 0 → least ≡ 0
-  pub later : (j : ℕ) → suc j ≡ k → least ≡ suc (stepKey (transitionAt b j))
+  pub later : (j : ℕ) → suc j ≡ k → least ≡ suc (step_key (transition_at b j))
 
 -- A slot whose key is below `least`, in range but for the state that is left, and above the slot before.
 pub record Passed (b : List ℕ) (states most least k : ℕ) : Type 0 where
-  pub labelled : (transitionAt b k).label ≤ most
-  pub enters : (transitionAt b k).to < states
-  pub rises : (j : ℕ) → suc j ≡ k → Below (transitionAt b j) (transitionAt b k)
-  pub under : stepKey (transitionAt b k) < least
+  pub labelled : (transition_at b k).label ≤ most
+  pub enters : (transition_at b k).to < states
+  pub rises : (j : ℕ) → suc j ≡ k → Below (transition_at b j) (transition_at b k)
+  pub under : step_key (transition_at b k) < least
 
-pub least-next : (b : List ℕ) (k key : ℕ) → key ≡ stepKey (transitionAt b k) → Least b (k + 1) (key + 1)
-least-next b k key e = record {
+pub least_next : (b : List ℕ) (k key : ℕ) → key ≡ step_key (transition_at b k) → Least b (k + 1) (key + 1)
+least_next b k key e = record {
   first = λ z. absurd (omega arith);
   later = λ j d.
       let same : k ≡ j = omega arith in
-      let keys : stepKey (transitionAt b k) ≡ stepKey (transitionAt b j) = ap (λ i. stepKey (transitionAt b i)) same in
+      let keys : step_key (transition_at b k) ≡ step_key (transition_at b j) = ap (λ i. step_key (transition_at b i)) same in
       omega (arith, e, keys);
 }
 
@@ -56,18 +56,18 @@ pub passed-more : {b : List ℕ} {states most : ℕ} (least more k : ℕ) → le
 passed-more least more k m p = record { labelled = p.labelled; enters = p.enters; rises = p.rises; under = omega (arith, p.under) }
 
 module _ (b : List ℕ) (byte : (i : ℕ) → byte_at b i < 256) (states most : ℕ) where
-  label-byte : (k : ℕ) → (transitionAt b k).label < 256
-  label-byte k = byte ((transitionsAt + 1) + k * transitionLength)
+  label_byte : (k : ℕ) → (transition_at b k).label < 256
+  label_byte k = byte ((transitions_at + 1) + k * transition_length)
 
-  to-byte : (k : ℕ) → (transitionAt b k).to < 256
-  to-byte k = byte ((transitionsAt + 2) + k * transitionLength)
+  to_byte : (k : ℕ) → (transition_at b k).to < 256
+  to_byte k = byte ((transitions_at + 2) + k * transition_length)
 
-  pub slot-passed : (least k key : ℕ) → key ≡ stepKey (transitionAt b k) → Least b k least → SlotHeld b states most least k
+  pub slot-passed : (least k key : ℕ) → key ≡ step_key (transition_at b k) → Least b k least → SlotHeld b states most least k
       → Passed b states most (key + 1) k
   slot-passed least k key same l s = record {
     labelled = s.labelled;
     enters = s.enters;
-    rises = λ j e. key_below (transitionAt b j) (transitionAt b k) (label-byte k) (to-byte k) (omega (arith, l.later j e, s.rises));
+    rises = λ j e. key_below (transition_at b j) (transition_at b k) (label_byte k) (to_byte k) (omega (arith, l.later j e, s.rises));
     under = omega arith;
   }
 
@@ -78,11 +78,11 @@ module _ (b : List ℕ) (byte : (i : ℕ) → byte_at b i < 256) (states most : 
   pub held-slot : (least k : ℕ) → Least b k least → TransitionHeld b states most k → SlotHeld b states most least k
   held-slot least k l h = record { labelled = h.labelled; enters = h.enters; rises = above k l h.rises }
     where
-      above : (k : ℕ) → Least b k least → ((j : ℕ) → suc j ≡ k → Below (transitionAt b j) (transitionAt b k))
-          → least ≤ stepKey (transitionAt b k)
+      above : (k : ℕ) → Least b k least → ((j : ℕ) → suc j ≡ k → Below (transition_at b j) (transition_at b k))
+          → least ≤ step_key (transition_at b k)
       above zero l r = omega (arith, l.first refl)
-      above (suc j) l r = omega (arith, l.later j refl, below_key (transitionAt b j) (transitionAt b (suc j)) (label-byte j) (to-byte j) (r j refl))
+      above (suc j) l r = omega (arith, l.later j refl, below_key (transition_at b j) (transition_at b (suc j)) (label_byte j) (to_byte j) (r j refl))
 
   pub held-last : (least n : ℕ) → Least b n least → ((k : ℕ) → k < n → TransitionHeld b states most k) → least ≤ states * 65536
   held-last least zero l h = omega (arith, l.first refl)
-  held-last least (suc j) l h = omega (arith, l.later j refl, (h j (omega arith)).leaves, label-byte j, to-byte j)
+  held-last least (suc j) l h = omega (arith, l.later j refl, (h j (omega arith)).leaves, label_byte j, to_byte j)

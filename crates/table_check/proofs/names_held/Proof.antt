@@ -4,16 +4,16 @@ use Prim.Native.Nat.{ℕ, ◌-◌, ◌≤◌, ◌<◌}
 use native.Mathlib.Omega.{arith}
 use borrow.Author.Count.{below_more}
 use borrow.Author.Tests.{not-true, not-false}
-use Rattle.lts.specs.Sizes.{mostLabels}
+use Rattle.lts.specs.Sizes.{most_labels}
 use Rattle.lts.specs.Steps.{labels}
-use Rattle.lts.specs.inner.Prepared.{tableIn}
+use Rattle.lts.specs.inner.Prepared.{table_in}
 use Rattle.lts.specs.inner.Check.{NameHeld, NewName}
-use Rattle.lts.proofs.Laws.Decides.{decided-yes, decided-no}
+use Rattle.lts.proofs.Laws.Decides.{decided_yes, decided_no}
 use Rattle.table_check.proofs.names_held.Statement.{statement}
 use Rattle.table_check.proofs.names_held.Tie as tie
 
 abbrev invariant-loop : tie.invariant-loop
-invariant-loop table n k₀ k = (k ≤ n) × (n ≡ labels (tableIn table)) × ((j : ℕ) → j < k → NameHeld table j × NewName table j)
+invariant-loop table n k₀ k = (k ≤ n) × (n ≡ labels (table_in table)) × ((j : ℕ) → j < k → NameHeld table j × NewName table j)
 
 abbrev decreases-loop : tie.decreases-loop
 decreases-loop table n k₀ k = n - k
@@ -32,7 +32,7 @@ name-held-requires c κs =
 returns : tie.Need-returns invariant-loop decreases-loop
 returns c =
     let inv = c.before.before.before.loop.invariant in
-    decided-no (λ h. c.before.name-held.ensures.no (not-true _ c.if1.true)
+    decided_no (λ h. c.before.name-held.ensures.no (not-true _ c.if1.true)
     (h c.before.before.before.loop.k (omega (arith, inv.1, c.before.before.loop-test.true))).0)
 
 new-name-requires : tie.Need-new-name-requires invariant-loop decreases-loop
@@ -40,7 +40,7 @@ new-name-requires c κs =
     let turn = c.before.before.before in
     let start = turn.before.before.before in
     let k = turn.loop.k in
-    let few : k < mostLabels = omega (arith, turn.loop.invariant.1, start.requires.1, c.before.before.loop-test.true) in
+    let few : k < most_labels = omega (arith, turn.loop.invariant.1, start.requires.1, c.before.before.loop-test.true) in
     let held = c.before.name-held.ensures.yes (not-false _ c.if1.false) in
     (start.requires.0, (few, below_more (NameHeld start.args.table.now) k (λ j h. (turn.loop.invariant.2 j h).0) held))
 
@@ -48,7 +48,7 @@ returns-2 : tie.Need-returns-2 invariant-loop decreases-loop
 returns-2 c =
     let begun = c.before.before.before.before in
     let turn = begun.before.loop in
-    decided-no (λ h. c.before.new-name.ensures.no (not-true _ c.if2.true) (h turn.k (omega (arith, turn.invariant.1, begun.loop-test.true))).1)
+    decided_no (λ h. c.before.new_name_lem.ensures.no (not-true _ c.if2.true) (h turn.k (omega (arith, turn.invariant.1, begun.loop-test.true))).1)
 
 add-k : tie.Need-overflow-add-k invariant-loop decreases-loop
 add-k c = omega arith
@@ -64,13 +64,13 @@ loop-again c =
       omega arith,
       turn.loop.invariant.1,
       below_more (λ j. NameHeld b j × NewName b j) turn.loop.k turn.loop.invariant.2
-          (named.before.name-held.ensures.yes (not-false _ named.if1.false), c.before.new-name.ensures.yes (not-false _ c.if2.false)),
+          (named.before.name-held.ensures.yes (not-false _ named.if1.false), c.before.new_name_lem.ensures.yes (not-false _ c.if2.false)),
     )
 
 returns-3 : tie.Need-returns-3 invariant-loop decreases-loop
 returns-3 c =
     let inv = c.before.loop.invariant in
-    decided-yes (λ k h. inv.2 k (omega (arith, inv.1, c.loop-test.false)))
+    decided_yes (λ k h. inv.2 k (omega (arith, inv.1, c.loop-test.false)))
 
 pub names-held-spec : {M : Type 1} → statement M
 names-held-spec =

@@ -4,7 +4,7 @@ use native.Mathlib.Omega.{arith}
 use borrow.Author.Count.{below_more}
 use Rattle.lts.specs.inner.Prepared.{name_at}
 use Rattle.lts.specs.inner.Range.{Differ}
-use Rattle.lts.proofs.Laws.Decides.{decided-yes, decided-no}
+use Rattle.lts.proofs.Laws.Decides.{decided_yes, decided_no}
 use Rattle.table_check.proofs.new_name.Statement.{statement}
 use Rattle.table_check.proofs.new_name.Tie as tie
 
@@ -30,7 +30,7 @@ same-slot-requires c κs =
 returns : tie.Need-returns invariant-loop decreases-loop
 returns c =
     let turn = c.before.before.before in
-    decided-no (λ new. new turn.loop.j c.before.before.loop-test.true (c.before.same-slot.ensures.yes c.if1.true))
+    decided_no (λ new. new turn.loop.j c.before.before.loop-test.true (c.before.same-slot.ensures.yes c.if1.true))
 
 add-j : tie.Need-overflow-add-j invariant-loop decreases-loop
 add-j c = omega arith
@@ -51,7 +51,7 @@ loop-again c =
 returns-2 : tie.Need-returns-2 invariant-loop decreases-loop
 returns-2 c =
     let inv = c.before.loop.invariant in
-    decided-yes (λ i h. inv.1 i (omega (arith, inv.0, c.loop-test.false)))
+    decided_yes (λ i h. inv.1 i (omega (arith, inv.0, c.loop-test.false)))
 
 pub new-name-spec : {M : Type 1} → statement M
 new-name-spec =

@@ -6,7 +6,7 @@ use native.Mathlib.Omega.{arith}
 use borrow.Author.Rules.{rules}
 use borrow.Author.Tests.{eqb-true, eqb-false}
 use Rattle.lts.specs.inner.Prepared.{byte_at}
-use Rattle.lts.proofs.Laws.Decides.{decided-no}
+use Rattle.lts.proofs.Laws.Decides.{decided_no}
 use Rattle.table_check.proofs.Laws.Words.{words-name, name-first-words, name-second-words}
 use Rattle.table_check.proofs.same_slot.Statement.{statement}
 use Rattle.table_check.proofs.same_slot.Tie as tie
@@ -26,7 +26,7 @@ returns : tie.Need-returns
 returns c =
     let read = c.before in
     let start = entry read in
-    decided-no (λ e. c.if1.true (read.before.word.ensures
+    decided_no (λ e. c.if1.true (read.before.word.ensures
     ∙ (name-first-words (table read) (small read) start.pre.0.0 start.args.j start.args.k start.pre.0.1.0 start.pre.0.1.1
     start.pre.1.0 start.pre.1.1 e ∙ sym read.word2.ensures)))
 

@@ -5,31 +5,31 @@ use lib.Dec.{leb}
 use borrow.Author.Rules.{rules}
 use borrow.Author.Tests.{leb-true, le-leb}
 use Rattle.lts.specs.Steps.{Step}
-use Rattle.lts.specs.inner.Prepared.{transitionAt}
-use Rattle.lts.proofs.Laws.Decides.{decided-no, decided-test}
+use Rattle.lts.specs.inner.Prepared.{transition_at}
+use Rattle.lts.proofs.Laws.Decides.{decided_no, decided_test}
 use Rattle.table_check.proofs.slot_held.Statement.{statement}
 use Rattle.table_check.proofs.slot_held.Tie as tie
 
 -- The label and the target in the slot.
 module _ (c : tie.After-transition-at) where
-  label_is : c.transition-at.result.label ≡ (transitionAt c.before.before.args.table.now c.before.before.args.k).label
+  label_is : c.transition-at.result.label ≡ (transition_at c.before.before.args.table.now c.before.before.args.k).label
   label_is = ap (λ (st : Step). st.label) c.transition-at.ensures.step
 
-  to_is : c.transition-at.result.to ≡ (transitionAt c.before.before.args.table.now c.before.before.args.k).to
+  to_is : c.transition-at.result.to ≡ (transition_at c.before.before.args.table.now c.before.before.args.k).to
   to_is = ap (λ (st : Step). st.to) c.transition-at.ensures.step
 
 returns : tie.Need-returns
-returns c = decided-no (λ h. omega (arith, h.enters, to_is c.before.before, c.if1.true))
+returns c = decided_no (λ h. omega (arith, h.enters, to_is c.before.before, c.if1.true))
 
 returns-2 : tie.Need-returns-2
-returns-2 c = decided-no (λ h. omega (arith, h.labelled, label_is c.before.before.before.before, c.if2.true))
+returns-2 c = decided_no (λ h. omega (arith, h.labelled, label_is c.before.before.before.before, c.if2.true))
 
 returns-3 : tie.Need-returns-3
 returns-3 c =
     let entered = c.before.before.before in
     let read = entered.before.before in
     let key = c.step-key.ensures.count in
-    decided-test _ (leb read.before.before.args.least c.step-key.result) refl
+    decided_test _ (leb read.before.before.args.least c.step-key.result) refl
     (λ e. record {
       labelled = omega (arith, label_is read, c.before.if2.false);
       enters = omega (arith, to_is read, entered.if1.false);

@@ -8,18 +8,18 @@ use lib.ListN.{length}
 use borrow.Author.Count.{below_more}
 use borrow.Author.Tests.{not-true, not-false, leb-true, le-leb}
 use Rattle.lts.specs.Steps.{labels}
-use Rattle.lts.specs.inner.Prepared.{byte_at, tableIn}
+use Rattle.lts.specs.inner.Prepared.{byte_at, table_in}
 use Rattle.lts.specs.inner.Check.{TransitionHeld}
-use Rattle.lts.proofs.Laws.Decides.{decided-no, decided-test}
-use Rattle.table_check.proofs.Laws.Keys.{Least, Passed, least-next, passed-more, slot-passed, passed-held, held-slot, held-last}
+use Rattle.lts.proofs.Laws.Decides.{decided_no, decided_test}
+use Rattle.table_check.proofs.Laws.Keys.{Least, Passed, least_next, passed-more, slot-passed, passed-held, held-slot, held-last}
 use Rattle.table_check.proofs.transitions_held.Statement.{statement}
 use Rattle.table_check.proofs.transitions_held.Tie as tie
 
 record Held (table : List ℕ) (n states most least k : ℕ) : Type 0 where
   few : k ≤ n
-  count : n ≡ length (tableIn table).transitions
-  states-are : states ≡ (tableIn table).states
-  most-is : most ≡ labels (tableIn table)
+  count : n ≡ length (table_in table).transitions
+  states-are : states ≡ (table_in table).states
+  most-is : most ≡ labels (table_in table)
   next : Least table k least
   done : (j : ℕ) → j < k → Passed table states most least j
 
@@ -60,7 +60,7 @@ returns c =
     let table = known.before.args.table.now in
     let inv = turn.loop.invariant in
     let k = turn.loop.k in
-    decided-no (λ h. c.before.slot_held.ensures.no (not-true _ c.if1.true)
+    decided_no (λ h. c.before.slot_held.ensures.no (not-true _ c.if1.true)
     (held-slot table (λ i. omega (arith, known.shared-slice-known.given i)) _ _ turn.loop.least k inv.next
     (subst₂ (λ (s m : ℕ). TransitionHeld table s m k) (sym inv.states-are) (sym inv.most-is)
     (h k (omega (arith, inv.count, c.before.before.loop-test.true))))))
@@ -95,7 +95,7 @@ loop-again c =
       count = inv.count;
       states-are = inv.states-are;
       most-is = inv.most-is;
-      next = least-next table k c.step-key.result key;
+      next = least_next table k c.step-key.result key;
       done = below_more (λ j. Passed table _ _ (c.step-key.result + 1) j) k
           (λ j h. passed-more turn.loop.least _ j (omega (arith, key, slot.rises)) (inv.done j h))
           (slot-passed table byte _ _ turn.loop.least k c.step-key.result key inv.next slot);
@@ -112,7 +112,7 @@ returns-2 c =
     let inv = turn.loop.invariant in
     let states = turn.before.before.state-count.result in
     let byte : (i : ℕ) → byte_at table i < 256 = λ i. omega (arith, known.shared-slice-known.given i) in
-    decided-test _ (leb turn.loop.least (states * 65536)) refl
+    decided_test _ (leb turn.loop.least (states * 65536)) refl
     (λ e k h. subst₂ (λ (s m : ℕ). TransitionHeld table s m k) inv.states-are inv.most-is
     (passed-held table byte states _ turn.loop.least k (leb-true _ _ e)
     (inv.done k (omega (arith, inv.count, c.loop-test.false)))))

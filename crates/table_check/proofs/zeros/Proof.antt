@@ -4,7 +4,7 @@ use Prim.Native.Nat.{◌-◌, ◌≤◌, ◌<◌}
 use native.Mathlib.Omega.{arith}
 use Rattle.lts.specs.inner.Prepared.{byte_at}
 use Rattle.lts.specs.inner.Check.{ZerosFrom}
-use Rattle.lts.proofs.Laws.Decides.{decided-zero, together, from_more}
+use Rattle.lts.proofs.Laws.Decides.{decided_zero, together, from_more}
 use Rattle.table_check.proofs.zeros.Statement.{statement}
 use Rattle.table_check.proofs.zeros.Tie as tie
 
@@ -32,7 +32,7 @@ loop-again c =
 returns : tie.Need-returns invariant-loop decreases-loop
 returns c =
     let l = c.before.loop in
-    decided-zero l.all (λ e k f m. l.invariant.1.0 e k f (omega arith)) (λ z. l.invariant.1.1 (λ k f m. let h = l.invariant.0.1 (omega arith) in z k f (omega arith)))
+    decided_zero l.all (λ e k f m. l.invariant.1.0 e k f (omega arith)) (λ z. l.invariant.1.1 (λ k f m. let h = l.invariant.0.1 (omega arith) in z k f (omega arith)))
 
 pub zeros-spec : {M : Type 1} → statement M
 zeros-spec = tie.close (tie.spec invariant-loop decreases-loop loop-holds (λ c. omega arith) (λ c. omega arith) (λ c. omega arith) loop-again returns)

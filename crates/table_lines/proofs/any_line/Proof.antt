@@ -2,7 +2,7 @@
 use borrow.Author.Rules.{rules}
 use mathlib.Core.Path.{sym, ◌∙◌}
 use Prim.Native.Nat.{◌+◌}
-use Rattle.lts.proofs.Laws.Layout.{no-transition}
+use Rattle.lts.proofs.Laws.Layout.{no_transition}
 use Rattle.columns.proofs.Laws.ColumnsRead.{column-lacking}
 use Rattle.table_lines.proofs.Laws.Numbers.{numbers-read}
 use Rattle.table_lines.proofs.any_line.Statement.{statement}
@@ -12,7 +12,7 @@ returns : tie.Need-returns
 returns c =
     let a = c.before.before.before.before.args in
     let s = a.text.now in
-    no-transition s a.at (λ x y z p q r e. column-lacking s a.at x (sym c.before.before.read-column.ensures ∙ c.enum_told.given.1) p)
+    no_transition s a.at (λ x y z p q r e. column-lacking s a.at x (sym c.before.before.read-column.ensures ∙ c.enum_told.given.1) p)
 
 -- The numbers, as the columns hold them, each behind those before it.
 abbrev behind-from : tie.After-from → tie.Start
@@ -28,13 +28,13 @@ returns-2 : tie.Need-returns-2
 returns-2 c =
     let a = (behind-from c.before.before.before.before).args in
     let s = a.text.now in
-    no-transition s a.at (λ x y z p q r e. column-lacking s (a.at + 6) y (sym c.before.before.read-column2.ensures ∙ c.enum-told2.given.1) q)
+    no_transition s a.at (λ x y z p q r e. column-lacking s (a.at + 6) y (sym c.before.before.read-column2.ensures ∙ c.enum-told2.given.1) q)
 
 returns-3 : tie.Need-returns-3
 returns-3 c =
     let a = (behind-from (behind-label c.before.before.before.before)).args in
     let s = a.text.now in
-    no-transition s a.at (λ x y z p q r e. column-lacking s (a.at + 12) z (sym c.before.before.read-column3.ensures ∙ c.enum-told3.given.1) r)
+    no_transition s a.at (λ x y z p q r e. column-lacking s (a.at + 12) z (sym c.before.before.read-column3.ensures ∙ c.enum-told3.given.1) r)
 
 returns-4 : tie.Need-returns-4
 returns-4 c =

@@ -1,4 +1,4 @@
--- `header_in_range` answers `headerInRange`.
+-- `header_in_range` answers `header_in_range`.
 use mathlib.Core.Path.{◌≡◌}
 use mathlib.Core.Bool.{Bool, true, ◌&&◌}
 use borrow.Author.Tests.{le-leb, lt-leb}

@@ -9,7 +9,7 @@ use native.Mathlib.Omega.{arith}
 use Rattle.lts.proofs.Laws.Layout.{header-lies, no_header}
 use Rattle.lts.proofs.Laws.LinesRead.{byte-within}
 use Rattle.columns.proofs.Laws.ColumnsRead.{ColumnAt}
-use Rattle.table_lines.proofs.Laws.Pairs.{pair_found, pair-lacking}
+use Rattle.table_lines.proofs.Laws.Pairs.{pair_found, pair_lacking}
 use Rattle.table_lines.proofs.header_line.Statement.{statement}
 use Rattle.table_lines.proofs.header_line.Tie as tie
 
@@ -37,7 +37,7 @@ returns c = no_header (text c.before) (λ x y z w p q r t e. eqb-false _ _ (sym 
 returns-2 : tie.Need-returns-2
 returns-2 c =
     let s = text c.before.before.before.before in
-    no_header s (λ x y z w p q r t e. pair-lacking s 0 x y (sym c.before.before.read-pair.ensures ∙ c.enum_told.given.1) p q)
+    no_header s (λ x y z w p q r t e. pair_lacking s 0 x y (sym c.before.before.read-pair.ensures ∙ c.enum_told.given.1) p q)
 
 read-pair-requires-2 : tie.Need-read-pair-requires-2
 read-pair-requires-2 c κs = omega (arith, byte-within (line c) 24 10 (omega arith) (ended (begun c)))
@@ -45,7 +45,7 @@ read-pair-requires-2 c κs = omega (arith, byte-within (line c) 24 10 (omega ari
 returns-3 : tie.Need-returns-3
 returns-3 c =
     let s = line c.before.before.before in
-    no_header s (λ x y z w p q r t e. pair-lacking s 12 z w (sym c.before.before.read-pair2.ensures ∙ c.enum-told2.given.1) r t)
+    no_header s (λ x y z w p q r t e. pair_lacking s 12 z w (sym c.before.before.read-pair2.ensures ∙ c.enum-told2.given.1) r t)
 
 returns-4 : tie.Need-returns-4
 returns-4 c =

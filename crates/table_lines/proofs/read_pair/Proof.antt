@@ -2,7 +2,7 @@
 use borrow.Author.Rules.{rules}
 use mathlib.Core.Path.{◌≡◌, sym, ap, ap₂, ◌∙◌}
 use Prim.Native.Nat.{◌+◌}
-use Rattle.columns.specs.inner.Read.{columnAt}
+use Rattle.columns.specs.inner.Read.{column_at}
 use Rattle.columns.specs.declared.Column.TheVariants.{Number}
 use Rattle.table_lines.specs.inner.LineReplies.{pair_of, pair_at}
 use Rattle.table_lines.proofs.read_pair.Statement.{statement}
@@ -12,14 +12,14 @@ use Rattle.table_lines.proofs.read_pair.Tie as tie
 abbrev entry : tie.After-known-told → tie.Start
 entry c = c.before.before.before.before.before
 
-first : (c : tie.After-known-told) → columnAt (entry c).args.text.now (entry c).args.at ≡ Number c.before.first.given.0.0
+first : (c : tie.After-known-told) → column_at (entry c).args.text.now (entry c).args.at ≡ Number c.before.first.given.0.0
 first c = sym c.before.before.before.read-column.ensures ∙ c.before.first.given.1
 
 returns : tie.Need-returns
 unfolding pair_at
 returns c =
     let a = c.before.before.before.before.args in
-    sym (ap (λ x. pair_of x (columnAt a.text.now (a.at + 6))) (sym c.before.before.read-column.ensures ∙ c.enum_told.given.1))
+    sym (ap (λ x. pair_of x (column_at a.text.now (a.at + 6))) (sym c.before.before.read-column.ensures ∙ c.enum_told.given.1))
 
 returns-2 : tie.Need-returns-2
 unfolding pair_at

@@ -1,4 +1,4 @@
--- `transition_in_range` answers `stepInRange`.
+-- `transition_in_range` answers `step_in_range`.
 use borrow.Author.Tests.{lt-ltb, le-ltb, le-leb, lt-leb}
 use Rattle.table_lines.proofs.transition_in_range.Statement.{statement}
 use Rattle.table_lines.proofs.transition_in_range.Tie as tie

@@ -5,18 +5,18 @@ use Prim.Native.Nat.{◌+◌, ◌-◌, ◌≤◌, ◌<◌}
 use native.Mathlib.Omega.{arith}
 use lib.ListN.{length, length-set}
 use lib.Seq.{slice}
-use Rattle.lts.specs.inner.Sizes.{mostSteps}
-use Rattle.lts.specs.inner.Prepared.{tableIn}
-use Rattle.tables.specs.inner.Access.{stepIn}
-use Rattle.table_steps.specs.inner.StepArray.{stepCode}
-use Rattle.lts.proofs.Laws.Contents.{transition-in}
-use Rattle.table_steps.proofs.Laws.StepArray.{PutSoFar, put-start, put-more, put_rest, put-done, codes-next, codes-over}
+use Rattle.lts.specs.inner.Sizes.{most_steps}
+use Rattle.lts.specs.inner.Prepared.{table_in}
+use Rattle.tables.specs.inner.Access.{step_in}
+use Rattle.table_steps.specs.inner.StepArray.{step_code}
+use Rattle.lts.proofs.Laws.Contents.{transition_in}
+use Rattle.table_steps.proofs.Laws.StepArray.{PutSoFar, put-start, put-more, put_rest, put_done, codes-next, codes_over}
 use Rattle.table_steps.proofs.put_transitions.Statement.{statement}
 use Rattle.table_steps.proofs.put_transitions.Tie as tie
 
 abbrev invariant-loop : tie.invariant-loop
-invariant-loop table steps₀ at a b p₀ j₀ steps p j = (j ≤ b) × (p + (b - j) ≤ mostSteps) × (length steps ≡ mostSteps)
-    × PutSoFar (map stepCode (slice a b (tableIn table).transitions)) at steps₀ (map stepCode (slice j b (tableIn table).transitions)) p steps
+invariant-loop table steps₀ at a b p₀ j₀ steps p j = (j ≤ b) × (p + (b - j) ≤ most_steps) × (length steps ≡ most_steps)
+    × PutSoFar (map step_code (slice a b (table_in table).transitions)) at steps₀ (map step_code (slice j b (table_in table).transitions)) p steps
 
 abbrev decreases-loop : tie.decreases-loop
 decreases-loop table steps₀ at a b p₀ j₀ steps p j = b - j
@@ -27,10 +27,10 @@ loop-holds c = let start = c.before in (start.requires.1.0.0, start.requires.1.1
 transition-at-requires : tie.Need-transition-at-requires invariant-loop decreases-loop
 transition-at-requires c κs =
     let start = c.before.before.before in
-    (start.requires.0.long, omega (arith, start.requires.1.0.1, start.requires.0.in-range.few-transitions, c.loop-test.true))
+    (start.requires.0.long, omega (arith, start.requires.1.0.1, start.requires.0.in_range.few_transitions, c.loop-test.true))
 
 code-requires : tie.Need-code-requires invariant-loop decreases-loop
-code-requires c κs = (c.transition-at.ensures.label-byte, c.transition-at.ensures.to-byte)
+code-requires c κs = (c.transition-at.ensures.label_byte, c.transition-at.ensures.to_byte)
 
 mul-steps : tie.Need-overflow-mul-steps invariant-loop decreases-loop
 mul-steps c = omega (arith, c.before.before.before.loop.invariant.1)
@@ -53,12 +53,12 @@ loop-again c =
     let loop = c.before.before.before.loop in
     let taken = c.before.before.loop-test.true in
     let read = c.before.transition-at in
-    let st = stepIn read.result in
-    let l = (tableIn start.args.table.now).transitions in
+    let st = step_in read.result in
+    let l = (table_in start.args.table.now).transitions in
     let there : loop.j < length l = omega (arith, start.requires.1.0.1) in
-    let stands = transition-in start.args.table.now loop.j st there ∙ sym read.ensures.step in
+    let stands = transition_in start.args.table.now loop.j st there ∙ sym read.ensures.step in
     let next = codes-next l loop.j start.args.b st taken start.requires.1.0.1 stands in
-    let rest = map stepCode (slice (loop.j + 1) start.args.b l) in (
+    let rest = map step_code (slice (loop.j + 1) start.args.b l) in (
       omega arith,
       omega (arith, loop.invariant.1),
       simp length-set loop.invariant.2,
@@ -69,7 +69,7 @@ returns : tie.Need-returns invariant-loop decreases-loop
 returns c =
     let start = c.before.before.before in
     let loop = c.before.loop in
-    put-done (put_rest (codes-over (tableIn start.args.table.now).transitions loop.j start.args.b c.loop-test.false) loop.invariant.3)
+    put_done (put_rest (codes_over (table_in start.args.table.now).transitions loop.j start.args.b c.loop-test.false) loop.invariant.3)
 
 pub put-transitions-spec : {M : Type 1} → statement M
 put-transitions-spec =

@@ -5,72 +5,72 @@ use mathlib.Core.List.{List, [], ◌∷◌, ◌++◌}
 use Prim.Native.Nat.{ℕ, suc, ◌+◌, ◌-◌, ◌<◌, ◌≤◌}
 use native.Mathlib.Omega.{arith}
 use lib.ListN.{length, drop, replicate, length-replicate, length-append, length-drop, drop_of_length-le}
-use Rattle.lts.specs.inner.Sizes.{namesLength, transitionsLength}
+use Rattle.lts.specs.inner.Sizes.{names_length, transitions_length}
 use Rattle.lts.specs.Lists.{every}
 use Rattle.lts.specs.Reply.{Reply, accepted, refusal}
 use Rattle.lts.specs.Steps.{Step, Table}
-use Rattle.lts.specs.Names.{isName}
-use Rattle.lts.specs.Reading.{Header, atEnd, readTransitions, readLabelsWith}
-use Rattle.lts.specs.inner.Reading.{readLabels}
-use Rattle.lts.specs.inner.Slots.{nameBytes, stepBytes}
+use Rattle.lts.specs.Names.{is_name}
+use Rattle.lts.specs.Reading.{Header, at_end, read_transitions, read_labels_with}
+use Rattle.lts.specs.inner.Reading.{read_labels}
+use Rattle.lts.specs.inner.Slots.{name_bytes, step_bytes}
 use Rattle.table_lines.specs.inner.LineReplies.{header}
 use Rattle.table_text.specs.inner.Progress.{Refuses, NameRead, NamesRead, TransitionLineRead, StepsRead, TransitionProgress}
 use Rattle.table_lines.specs.declared.HeaderFields.{HeaderFields}
 use Rattle.table_text.specs.declared.Progress.TheVariants.{Next}
 use Rattle.table_text.specs.declared.TableReply.{TableReply}
 use Rattle.table_text.specs.declared.TableReply.TheVariants.{NotLaidOut}
-use Rattle.lts.proofs.Laws.SlotBytes.{names-snoc}
+use Rattle.lts.proofs.Laws.SlotBytes.{names_snoc}
 
 -- A refusal of what is left is one of the whole.
-pub refuses-whole : {a b : Reply Table} {t : TableReply} → a ≡ b → Refuses b t → Refuses a t
-refuses-whole e r = record { number = r.number; figure = r.figure; reply = e ∙ r.reply; says = r.says }
+pub refuses_whole : {a b : Reply Table} {t : TableReply} → a ≡ b → Refuses b t → Refuses a t
+refuses_whole e r = record { number = r.number; figure = r.figure; reply = e ∙ r.reply; says = r.says }
 
 -- Names.
 pub record NamesSoFar (h : Header) (s : List ℕ) (from : ℕ) (b : List ℕ) (at count : ℕ) : Type 0 where
   pub names : List (List ℕ)
   pub counts : length names ≡ count
   pub few : count ≤ h.labels
-  pub all-names : every isName names ≡ true
+  pub all-names : every is_name names ≡ true
   pub within : at ≤ length s
-  pub reads : readLabels h h.labels [] (drop from s) ≡ readLabels h (h.labels - count) names (drop at s)
-  pub kept : b ≡ nameBytes names
+  pub reads : read_labels h h.labels [] (drop from s) ≡ read_labels h (h.labels - count) names (drop at s)
+  pub kept : b ≡ name_bytes names
 
 module _ (h : Header) (s : List ℕ) (from : ℕ) where
-  pub names-start : (b : List ℕ) → from ≤ length s → b ≡ replicate namesLength 0 → NamesSoFar h s from b from 0
+  pub names-start : (b : List ℕ) → from ≤ length s → b ≡ replicate names_length 0 → NamesSoFar h s from b from 0
   names-start b k e = record {
     names = [];
     counts = refl;
     few = omega arith;
     all-names = refl;
     within = k;
-    reads = let all : h.labels ≡ h.labels - 0 = omega arith in ap (λ n. readLabels h n [] (drop from s)) all;
+    reads = let all : h.labels ≡ h.labels - 0 = omega arith in ap (λ n. read_labels h n [] (drop from s)) all;
     kept = e;
   }
 
   module _ (b : List ℕ) (at count : ℕ) (r : NamesSoFar h s from b at count) where
     names-next : count < h.labels
-        → readLabels h h.labels [] (drop from s) ≡ readLabels h (suc (h.labels - (count + 1))) r.names (drop at s)
+        → read_labels h h.labels [] (drop from s) ≡ read_labels h (suc (h.labels - (count + 1))) r.names (drop at s)
     names-next k =
         let more : h.labels - count ≡ suc (h.labels - (count + 1)) = omega arith in
-        r.reads ∙ ap (λ n. readLabels h n r.names (drop at s)) more
+        r.reads ∙ ap (λ n. read_labels h n r.names (drop at s)) more
 
-    pub names-refused : count < h.labels → {t : TableReply} → Refuses (readLabels h (suc (h.labels - (count + 1))) r.names (drop at s)) t
-        → Refuses (readLabels h h.labels [] (drop from s)) t
-    names-refused k f = refuses-whole (names-next k) f
+    pub names-refused : count < h.labels → {t : TableReply} → Refuses (read_labels h (suc (h.labels - (count + 1))) r.names (drop at s)) t
+        → Refuses (read_labels h h.labels [] (drop from s)) t
+    names-refused k f = refuses_whole (names-next k) f
 
     pub names-go-on : count < h.labels → (to : ℕ) (d : List ℕ) → NameRead h s at to (h.labels - (count + 1)) r.names d → NamesSoFar h s from d to (count + 1)
     names-go-on k to d f = record {
       names = r.names ++ (f.name ∷ []);
       counts = length-append r.names (f.name ∷ []) ∙ omega (arith, r.counts);
       few = omega arith;
-      all-names = names-snoc r.names f.name r.all-names f.is_name;
+      all-names = names_snoc r.names f.name r.all-names f.is_name;
       within = f.within;
       reads = names-next k ∙ f.reads;
       kept = f.kept;
     }
 
     pub names-end : h.labels ≤ count → NamesRead h s from at b
-    unfolding readLabelsWith
+    unfolding read_labels_with
     names-end k =
         let few = r.few in
         let none : h.labels - count ≡ 0 = omega arith in
@@ -78,7 +78,7 @@ module _ (h : Header) (s : List ℕ) (from : ℕ) where
           names = r.names;
           counts = omega (arith, r.counts);
           within = r.within;
-          reads = r.reads ∙ ap (λ n. readLabels h n r.names (drop at s)) none;
+          reads = r.reads ∙ ap (λ n. read_labels h n r.names (drop at s)) none;
           kept = r.kept;
         }
 
@@ -86,28 +86,28 @@ module _ (h : Header) (s : List ℕ) (from : ℕ) where
 pub record StepsSoFar (h : Header) (s : List ℕ) (from : ℕ) (names : List (List ℕ)) (b : List ℕ) (at count : ℕ) : Type 0 where
   pub steps : List Step
   pub counts : length steps ≡ count
-  pub reads : readTransitions h names h.transitions [] (drop from s) ≡ readTransitions h names (h.transitions - count) steps (drop at s)
-  pub kept : b ≡ stepBytes steps
+  pub reads : read_transitions h names h.transitions [] (drop from s) ≡ read_transitions h names (h.transitions - count) steps (drop at s)
+  pub kept : b ≡ step_bytes steps
 
 module _ (h : Header) (s : List ℕ) (from : ℕ) (names : List (List ℕ)) where
-  pub steps-start : (b : List ℕ) → b ≡ replicate transitionsLength 0 → StepsSoFar h s from names b from 0
+  pub steps-start : (b : List ℕ) → b ≡ replicate transitions_length 0 → StepsSoFar h s from names b from 0
   steps-start b e = record {
     steps = [];
     counts = refl;
-    reads = let all : h.transitions ≡ h.transitions - 0 = omega arith in ap (λ n. readTransitions h names n [] (drop from s)) all;
+    reads = let all : h.transitions ≡ h.transitions - 0 = omega arith in ap (λ n. read_transitions h names n [] (drop from s)) all;
     kept = e;
   }
 
   module _ (b : List ℕ) (at count : ℕ) (r : StepsSoFar h s from names b at count) where
     steps_next : count < h.transitions
-        → readTransitions h names h.transitions [] (drop from s) ≡ readTransitions h names (suc (h.transitions - (count + 1))) r.steps (drop at s)
+        → read_transitions h names h.transitions [] (drop from s) ≡ read_transitions h names (suc (h.transitions - (count + 1))) r.steps (drop at s)
     steps_next k =
         let more : h.transitions - count ≡ suc (h.transitions - (count + 1)) = omega arith in
-        r.reads ∙ ap (λ n. readTransitions h names n r.steps (drop at s)) more
+        r.reads ∙ ap (λ n. read_transitions h names n r.steps (drop at s)) more
 
-    pub steps-refused : count < h.transitions → {t : TableReply} → Refuses (readTransitions h names (suc (h.transitions - (count + 1))) r.steps (drop at s)) t
-        → Refuses (readTransitions h names h.transitions [] (drop from s)) t
-    steps-refused k f = refuses-whole (steps_next k) f
+    pub steps-refused : count < h.transitions → {t : TableReply} → Refuses (read_transitions h names (suc (h.transitions - (count + 1))) r.steps (drop at s)) t
+        → Refuses (read_transitions h names h.transitions [] (drop from s)) t
+    steps-refused k f = refuses_whole (steps_next k) f
 
     pub steps-go-on : count < h.transitions → (to : ℕ) (d : List ℕ) → TransitionLineRead h s at to (h.transitions - (count + 1)) names r.steps d
         → StepsSoFar h s from names d to (count + 1)
@@ -119,31 +119,31 @@ module _ (h : Header) (s : List ℕ) (from : ℕ) (names : List (List ℕ)) wher
     }
 
     module _ (k : count ≡ h.transitions) where
-      steps-over : readTransitions h names h.transitions [] (drop from s) ≡ readTransitions h names 0 r.steps (drop at s)
-      steps-over = let none : h.transitions - count ≡ 0 = omega arith in r.reads ∙ ap (λ n. readTransitions h names n r.steps (drop at s)) none
+      steps_over : read_transitions h names h.transitions [] (drop from s) ≡ read_transitions h names 0 r.steps (drop at s)
+      steps_over = let none : h.transitions - count ≡ 0 = omega arith in r.reads ∙ ap (λ n. read_transitions h names n r.steps (drop at s)) none
 
-      more-text : (l : List ℕ) (n : ℕ) (a : Reply Table) → 0 < length l → atEnd n l a ≡ refusal 1 n
+      more-text : (l : List ℕ) (n : ℕ) (a : Reply Table) → 0 < length l → at_end n l a ≡ refusal 1 n
       more-text [] n a h = absurd (omega arith)
       more-text (x ∷ l) n a h = refl
 
       pub text-follows : at < length s → length names ≡ h.labels → (n : ℕ) → n ≡ h.labels + count + 2
-          → Refuses (readTransitions h names h.transitions [] (drop from s)) (NotLaidOut n)
-      unfolding readTransitions
+          → Refuses (read_transitions h names h.transitions [] (drop from s)) (NotLaidOut n)
+      unfolding read_transitions
       text-follows m c n f = record {
         number = 1;
         figure = 2 + length names + length r.steps;
-        reply = steps-over ∙ more-text (drop at s) (2 + length names + length r.steps) _ (omega (arith, length-drop at s));
+        reply = steps_over ∙ more-text (drop at s) (2 + length names + length r.steps) _ (omega (arith, length-drop at s));
         says = ap (refusal 1) (omega (arith, r.counts));
       }
 
       pub steps-end : length s ≤ at → StepsRead h s from names b
-      unfolding readTransitions
+      unfolding read_transitions
       steps-end m = record {
         steps = r.steps;
         counts = r.counts ∙ k;
         reads =
             let t : Table = record { states = h.states; names = names; transitions = r.steps; start = h.start } in
-            steps-over ∙ ap (λ l. atEnd (2 + length names + length r.steps) l (accepted t)) (drop_of_length-le s m);
+            steps_over ∙ ap (λ l. at_end (2 + length names + length r.steps) l (accepted t)) (drop_of_length-le s m);
         kept = r.kept;
       }
 
@@ -151,7 +151,7 @@ module _ (h : Header) (s : List ℕ) (from : ℕ) (names : List (List ℕ)) wher
 pub record TransitionsSoFar (c : HeaderFields) (s : List ℕ) (from : ℕ) (b : List ℕ) (at count : ℕ) : Type 0 where
   pub within : at ≤ length s
   pub few : count ≤ c.transitions
-  pub long : length b ≡ transitionsLength
+  pub long : length b ≡ transitions_length
   pub so_far : (names : List (List ℕ)) → length names ≡ c.labels → StepsSoFar (header c) s from names b at count
 
 line-within : (c : HeaderFields) (s : List ℕ) (from : ℕ) (b : List ℕ) (at count : ℕ) → TransitionsSoFar c s from b at count → (to : ℕ) (d : List ℕ)

@@ -7,64 +7,64 @@ use native.Mathlib.Omega.{arith}
 use borrow.Author.Tests.{ltb-true, leb-true, le-leb, lt-leb}
 use lib.Dec.{leb, ltb}
 use lib.ListN.{length, drop}
-use Rattle.lts.specs.Sizes.{mostStates, mostLabels, mostTransitions, tableLength}
-use Rattle.lts.specs.Reply.{Reply, accepted, refusal, unless, overwritten, leftIn, answers}
+use Rattle.lts.specs.Sizes.{most_states, most_labels, most_transitions, table_length}
+use Rattle.lts.specs.Reply.{Reply, accepted, refusal, unless, overwritten, left_in, answers}
 use Rattle.lts.specs.Steps.{Table}
-use Rattle.lts.specs.Reading.{Header, firstLine, headerOf, headerLaidOut, headerInRange, readTable, readTableWith}
-use Rattle.lts.specs.inner.Reading.{readLabels}
-use Rattle.lts.specs.Prepared.{tableBytes}
-use Rattle.table_text.specs.Replies.{tableReply}
-use Rattle.lts.specs.TableReading.{tableReading, tableReplied, tableLeft}
-use Rattle.lts.specs.inner.Slots.{headBytes}
+use Rattle.lts.specs.Reading.{Header, first_line, header_of, header_laid_out, header_in_range, read_table, read_table_with}
+use Rattle.lts.specs.inner.Reading.{read_labels}
+use Rattle.lts.specs.Prepared.{table_bytes}
+use Rattle.table_text.specs.Replies.{table_reply}
+use Rattle.lts.specs.TableReading.{table_reading, table_replied, table_left}
+use Rattle.lts.specs.inner.Slots.{head_bytes}
 use Rattle.lts.specs.inner.Lines.{LineAt, NoLineAt}
-use Rattle.table_text.specs.inner.Progress.{Refuses, LinesRead, isAccepted}
+use Rattle.table_text.specs.inner.Progress.{Refuses, LinesRead, is_accepted}
 use Rattle.table_text.specs.declared.TableReply.{TableReply}
 use Rattle.table_text.specs.declared.TableReply.TheVariants.{Accepted, NotLaidOut, OutOfRange}
 use Rattle.lts.proofs.Booleans.{and-true-of}
-use Rattle.table_text.proofs.Laws.Progress.{no_line, a-line, passed, failed}
+use Rattle.table_text.proofs.Laws.Progress.{no_line, a_line, passed, failed}
 
 -- Line 1.
-abbrev laidHeader : List ℕ → Bool
-laidHeader l = headerLaidOut (headerOf l) l
+abbrev laid_header : List ℕ → Bool
+laid_header l = header_laid_out (header_of l) l
 
 module _ (s : List ℕ) where
-  pub header_refused : NoLineAt (λ l. headerLaidOut (headerOf l) l) s 0 → Refuses (readTable s) (NotLaidOut 1)
-  unfolding readTableWith
-  header_refused g = record { number = 1; figure = 1; reply = no_line laidHeader 1 (firstLine s) _ g; says = refl }
+  pub header_refused : NoLineAt (λ l. header_laid_out (header_of l) l) s 0 → Refuses (read_table s) (NotLaidOut 1)
+  unfolding read_table_with
+  header_refused g = record { number = 1; figure = 1; reply = no_line laid_header 1 (first_line s) _ g; says = refl }
 
-  module _ (l : List ℕ) (g : LineAt (λ l. headerLaidOut (headerOf l) l) s 0 25 l) (h : Header) (v : headerOf l ≡ h) where
-    header-opened : readTable s ≡ unless (headerInRange h) 2 1 (readLabels h h.labels [] (drop 25 s))
-    unfolding readTableWith
-    header-opened =
-        a-line laidHeader 1 (firstLine s) _ l (drop 25 s) g.is-line g.laid_out
-        ∙ ap (λ (x : Header). unless (headerInRange x) 2 1 (readLabels x x.labels [] (drop 25 s))) v
+  module _ (l : List ℕ) (g : LineAt (λ l. header_laid_out (header_of l) l) s 0 25 l) (h : Header) (v : header_of l ≡ h) where
+    header_opened : read_table s ≡ unless (header_in_range h) 2 1 (read_labels h h.labels [] (drop 25 s))
+    unfolding read_table_with
+    header_opened =
+        a_line laid_header 1 (first_line s) _ l (drop 25 s) g.is_line g.laid_out
+        ∙ ap (λ (x : Header). unless (header_in_range x) 2 1 (read_labels x x.labels [] (drop 25 s))) v
 
-    pub header-out-of-range : headerInRange h ≡ false → Refuses (readTable s) (OutOfRange 1)
-    header-out-of-range d = record {
+    pub header_out_of_range : header_in_range h ≡ false → Refuses (read_table s) (OutOfRange 1)
+    header_out_of_range d = record {
       number = 2;
       figure = 1;
-      reply = header-opened ∙ failed (headerInRange h) 2 1 (readLabels h h.labels [] (drop 25 s)) d;
+      reply = header_opened ∙ failed (header_in_range h) 2 1 (read_labels h h.labels [] (drop 25 s)) d;
       says = refl;
     }
 
-    pub header-accepted : headerInRange h ≡ true → readTable s ≡ readLabels h h.labels [] (drop 25 s)
-    header-accepted d = header-opened ∙ passed (headerInRange h) 2 1 (readLabels h h.labels [] (drop 25 s)) d
+    pub header-accepted : header_in_range h ≡ true → read_table s ≡ read_labels h h.labels [] (drop 25 s)
+    header-accepted d = header_opened ∙ passed (header_in_range h) 2 1 (read_labels h h.labels [] (drop 25 s)) d
 
 pub record HeaderBounds (h : Header) : Type 0 where
-  pub states : h.states ≤ mostStates
-  pub labels : h.labels ≤ mostLabels
-  pub transitions : h.transitions ≤ mostTransitions
+  pub states : h.states ≤ most_states
+  pub labels : h.labels ≤ most_labels
+  pub transitions : h.transitions ≤ most_transitions
   pub start : h.start < 256
 
-pub header-bounds : (h : Header) → headerInRange h ≡ true → HeaderBounds h
-header-bounds h e =
-    let states : Bool = leb 1 h.states && leb h.states mostStates in
-    let labels : Bool = leb h.labels mostLabels in
-    let transitions : Bool = leb h.transitions mostTransitions in
+pub header_bounds : (h : Header) → header_in_range h ≡ true → HeaderBounds h
+header_bounds h e =
+    let states : Bool = leb 1 h.states && leb h.states most_states in
+    let labels : Bool = leb h.labels most_labels in
+    let transitions : Bool = leb h.transitions most_transitions in
     let a = and-true-of (states && labels && transitions) (ltb h.start h.states) e in
     let b = and-true-of (states && labels) transitions a.0 in
     let c = and-true-of states labels b.0 in
-    let d = and-true-of (leb 1 h.states) (leb h.states mostStates) c.0 in
+    let d = and-true-of (leb 1 h.states) (leb h.states most_states) c.0 in
     let few = leb-true h.states 256 d.1 in
     record {
       states = few;
@@ -74,67 +74,67 @@ header-bounds h e =
     }
 
 -- The lines behind the first.
-abbrev acceptedOr : Table → Reply Table → Table
-acceptedOr d (accepted t) = t
-acceptedOr d (refusal number figure) = d
+abbrev accepted_or : Table → Reply Table → Table
+accepted_or d (accepted t) = t
+accepted_or d (refusal number figure) = d
 
 module _ (h : Header) (s names slots : List ℕ) where
-  pub lines-refused : {t : TableReply} → Refuses (readLabels h h.labels [] (drop 25 s)) t → LinesRead h s names slots t
+  pub lines-refused : {t : TableReply} → Refuses (read_labels h h.labels [] (drop 25 s)) t → LinesRead h s names slots t
   lines-refused r = record {
     replies = r.says ∙ sym (ap (answers (λ t. tt)) r.reply);
-    bytes = λ t e. absurd (false≢true (ap isAccepted (sym r.reply ∙ e)));
+    bytes = λ t e. absurd (false≢true (ap is_accepted (sym r.reply ∙ e)));
   }
 
-  pub lines-accepted : (t : Table) → readLabels h h.labels [] (drop 25 s) ≡ accepted t → headBytes h ++ (names ++ slots) ≡ tableBytes t
+  pub lines-accepted : (t : Table) → read_labels h h.labels [] (drop 25 s) ≡ accepted t → head_bytes h ++ (names ++ slots) ≡ table_bytes t
       → LinesRead h s names slots Accepted
-  lines-accepted t e f = record { replies = sym (ap (answers (λ t. tt)) e); bytes = λ u g. f ∙ ap (λ r. tableBytes (acceptedOr t r)) (sym e ∙ g) }
+  lines-accepted t e f = record { replies = sym (ap (answers (λ t. tt)) e); bytes = λ u g. f ∙ ap (λ r. table_bytes (accepted_or t r)) (sym e ∙ g) }
 
 -- What is lent stays, or is written, as the reply says.
 module _ (b : List ℕ) (u : Reply (Unit {0})) where
-  left-unwritten : (a : Reply Table) → u ≡ answers (λ t. tt) a → isAccepted u ≡ false → b ≡ leftIn tableBytes a b
-  left-unwritten (accepted t) e f = absurd (true≢false (sym (ap isAccepted e) ∙ f))
-  left-unwritten (refusal number figure) e f = refl
+  left_unwritten : (a : Reply Table) → u ≡ answers (λ t. tt) a → is_accepted u ≡ false → b ≡ left_in table_bytes a b
+  left_unwritten (accepted t) e f = absurd (true≢false (sym (ap is_accepted e) ∙ f))
+  left_unwritten (refusal number figure) e f = refl
 
-  left-written : (a : Reply Table) → u ≡ answers (λ t. tt) a → isAccepted u ≡ true → (x : List ℕ) → ((t : Table) → a ≡ accepted t → x ≡ tableBytes t)
-      → overwritten x b ≡ leftIn tableBytes a b
+  left-written : (a : Reply Table) → u ≡ answers (λ t. tt) a → is_accepted u ≡ true → (x : List ℕ) → ((t : Table) → a ≡ accepted t → x ≡ table_bytes t)
+      → overwritten x b ≡ left_in table_bytes a b
   left-written (accepted t) e f x g = ap (λ y. overwritten y b) (g t refl)
-  left-written (refusal number figure) e f x g = absurd (false≢true (sym (ap isAccepted e) ∙ f))
+  left-written (refusal number figure) e f x g = absurd (false≢true (sym (ap is_accepted e) ∙ f))
 
 -- The answer and the bytes.
 module _ (s b : List ℕ) where
-  pub short-replies : length b < tableLength → (refusal 14 tableLength ≡ tableReplied s b) × (b ≡ tableLeft s b)
-  unfolding tableReading
+  pub short-replies : length b < table_length → (refusal 14 table_length ≡ table_replied s b) × (b ≡ table_left s b)
+  unfolding table_reading
   short-replies h =
-      let short : tableReading s b ≡ refusal 14 tableLength = failed (leb tableLength (length b)) 14 tableLength (readTable s) (lt-leb tableLength (length b) h) in
-      (ap (answers (λ t. tt)) (sym short), ap (λ r. leftIn tableBytes r b) (sym short))
+      let short : table_reading s b ≡ refusal 14 table_length = failed (leb table_length (length b)) 14 table_length (read_table s) (lt-leb table_length (length b) h) in
+      (ap (answers (λ t. tt)) (sym short), ap (λ r. left_in table_bytes r b) (sym short))
 
-  module _ (h : tableLength ≤ length b) where
-    reading-is : tableReading s b ≡ readTable s
-    unfolding tableReading
-    reading-is = passed (leb tableLength (length b)) 14 tableLength (readTable s) (le-leb tableLength (length b) h)
+  module _ (h : table_length ≤ length b) where
+    reading-is : table_reading s b ≡ read_table s
+    unfolding table_reading
+    reading-is = passed (leb table_length (length b)) 14 table_length (read_table s) (le-leb table_length (length b) h)
 
-    pub refused-replies : {t : TableReply} → Refuses (readTable s) t → (tableReply t ≡ tableReplied s b) × (b ≡ tableLeft s b)
+    pub refused-replies : {t : TableReply} → Refuses (read_table s) t → (table_reply t ≡ table_replied s b) × (b ≡ table_left s b)
     refused-replies r =
         let refused = reading-is ∙ r.reply in
-        (r.says ∙ ap (answers (λ t. tt)) (sym refused), ap (λ x. leftIn tableBytes x b) (sym refused))
+        (r.says ∙ ap (answers (λ t. tt)) (sym refused), ap (λ x. left_in table_bytes x b) (sym refused))
 
     module _ (f : Header) (names slots : List ℕ) (t : TableReply) (r : LinesRead f s names slots t)
-        (e : readTable s ≡ readLabels f f.labels [] (drop 25 s)) where
+        (e : read_table s ≡ read_labels f f.labels [] (drop 25 s)) where
       abbrev lines : Reply Table
-      lines = readLabels f f.labels [] (drop 25 s)
+      lines = read_labels f f.labels [] (drop 25 s)
 
-      lines-replied : tableReply t ≡ tableReplied s b
-      lines-replied = r.replies ∙ ap (answers (λ t. tt)) (sym (reading-is ∙ e))
+      lines_replied : table_reply t ≡ table_replied s b
+      lines_replied = r.replies ∙ ap (answers (λ t. tt)) (sym (reading-is ∙ e))
 
-      lines_left : leftIn tableBytes lines b ≡ tableLeft s b
-      lines_left = ap (λ x. leftIn tableBytes x b) (sym (reading-is ∙ e))
+      lines_left : left_in table_bytes lines b ≡ table_left s b
+      lines_left = ap (λ x. left_in table_bytes x b) (sym (reading-is ∙ e))
 
-      pub unwritten-replies : isAccepted (tableReply t) ≡ false → (tableReply t ≡ tableReplied s b) × (b ≡ tableLeft s b)
-      unwritten-replies g = (lines-replied, left-unwritten b (tableReply t) lines r.replies g ∙ lines_left)
+      pub unwritten_replies : is_accepted (table_reply t) ≡ false → (table_reply t ≡ table_replied s b) × (b ≡ table_left s b)
+      unwritten_replies g = (lines_replied, left_unwritten b (table_reply t) lines r.replies g ∙ lines_left)
 
-      pub written-replies : isAccepted (tableReply t) ≡ true → (d : List ℕ) → d ≡ overwritten (headBytes f ++ (names ++ slots)) b
-          → (tableReply t ≡ tableReplied s b) × (d ≡ tableLeft s b)
+      pub written-replies : is_accepted (table_reply t) ≡ true → (d : List ℕ) → d ≡ overwritten (head_bytes f ++ (names ++ slots)) b
+          → (table_reply t ≡ table_replied s b) × (d ≡ table_left s b)
       written-replies g d k = (
-        lines-replied,
-        k ∙ left-written b (tableReply t) lines r.replies g (headBytes f ++ (names ++ slots)) r.bytes ∙ lines_left,
+        lines_replied,
+        k ∙ left-written b (table_reply t) lines r.replies g (head_bytes f ++ (names ++ slots)) r.bytes ∙ lines_left,
       )

@@ -6,23 +6,23 @@ use mathlib.Core.List.{List}
 use Prim.Native.Nat.{ℕ, ◌+◌, ◌-◌, ◌*◌}
 use lib.ListN.{length, take, drop, length-take}
 use native.Mathlib.Omega.{arith}
-use Rattle.lts.specs.Sizes.{nameSlotLength}
-use Rattle.table_text.proofs.Laws.Progress.{label-refused, label-out-of-order, label-repeated, label-accepted}
-use Rattle.lts.proofs.Laws.SlotBytes.{name-written, used-stored}
+use Rattle.lts.specs.Sizes.{name_slot_length}
+use Rattle.table_text.proofs.Laws.Progress.{label-refused, label_out_of_order, label-repeated, label-accepted}
+use Rattle.lts.proofs.Laws.SlotBytes.{name-written, used_stored}
 use Rattle.lts.proofs.Laws.NameRuns.{name-short}
 use Rattle.lts.proofs.Booleans.{and-true-of}
 use Rattle.lts.specs.Lists.{every}
-use Rattle.lts.specs.inner.Slots.{counted, nameBytes}
+use Rattle.lts.specs.inner.Slots.{counted, name_bytes}
 use Rattle.lts.specs.inner.Lines.{Labelled}
 use Rattle.table_lines.specs.inner.LineReplies.{LabelAnswer}
 use Rattle.lts.specs.Reading.{used}
-use Rattle.lts.specs.Text.{labelLine}
-use Rattle.lts.specs.Names.{isName}
-use Rattle.tables.specs.inner.Access.{foundIn}
+use Rattle.lts.specs.Text.{label_line}
+use Rattle.lts.specs.Names.{is_name}
+use Rattle.tables.specs.inner.Access.{found_in}
 use Rattle.lts.specs.inner.Answers.{is_some}
 use Rattle.columns.specs.Columns.{value_at}
 use Rattle.columns.specs.inner.Write.{pasted}
-use Rattle.columns.specs.Bytes.{sameBytes}
+use Rattle.columns.specs.Bytes.{same_bytes}
 use Rattle.table_text.proofs.read_label.Statement.{statement}
 use Rattle.table_text.proofs.read_label.Tie as tie
 
@@ -44,12 +44,12 @@ known c = c.before.before.before.before
 abbrev fresh : tie.After-enum-told3 → tie.After-known-told
 fresh c = known c.before.before
 
-used-before : (c : tie.After-find) (t : Bool) → is_some (foundIn c.find.result) ≡ t → (names : List (List ℕ)) → length names ≡ (entry (known c)).args.count
-    → every isName names ≡ true → (entry (known c)).args.names.now ≡ nameBytes names → used names (drop 7 (line (known c)).bytes) ≡ t
+used-before : (c : tie.After-find) (t : Bool) → is_some (found_in c.find.result) ≡ t → (names : List (List ℕ)) → length names ≡ (entry (known c)).args.count
+    → every is_name names ≡ true → (entry (known c)).args.names.now ≡ name_bytes names → used names (drop 7 (line (known c)).bytes) ≡ t
 used-before c t h names e f g =
     let a = (entry (known c)).args in
     let name = take (end (known c) - (a.at + 7)) (drop (a.at + 7) a.text.now) in
-    ap (used names) (line (known c)).name ∙ sym (used-stored a.names.now a.count names name e f g) ∙ sym (ap is_some c.find.ensures) ∙ h
+    ap (used names) (line (known c)).name ∙ sym (used_stored a.names.now a.count names name e f g) ∙ sym (ap is_some c.find.ensures) ∙ h
 
 returns : tie.Need-returns
 returns c =
@@ -64,7 +64,7 @@ returns-2 c =
     let a = (entry c.before).args in
     let l = line c.before in
     λ h left names e f g.
-    label-out-of-order h a.text.now a.at left names (end c.before + 1) l.bytes l.lies _ (omega arith)
+    label_out_of_order h a.text.now a.at left names (end c.before + 1) l.bytes l.lies _ (omega arith)
     (λ z. c.if1.true (omega (arith, l.numbered)))
 
 sub-find : tie.Need-overflow-sub-find
@@ -90,7 +90,7 @@ returns-3 c =
     let l = line read in
     λ h left names e f g.
     label-repeated h a.text.now a.at left names (end read + 1) l.bytes l.lies _ (omega arith) (omega (arith, l.numbered, numbered.if1.false))
-    (used-before c.before.before true (ap (λ r. is_some (foundIn r)) c.enum-told2.given.1) names e f g)
+    (used-before c.before.before true (ap (λ r. is_some (found_in r)) c.enum-told2.given.1) names e f g)
 
 sub-write-name : tie.Need-overflow-sub-write-name
 sub-write-name c = omega (arith, (line (fresh c.before)).starts)
@@ -121,15 +121,15 @@ returns-4 c =
     let count = start.args.count in
     let l = line read in
     let bytes = l.bytes in
-    let named = (and-true-of (sameBytes bytes (labelLine (value_at 0 bytes) (drop 7 bytes))) (isName (drop 7 bytes)) l.lies.laid_out).1 in
-    let unused = used-before found false (ap (λ r. is_some (foundIn r)) told.enum-told3.given.1) in
+    let named = (and-true-of (same_bytes bytes (label_line (value_at 0 bytes) (drop 7 bytes))) (is_name (drop 7 bytes)) l.lies.laid_out).1 in
+    let unused = used-before found false (ap (λ r. is_some (found_in r)) told.enum-told3.given.1) in
     λ h left names e f g. record {
       name = drop 7 bytes;
       is_name = named;
       within = l.lies.within;
       reads = label-accepted h start.args.text.now start.args.at left names (end read + 1) bytes l.lies
           (omega (arith, l.numbered, found.before.before.before.if1.false)) (unused names e f g);
-      kept = c.before.before.write-name.ensures ∙ ap₂ (λ x y. pasted x (count * nameSlotLength) (counted y)) g (sym l.name)
+      kept = c.before.before.write-name.ensures ∙ ap₂ (λ x y. pasted x (count * name_slot_length) (counted y)) g (sym l.name)
           ∙ name-written names (drop 7 bytes) count e start.pre.1.1 f (name-short (drop 7 bytes) named).1;
     }
 

@@ -5,7 +5,7 @@ use Prim.Native.Nat.{ℕ, ◌+◌, ◌-◌}
 use lib.ListN.{length}
 use borrow.Author.Rules.{rules}
 use native.Mathlib.Omega.{arith}
-use Rattle.lts.specs.inner.Sizes.{namesLength}
+use Rattle.lts.specs.inner.Sizes.{names_length}
 use Rattle.lts.specs.Reading.{Header}
 use Rattle.table_text.proofs.Laws.Readings.{NamesSoFar, names-start, names-refused, names-go-on, names-end}
 use Rattle.table_lines.specs.inner.LineReplies.{header}
@@ -15,7 +15,7 @@ use Rattle.table_text.proofs.read_labels.Statement.{statement}
 use Rattle.table_text.proofs.read_labels.Tie as tie
 
 abbrev invariant-loop : tie.invariant-loop
-invariant-loop text from counts names₀ at₀ count₀ names at count = NamesSoFar (header counts) text from names at count × (length names ≡ namesLength)
+invariant-loop text from counts names₀ at₀ count₀ names at count = NamesSoFar (header counts) text from names at count × (length names ≡ names_length)
 
 abbrev decreases-loop : tie.decreases-loop
 decreases-loop text from counts names₀ at₀ count₀ names at count = counts.labels - count

@@ -4,9 +4,9 @@ use Prim.Native.Nat.{ℕ}
 use mathlib.Core.Path.{refl, ap₂, ◌∙◌, subst}
 use mathlib.Core.List.{List, ◌++◌}
 use Rattle.table_text.proofs.Laws.Tables.{lines-refused, lines-accepted}
-use Rattle.lts.proofs.Laws.TableBytes.{table-bytes}
-use Rattle.table_text.proofs.Laws.Readings.{refuses-whole}
-use Rattle.lts.specs.inner.Slots.{headBytes}
+use Rattle.lts.proofs.Laws.TableBytes.{table_bytes_lem}
+use Rattle.table_text.proofs.Laws.Readings.{refuses_whole}
+use Rattle.lts.specs.inner.Slots.{head_bytes}
 use Rattle.lts.specs.Reading.{Header}
 use Rattle.table_lines.specs.inner.LineReplies.{header}
 use Rattle.table_text.specs.inner.Progress.{LabelsRead, NamesRead, TransitionsRead}
@@ -58,7 +58,7 @@ returns-2 c =
     let begun = named read in
     let slots = after.new.1.1.1.0 in
     let refusal = subst (TransitionsRead (fields begun) (text begun) (behind read) slots) c.before.transitions-read.given.1 after.ensures in
-    lines-refused (fields begun) (text begun) _ _ (refuses-whole (names read).reads (refusal (names read).names (names read).counts))
+    lines-refused (fields begun) (text begun) _ _ (refuses_whole (names read).reads (refusal (names read).names (names read).counts))
 
 returns-3 : tie.Need-returns-3
 returns-3 c =
@@ -70,7 +70,7 @@ returns-3 c =
     let rest = subst (TransitionsRead h (text begun) (behind read) after.new.1.1.1.0) c.enum_told.given.1 after.ensures in
     let steps = rest all.names all.counts in
     lines-accepted h (text begun) _ _ _ (all.reads ∙ steps.reads)
-    (ap₂ (λ x y. headBytes h ++ (x ++ y)) all.kept steps.kept ∙ table-bytes h all.names steps.steps all.counts steps.counts)
+    (ap₂ (λ x y. head_bytes h ++ (x ++ y)) all.kept steps.kept ∙ table_bytes_lem h all.names steps.steps all.counts steps.counts)
 
 pub read-lines-spec : {M : Type 1} → statement M
 read-lines-spec =

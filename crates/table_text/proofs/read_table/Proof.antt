@@ -1,4 +1,4 @@
--- `read_table` answers `tableReplied` and leaves `tableLeft`.
+-- `read_table_lem` answers `table_replied` and leaves `table_left`.
 use borrow.Author.Rules.{rules}
 use Prim.Native.Nat.{ℕ}
 use mathlib.Core.Path.{◌≡◌, refl, sym, ◌∙◌, subst}
@@ -6,14 +6,14 @@ use borrow.Author.Tests.{not-true, not-false}
 use mathlib.Core.Bool.{true}
 use lib.ListN.{drop}
 use mathlib.Core.List.{List, []}
-use Rattle.table_text.proofs.Laws.Tables.{header_refused, header-out-of-range, header-accepted, HeaderBounds, header-bounds}
-use Rattle.table_text.proofs.Laws.Tables.{short-replies, refused-replies, unwritten-replies, written-replies}
-use Rattle.lts.specs.Reading.{Header, headerInRange, readTable}
-use Rattle.lts.specs.inner.Reading.{readLabels}
+use Rattle.table_text.proofs.Laws.Tables.{header_refused, header_out_of_range, header-accepted, HeaderBounds, header_bounds}
+use Rattle.table_text.proofs.Laws.Tables.{short-replies, refused-replies, unwritten_replies, written-replies}
+use Rattle.lts.specs.Reading.{Header, header_in_range, read_table}
+use Rattle.lts.specs.inner.Reading.{read_labels}
 use Rattle.table_lines.specs.inner.LineReplies.{header, HeaderAnswer}
 use Rattle.table_lines.specs.declared.HeaderLine.TheVariants.{Header as LaidHeader}
-use Rattle.table_text.proofs.read_table.Statement.{statement}
-use Rattle.table_text.proofs.read_table.Tie as tie
+use Rattle.table_text.proofs.read_table_lem.Statement.{statement}
+use Rattle.table_text.proofs.read_table_lem.Tie as tie
 
 -- The lent bytes are long enough.
 module _ (c : tie.Else1) where
@@ -39,13 +39,13 @@ module _ (c : tie.Else2) where
   abbrev known : tie.After-known-told
   known = c.before.before
 
-  in-range : headerInRange (fields known) ≡ true
+  in-range : header_in_range (fields known) ≡ true
   in-range = sym c.before.header-in-range.ensures ∙ not-false _ c.if2.false
 
   bounds : HeaderBounds (fields known)
-  bounds = header-bounds (fields known) in-range
+  bounds = header_bounds (fields known) in-range
 
-  labels-left : readTable (text (longer known)) ≡ readLabels (fields known) (fields known).labels [] (drop 25 (text (longer known)))
+  labels-left : read_table (text (longer known)) ≡ read_labels (fields known) (fields known).labels [] (drop 25 (text (longer known)))
   labels-left = let (l, lies, values) = said known in header-accepted (text (longer known)) l lies (fields known) values in-range
 
 -- The lines behind it are read.
@@ -67,7 +67,7 @@ returns-3 c =
     let enough = longer read in
     let (l, lies, values) = said read in
     refused-replies (text enough) (lent enough) enough.if1.left
-    (header-out-of-range (text enough) l lies (fields read) values (sym c.before.header-in-range.ensures ∙ not-true _ c.if2.true))
+    (header_out_of_range (text enough) l lies (fields read) values (sym c.before.header-in-range.ensures ∙ not-true _ c.if2.true))
 
 read-lines-requires : tie.Need-read-lines-requires
 read-lines-requires c κs =
@@ -98,7 +98,7 @@ returns-5 : tie.Need-returns-5
 returns-5 c =
     let begin = begun c.before in
     let enough = longer (known begin) in
-    unwritten-replies (text enough) (lent enough) enough.if1.left (fields (known begin)) _ _ _
+    unwritten_replies (text enough) (lent enough) enough.if1.left (fields (known begin)) _ _ _
     c.before.before.before.before.read-lines.ensures (labels-left begin) (sym c.before.is-accepted.ensures ∙ c.if3.false)
 
 pub read-table-spec : {M : Type 1} → statement M

@@ -3,39 +3,39 @@ use Rattle.std.specs.Prelude.{◌≡◌, Bool, true, false, List, [], ◌∷◌,
 use Rattle.lts.specs.Reply.{Reply, accepted, refusal, answers}
 use Rattle.lts.specs.Lists.{every}
 use Rattle.lts.specs.Steps.{Step, Table}
-use Rattle.lts.specs.Names.{isName}
-use Rattle.lts.specs.Reading.{Header, readTransitions}
-use Rattle.lts.specs.inner.Reading.{readLabels}
-use Rattle.table_text.specs.Replies.{tableReply}
+use Rattle.lts.specs.Names.{is_name}
+use Rattle.lts.specs.Reading.{Header, read_transitions}
+use Rattle.lts.specs.inner.Reading.{read_labels}
+use Rattle.table_text.specs.Replies.{table_reply}
 use Rattle.table_text.specs.declared.TableReply.{TableReply}
 use Rattle.table_text.specs.declared.TableReply.TheVariants.{NotLaidOut, OutOfRange}
 use Rattle.table_text.specs.declared.Progress.{Progress}
 use Rattle.table_text.specs.declared.Progress.TheVariants.{Next, Refused}
-use Rattle.lts.specs.inner.Slots.{nameBytes, stepBytes, headBytes}
-use Rattle.lts.specs.Prepared.{tableBytes}
+use Rattle.lts.specs.inner.Slots.{name_bytes, step_bytes, head_bytes}
+use Rattle.lts.specs.Prepared.{table_bytes}
 
 -- A reading that ends in the refusal that an answer says.
 pub record Refuses (r : Reply Table) (t : TableReply) : Type 0 where
   pub number : ℕ
   pub figure : ℕ
   pub reply : r ≡ refusal number figure
-  pub says : tableReply t ≡ refusal number figure
+  pub says : table_reply t ≡ refusal number figure
 
 -- One more name is read: what is left to read, and the slots with it.
 pub record NameRead (h : Header) (s : List ℕ) (at to left : ℕ) (names : List (List ℕ)) (b : List ℕ) : Type 0 where
   pub name : List ℕ
-  pub is_name : isName name ≡ true
+  pub is_name : is_name name ≡ true
   pub within : to ≤ length s
-  pub reads : readLabels h (suc left) names (drop at s) ≡ readLabels h left (names ++ (name ∷ [])) (drop to s)
-  pub kept : b ≡ nameBytes (names ++ (name ∷ []))
+  pub reads : read_labels h (suc left) names (drop at s) ≡ read_labels h left (names ++ (name ∷ [])) (drop to s)
+  pub kept : b ≡ name_bytes (names ++ (name ∷ []))
 
 abbrev pub NameReads : Header → List ℕ → ℕ → ℕ → List (List ℕ) → List ℕ → Progress → Type 0
 NameReads h s at left names b (Next to) = NameRead h s at to left names b
-NameReads h s at left names b (Refused t) = Refuses (readLabels h (suc left) names (drop at s)) t
+NameReads h s at left names b (Refused t) = Refuses (read_labels h (suc left) names (drop at s)) t
 
 -- The line of a label at `at`, if the slots hold the names before it: b before, and d after.
 abbrev pub LabelProgress : List ℕ → ℕ → ℕ → List ℕ → List ℕ → Progress → Type 0
-LabelProgress s at count b d r = (h : Header) (left : ℕ) (names : List (List ℕ)) → length names ≡ count → every isName names ≡ true → b ≡ nameBytes names
+LabelProgress s at count b d r = (h : Header) (left : ℕ) (names : List (List ℕ)) → length names ≡ count → every is_name names ≡ true → b ≡ name_bytes names
     → NameReads h s at left names d r
 
 -- All names are read, and the slots hold them.
@@ -43,51 +43,51 @@ pub record NamesRead (h : Header) (s : List ℕ) (from to : ℕ) (b : List ℕ) 
   pub names : List (List ℕ)
   pub counts : length names ≡ h.labels
   pub within : to ≤ length s
-  pub reads : readLabels h h.labels [] (drop from s) ≡ readTransitions h names h.transitions [] (drop to s)
-  pub kept : b ≡ nameBytes names
+  pub reads : read_labels h h.labels [] (drop from s) ≡ read_transitions h names h.transitions [] (drop to s)
+  pub kept : b ≡ name_bytes names
 
 abbrev pub LabelsRead : Header → List ℕ → ℕ → List ℕ → Progress → Type 0
 LabelsRead h s from b (Next to) = NamesRead h s from to b
-LabelsRead h s from b (Refused t) = Refuses (readLabels h h.labels [] (drop from s)) t
+LabelsRead h s from b (Refused t) = Refuses (read_labels h h.labels [] (drop from s)) t
 
 -- The same of transitions.
 pub record TransitionLineRead (h : Header) (s : List ℕ) (at to left : ℕ) (names : List (List ℕ)) (steps : List Step) (b : List ℕ) : Type 0 where
   pub last : Step
   pub within : to ≤ length s
-  pub reads : readTransitions h names (suc left) steps (drop at s) ≡ readTransitions h names left (steps ++ (last ∷ [])) (drop to s)
-  pub kept : b ≡ stepBytes (steps ++ (last ∷ []))
+  pub reads : read_transitions h names (suc left) steps (drop at s) ≡ read_transitions h names left (steps ++ (last ∷ [])) (drop to s)
+  pub kept : b ≡ step_bytes (steps ++ (last ∷ []))
 
 abbrev pub TransitionLineReads : Header → List ℕ → ℕ → ℕ → List (List ℕ) → List Step → List ℕ → Progress → Type 0
 TransitionLineReads h s at left names steps b (Next to) = TransitionLineRead h s at to left names steps b
-TransitionLineReads h s at left names steps b (Refused t) = Refuses (readTransitions h names (suc left) steps (drop at s)) t
+TransitionLineReads h s at left names steps b (Refused t) = Refuses (read_transitions h names (suc left) steps (drop at s)) t
 
 abbrev pub TransitionProgress : Header → List ℕ → ℕ → ℕ → List ℕ → List ℕ → Progress → Type 0
-TransitionProgress h s at count b d r = (left : ℕ) (names : List (List ℕ)) (steps : List Step) → length names ≡ h.labels → length steps ≡ count → b ≡ stepBytes steps
+TransitionProgress h s at count b d r = (left : ℕ) (names : List (List ℕ)) (steps : List Step) → length names ≡ h.labels → length steps ≡ count → b ≡ step_bytes steps
     → TransitionLineReads h s at left names steps d r
 
 pub record StepsRead (h : Header) (s : List ℕ) (from : ℕ) (names : List (List ℕ)) (b : List ℕ) : Type 0 where
   pub steps : List Step
   pub counts : length steps ≡ h.transitions
-  pub reads : readTransitions h names h.transitions [] (drop from s) ≡ accepted (record { states = h.states; names = names; transitions = steps; start = h.start })
-  pub kept : b ≡ stepBytes steps
+  pub reads : read_transitions h names h.transitions [] (drop from s) ≡ accepted (record { states = h.states; names = names; transitions = steps; start = h.start })
+  pub kept : b ≡ step_bytes steps
 
 abbrev pub StepsReads : Header → List ℕ → ℕ → List (List ℕ) → List ℕ → Progress → Type 0
 StepsReads h s from names b (Next to) = StepsRead h s from names b
-StepsReads h s from names b (Refused t) = Refuses (readTransitions h names h.transitions [] (drop from s)) t
+StepsReads h s from names b (Refused t) = Refuses (read_transitions h names h.transitions [] (drop from s)) t
 
 abbrev pub TransitionsRead : Header → List ℕ → ℕ → List ℕ → Progress → Type 0
 TransitionsRead h s from b r = (names : List (List ℕ)) → length names ≡ h.labels → StepsReads h s from names b r
 
 -- 01: "on each line 1, 2": the refusal of a line with a number out of range.
-abbrev pub numberRefused : Bool → ℕ → TableReply
-numberRefused true line = OutOfRange line
-numberRefused false line = NotLaidOut line
+abbrev pub number_refused : Bool → ℕ → TableReply
+number_refused true line = OutOfRange line
+number_refused false line = NotLaidOut line
 
 -- The lines behind the first: what is answered, and that the slots of accepted ones are the prepared table's.
 pub record LinesRead (h : Header) (s names slots : List ℕ) (r : TableReply) : Type 0 where
-  pub replies : tableReply r ≡ answers (λ t. tt) (readLabels h h.labels [] (drop 25 s))
-  pub bytes : (t : Table) → readLabels h h.labels [] (drop 25 s) ≡ accepted t → headBytes h ++ (names ++ slots) ≡ tableBytes t
+  pub replies : table_reply r ≡ answers (λ t. tt) (read_labels h h.labels [] (drop 25 s))
+  pub bytes : (t : Table) → read_labels h h.labels [] (drop 25 s) ≡ accepted t → head_bytes h ++ (names ++ slots) ≡ table_bytes t
 
-abbrev pub isAccepted : {A : Type 0} → Reply A → Bool
-isAccepted (accepted a) = true
-isAccepted (refusal number figure) = false
+abbrev pub is_accepted : {A : Type 0} → Reply A → Bool
+is_accepted (accepted a) = true
+is_accepted (refusal number figure) = false

@@ -2,12 +2,12 @@
 use mathlib.Core.Path.{sym}
 use mathlib.Core.Logic.{inl, inr}
 use native.Mathlib.Omega.{arith}
-use Rattle.target_masks.proofs.Laws.Places.{idle-column, own-column}
+use Rattle.target_masks.proofs.Laws.Places.{idle_column, own-column}
 use Rattle.target_masks.proofs.column.Statement.{statement}
 use Rattle.target_masks.proofs.column.Tie as tie
 
 returns : tie.Need-returns
-returns c = (sym (idle-column c.before.args.label c.if1.true), omega arith)
+returns c = (sym (idle_column c.before.args.label c.if1.true), omega arith)
 
 returns-2 : tie.Need-returns-2
 returns-2 c =

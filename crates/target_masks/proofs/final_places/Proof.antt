@@ -4,11 +4,11 @@ use mathlib.Core.Bool.{true, false}
 use Prim.Native.Nat.{◌-◌, ◌≤◌, ◌<◌}
 use native.Mathlib.Omega.{arith}
 use lib.ListN.{get_or, length-replicate, get_or-replicate, replicate}
-use Rattle.actl.specs.Sizes.{mostNodes}
-use Rattle.automaton.specs.inner.Sizes.{placeCount}
+use Rattle.actl.specs.Sizes.{most_nodes}
+use Rattle.automaton.specs.inner.Sizes.{place_count}
 use Rattle.actl.specs.Formulas.{Formula}
 use Rattle.target_masks.specs.inner.Masks.{Spells, FinalsOf}
-use Rattle.target_masks.proofs.Laws.Places.{place-few, place-shaped, finals-from, finals-turn, finals-end}
+use Rattle.target_masks.proofs.Laws.Places.{place-few, place-shaped, finals_from, finals_turn, finals_end}
 use borrow.Author.Rules.{rules}
 use Rattle.target_masks.proofs.final_places.Statement.{statement}
 use Rattle.target_masks.proofs.final_places.Tie as tie
@@ -20,7 +20,7 @@ abbrev decreases-loop : tie.decreases-loop
 decreases-loop formula ends finals₀ k₀ finals k = k
 
 -- In each turn, place k - 1 is one of 40.
-few : (c : tie.In-loop invariant-loop decreases-loop) → c.before.loop.k - 1 < mostNodes
+few : (c : tie.In-loop invariant-loop decreases-loop) → c.before.loop.k - 1 < most_nodes
 few c = place-few c.before.before.before.before.requires.1.1 (c.before.loop.k - 1) (omega arith)
 
 node-count-requires : tie.Need-node-count-requires invariant-loop decreases-loop
@@ -30,8 +30,8 @@ loop-holds : tie.Need-loop-init invariant-loop decreases-loop
 loop-holds c =
     let n = c.node-count.ensures in (
       omega (arith, n),
-      λ F p. subst (λ k. FinalsOf F k (replicate placeCount true)) (sym (n ∙ p.count))
-          (finals-end F _ (length-replicate placeCount true) (λ i h. get_or-replicate placeCount i true false h) p.few),
+      λ F p. subst (λ k. FinalsOf F k (replicate place_count true)) (sym (n ∙ p.count))
+          (finals_end F _ (length-replicate place_count true) (λ i h. get_or-replicate place_count i true false h) p.few),
     )
 
 add-arm : tie.Need-overflow-add-arm invariant-loop decreases-loop
@@ -60,10 +60,10 @@ loop-again c =
     let turn = c.before.before.before in
     let l = turn.before.loop in
     let other = c.before.before.other_arm in
-    let node = c.before.node_at in (
+    let node = c.before.node_at_lem in (
       omega arith,
-      λ F p. finals-turn p (l.k - 1) (omega arith) other.result other.ensures.1 l.finals
-          (finals-from turn.loop-test.true (l.invariant.1 F p)) node.result node.ensures _ c.node-final.ensures,
+      λ F p. finals_turn p (l.k - 1) (omega arith) other.result other.ensures.1 l.finals
+          (finals_from turn.loop-test.true (l.invariant.1 F p)) node.result node.ensures _ c.node-final.ensures,
     )
 
 returns : tie.Need-returns invariant-loop decreases-loop

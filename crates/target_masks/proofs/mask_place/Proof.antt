@@ -3,29 +3,29 @@ use mathlib.Core.Path.{◌≡◌, subst}
 use mathlib.Core.Logic.{inl}
 use Prim.Native.Nat.{◌-◌, ◌≤◌, ◌<◌}
 use native.Mathlib.Omega.{arith}
-use Rattle.actl.specs.Sizes.{mostNodes}
-use Rattle.automaton.specs.inner.Sizes.{placeCount}
+use Rattle.actl.specs.Sizes.{most_nodes}
+use Rattle.automaton.specs.inner.Sizes.{place_count}
 use Rattle.actl.specs.Formulas.{Formula}
 use Rattle.target_masks.specs.inner.Masks.{Spells, MasksOn}
-use Rattle.target_masks.proofs.Laws.Places.{place-few, place-shaped, masks-turn-at}
+use Rattle.target_masks.proofs.Laws.Places.{place-few, place-shaped, masks_turn_at}
 use Rattle.target_masks.proofs.mask_place.Statement.{statement}
 use Rattle.target_masks.proofs.mask_place.Tie as tie
 
 abbrev invariant-loop : tie.invariant-loop
-invariant-loop formula ends masks₀ k end node last right l₀ masks l = (l ≤ placeCount) × ((F : Formula) → Spells formula ends F → MasksOn F k l masks)
+invariant-loop formula ends masks₀ k end node last right l₀ masks l = (l ≤ place_count) × ((F : Formula) → Spells formula ends F → MasksOn F k l masks)
 
 abbrev decreases-loop : tie.decreases-loop
-decreases-loop formula ends masks₀ k end node last right l₀ masks l = placeCount - l
+decreases-loop formula ends masks₀ k end node last right l₀ masks l = place_count - l
 
 -- The place is one of 40, and in the loop the other arm's is one of 41, and the column one of 41.
-few : (c : tie.Start invariant-loop decreases-loop) → c.args.k < mostNodes
+few : (c : tie.Start invariant-loop decreases-loop) → c.args.k < most_nodes
 few c = place-few c.requires.1.0.1 c.args.k c.requires.0.1
 
 few-here : (c : tie.After-column invariant-loop decreases-loop)
-    → (c.before.before.before.before.before.before.before.before.args.k < mostNodes) × (c.column.result < placeCount)
+    → (c.before.before.before.before.before.before.before.before.args.k < most_nodes) × (c.column.result < place_count)
 few-here c = (few c.before.before.before.before.before.before.before.before, c.column.ensures.1)
 
-few-other : (c : tie.After-column invariant-loop decreases-loop) → (c.before.before.before.other_arm.result ≤ 40) × (c.column.result < placeCount)
+few-other : (c : tie.After-column invariant-loop decreases-loop) → (c.before.before.before.other_arm.result ≤ 40) × (c.column.result < place_count)
 few-other c = (c.before.before.before.other_arm.ensures.0, c.column.ensures.1)
 
 node-count-requires : tie.Need-node-count-requires invariant-loop decreases-loop
@@ -115,8 +115,8 @@ loop-again c =
     let counted = read.before in
     let start = counted.before.before in (
       omega (arith, taken),
-      λ F p. masks-turn-at p start.args.k start.requires.0.1 armed.other_arm.result armed.other_arm.ensures.1
-          loop.masks loop.l (loop.invariant.1 F p) taken read.node_at.result read.node_at.ensures
+      λ F p. masks_turn_at p start.args.k start.requires.0.1 armed.other_arm.result armed.other_arm.ensures.1
+          loop.masks loop.l (loop.invariant.1 F p) taken read.node_at_lem.result read.node_at_lem.ensures
           counted.node-count.result counted.node-count.ensures told.is_true.result told.is_true.ensures
           found.result found.ensures.0 _ c.node-mask.ensures,
     )
@@ -124,7 +124,7 @@ loop-again c =
 returns : tie.Need-returns invariant-loop decreases-loop
 returns c =
     let loop = c.before.loop in
-    let last : loop.l ≡ placeCount = omega (arith, c.loop-test.false, loop.invariant.0) in
+    let last : loop.l ≡ place_count = omega (arith, c.loop-test.false, loop.invariant.0) in
     λ F p. subst (λ n. MasksOn F c.before.before.before.before.before.before.before.args.k n loop.masks) last (loop.invariant.1 F p)
 
 pub mask-place-spec : {M : Type 1} → statement M

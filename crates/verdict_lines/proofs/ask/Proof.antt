@@ -2,8 +2,8 @@
 use borrow.Author.Rules.{rules}
 use native.Mathlib.Omega.{arith}
 use Rattle.explaining.proofs.Answers.{said_of}
-use Rattle.explaining.proofs.Into.{was_read, was-refused}
-use Rattle.verdict_lines.proofs.Laws.Asking.{refused-texts, asked-texts}
+use Rattle.explaining.proofs.Into.{was_read, was_refused}
+use Rattle.verdict_lines.proofs.Laws.Asking.{refused_texts, asked_texts}
 use Rattle.verdict_lines.proofs.ask.Statement.{statement}
 use Rattle.verdict_lines.proofs.ask.Tie as tie
 
@@ -16,8 +16,8 @@ returns c =
     let read = c.before.before.before.before.before in
     let a = (begun read).args in
     let left = read.read-both.new.1.1 in
-    refused-texts a.tabletext.now a.formulatext.now a.starts.now a.answers.now _ _
-    (was-refused a.tabletext.now a.formulatext.now left.0 left.1.0 read.read-both.ensures _ _ c.before.ready.given.1)
+    refused_texts a.tabletext.now a.formulatext.now a.starts.now a.answers.now _ _
+    (was_refused a.tabletext.now a.formulatext.now left.0 left.1.0 read.read-both.ensures _ _ c.before.ready.given.1)
 
 returns-2 : tie.Need-returns-2
 returns-2 c =
@@ -27,7 +27,7 @@ returns-2 c =
     let a = (begun read).args in
     let left = read.read-both.new.1.1 in
     let was = was_read a.tabletext.now a.formulatext.now left.0 left.1.0 read.read-both.ensures told.enum_told.given.1 in
-    asked-texts a.tabletext.now a.formulatext.now a.starts.now was a.answers.now (omega arith) (omega arith) (omega arith)
+    asked_texts a.tabletext.now a.formulatext.now a.starts.now was a.answers.now (omega arith) (omega arith) (omega arith)
     (said_of c.verdicts-answer.ensures wrote.verdicts.ensures.0) wrote.verdicts.ensures.1.0
 
 pub ask-spec : {M : Type 1} → statement M

@@ -7,7 +7,7 @@ use lib.ListN.{length, take}
 use lib.Seq.{length-take-le}
 use Rattle.files.proofs.Counts.{written-counts}
 use Rattle.verdict_text.proofs.Laws.Entries.{entries-count}
-use Rattle.verdict_lines.proofs.Laws.Written.{Listed, refused-lines, was-listed, stopped-lines, listed-lines}
+use Rattle.verdict_lines.proofs.Laws.Written.{Listed, refused-lines, was_listed, stopped_lines, listed-lines}
 use Rattle.verdict_lines.proofs.write_lines.Statement.{statement}
 use Rattle.verdict_lines.proofs.write_lines.Tie as tie
 
@@ -52,7 +52,7 @@ returns-2 c =
     let tested = c.before.before.before.before in
     let counted = tested.before in
     let told = counted.before in
-    let written = stopped-lines _ _ _ _ _ _ _ (read (asked told)).read-list.ensures (asked told).ask.ensures _ (zero told)
+    let written = stopped_lines _ _ _ _ _ _ _ (read (asked told)).read-list.ensures (asked told).ask.ensures _ (zero told)
     (omega (arith, tested.if2.true, counted.entry-count.ensures.0)) call.ensures in
     (written, written-counts written (omega arith))
 
@@ -60,7 +60,7 @@ write-answers-requires : tie.Need-write-answers-requires
 write-answers-requires c κs =
     let told = c.before.before.before.before.before in
     let question = asked told in
-    let listed = was-listed _ _ _ _ _ _ _ (read question).read-list.ensures question.ask.ensures 0 (zero told) in (
+    let listed = was_listed _ _ _ _ _ _ _ (read question).read-list.ensures question.ask.ensures 0 (zero told) in (
       (listed.small, listed.few),
       (fits (read question), omega (arith, listed.few, question.ask.kept.1.1.1.0), (start (read question)).pre.1),
     )

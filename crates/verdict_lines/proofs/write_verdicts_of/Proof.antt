@@ -5,11 +5,11 @@ use mathlib.Core.List.{List}
 use Prim.Native.Nat.{ℕ, min}
 use native.Mathlib.Omega.{arith}
 use lib.ListN.{take, length-take}
-use Rattle.explanations.specs.inner.Sizes.{keptLength}
+use Rattle.explanations.specs.inner.Sizes.{kept_length}
 use Rattle.explanations.specs.inner.Printed.{TextWritten}
-use Rattle.verdict_text.specs.VerdictsText.{entriesIn, listedVerdicts}
-use Rattle.verdict_text.specs.inner.Sizes.{listLength}
-use Rattle.verdict_lines.specs.inner.FileLines.{countedLines, fileLines}
+use Rattle.verdict_text.specs.VerdictsText.{entries_in, listed_verdicts}
+use Rattle.verdict_text.specs.inner.Sizes.{list_length}
+use Rattle.verdict_lines.specs.inner.FileLines.{counted_lines, file_lines}
 use Rattle.verdict_lines.proofs.write_verdicts_of.Statement.{statement}
 use Rattle.verdict_lines.proofs.write_verdicts_of.Tie as tie
 
@@ -32,17 +32,17 @@ write-lines-requires c κs =
     (omega (arith, cut.least2.ensures, length-take cut.least2.result a.list.now), search rules)
 
 returns : tie.Need-returns
-unfolding fileLines
+unfolding file_lines
 returns c =
     let cut = c.before.before.before.before.before.before in
     let kept = cut.before in
     let a = kept.before.before.before.args in
     let long = kept.before.text-length in
-    let first = kept.least.ensures ∙ ap (λ k. min k keptLength) long.ensures in
+    let first = kept.least.ensures ∙ ap (λ k. min k kept_length) long.ensures in
     let listed = cut.least2.ensures in
     let written = c.write-lines in (
       subst (λ (l : List ℕ). TextWritten l a.out.now written.new.1.1.1.1.0 written.result)
-          (λ i. countedLines (long.ensures i) (listedVerdicts a.tablefile.now (take (first i) a.head.now) (entriesIn (take (listed i) a.list.now))))
+          (λ i. counted_lines (long.ensures i) (listed_verdicts a.tablefile.now (take (first i) a.head.now) (entries_in (take (listed i) a.list.now))))
           written.ensures.0,
       written.ensures.1,
     )

@@ -1,30 +1,30 @@
 -- What reading the list and writing the lines take and leave.
 use Rattle.std.specs.Prelude.{◌≡◌, List, [], ◌∷◌, ◌++◌, ℕ, ◌+◌, ◌*◌, ◌≤◌, ◌<◌, length, get_or, take}
-use Rattle.columns.specs.Lines.{numbersLine}
+use Rattle.columns.specs.Lines.{numbers_line}
 use Rattle.columns.specs.inner.Write.{pasted}
 use Rattle.lts.specs.Lists.{bind}
-use Rattle.lts.specs.Sizes.{mostStates}
+use Rattle.lts.specs.Sizes.{most_states}
 use Rattle.lts.specs.inner.Lists.{up_from}
-use Rattle.verdict_text.specs.VerdictsText.{entriesIn}
+use Rattle.verdict_text.specs.VerdictsText.{entries_in}
 
 -- The list's numbers as bytes, up to the first that is none.
 pub record ListRead (list starts : List ℕ) (count : ℕ) : Type 0 where
-  pub few : count ≤ length (entriesIn list)
-  pub same : take count starts ≡ take count (entriesIn list)
-  pub stops : count < length (entriesIn list) → mostStates ≤ get_or (entriesIn list) count 0
+  pub few : count ≤ length (entries_in list)
+  pub same : take count starts ≡ take count (entries_in list)
+  pub stops : count < length (entries_in list) → most_states ≤ get_or (entries_in list) count 0
   pub places : length starts ≡ 257
 
 -- The line of entry i, by the bytes of the list and of the answers.
-abbrev pub entryLine : List ℕ → List ℕ → ℕ → List ℕ
-entryLine starts answers i = numbersLine (get_or starts i 0 ∷ get_or answers i 0 ∷ [])
+abbrev pub entry_line : List ℕ → List ℕ → ℕ → List ℕ
+entry_line starts answers i = numbers_line (get_or starts i 0 ∷ get_or answers i 0 ∷ [])
 
-abbrev pub entryLines : ℕ → ℕ → List ℕ → List ℕ → List ℕ
-entryLines answer count starts answers = numbersLine (answer ∷ count ∷ []) ++ bind (entryLine starts answers) (up_from 0 count)
+abbrev pub entry_lines : ℕ → ℕ → List ℕ → List ℕ → List ℕ
+entry_lines answer count starts answers = numbers_line (answer ∷ count ∷ []) ++ bind (entry_line starts answers) (up_from 0 count)
 
 -- A line of two numbers, and the lines of the first `count` entries, in a buffer that held `before`.
 pub record PairWritten (a b at : ℕ) (before out : List ℕ) (end : ℕ) : Type 0 where
-  pub is : out ≡ pasted before at (numbersLine (a ∷ b ∷ []))
-  pub ends : end ≡ at + length (numbersLine (a ∷ b ∷ []))
+  pub is : out ≡ pasted before at (numbers_line (a ∷ b ∷ []))
+  pub ends : end ≡ at + length (numbers_line (a ∷ b ∷ []))
 
 pub record EntriesFit (starts answers : List ℕ) (count at : ℕ) (out : List ℕ) : Type 0 where
   pub listed : count ≤ length starts
@@ -32,6 +32,6 @@ pub record EntriesFit (starts answers : List ℕ) (count at : ℕ) (out : List �
   pub room : at + count * 13 + 81 ≤ length out
 
 pub record EntriesWritten (starts answers : List ℕ) (count at : ℕ) (before out : List ℕ) (end : ℕ) : Type 0 where
-  pub is : out ≡ pasted before at (bind (entryLine starts answers) (up_from 0 count))
-  pub ends : end ≡ at + length (bind (entryLine starts answers) (up_from 0 count))
+  pub is : out ≡ pasted before at (bind (entry_line starts answers) (up_from 0 count))
+  pub ends : end ≡ at + length (bind (entry_line starts answers) (up_from 0 count))
   pub wide : end ≡ at + count * 13

@@ -6,14 +6,14 @@ use mathlib.Core.List.{List}
 use Prim.Native.Nat.{ℕ, ◌≤◌, ◌<◌, ◌-◌}
 use native.Mathlib.Omega.{arith}
 use lib.ListN.{length, length-replicate}
-use Rattle.actl.specs.inner.Sizes.{nodePositions}
+use Rattle.actl.specs.inner.Sizes.{node_positions}
 use Rattle.lts.specs.Reply.{overwritten}
-use Rattle.lts.specs.Sizes.{mostStates}
-use Rattle.lts.specs.inner.Sizes.{mostSteps, firstsLength}
-use Rattle.actl.proofs.Laws.Held.{formula-long}
+use Rattle.lts.specs.Sizes.{most_states}
+use Rattle.lts.specs.inner.Sizes.{most_steps, firsts_length}
+use Rattle.actl.proofs.Laws.Held.{formula_long}
 use Rattle.starts.proofs.Beginnings.{right-few}
 use Rattle.verdicts.proofs.Laws.Answering.{AnsweredBelow, answered-none, answered-length, answered-on, answered-left, answered-jointly}
-use Rattle.verdicts.proofs.Laws.Answering.{bits-verdicts, bits-joint}
+use Rattle.verdicts.proofs.Laws.Answering.{bits_verdicts, bits_joint}
 use Rattle.verdicts.proofs.answer_each.Statement.{statement}
 use Rattle.verdicts.proofs.answer_each.Tie as tie
 
@@ -28,10 +28,10 @@ abbrev entry : tie.After-firsts invariant-loop decreases-loop → tie.Start inva
 entry c = c.before.before.before.before.before.before
 
 steps-of-requires : tie.Need-steps-of-requires invariant-loop decreases-loop
-steps-of-requires c κs = ((entry c).requires.0, (length-replicate {A = ℕ} mostSteps 0, length-replicate {A = ℕ} firstsLength 0))
+steps-of-requires c κs = ((entry c).requires.0, (length-replicate {A = ℕ} most_steps 0, length-replicate {A = ℕ} firsts_length 0))
 
 shape-of-requires : tie.Need-shape-of-requires invariant-loop decreases-loop
-shape-of-requires c κs = formula-long _ _ (entry c.before).pre.1.0
+shape-of-requires c κs = formula_long _ _ (entry c.before).pre.1.0
 
 label-nodes-requires : tie.Need-label-nodes-requires invariant-loop decreases-loop
 label-nodes-requires c κs =
@@ -40,7 +40,7 @@ label-nodes-requires c κs =
       start.pre.0,
       (
         shaped.before.steps_of.ensures,
-        (start.pre.1.0, (record { arms_end = λ F e k h. (shaped.shape_of.ensures _ F e).ends k h }, length-replicate nodePositions false)),
+        (start.pre.1.0, (record { arms_end = λ F e k h. (shaped.shape_of.ensures _ F e).ends k h }, length-replicate node_positions false)),
       ),
     )
 
@@ -58,8 +58,8 @@ module _ (c : tie.After-label-nodes invariant-loop decreases-loop) where
   abbrev flags_of : List Bool
   flags_of = c.label-nodes.new.1.1.1.1.1.0
 
-  few : length start.args.starts.now ≤ mostStates
-  few = right-few _ _ start.pre.0.in-range.few-states start.pre.1.1.0
+  few : length start.args.starts.now ≤ most_states
+  few = right-few _ _ start.pre.0.in_range.few_states start.pre.1.1.0
 
   room : length start.args.starts.now ≤ length start.args.answers.now
   room = omega (arith, few, start.pre.1.1.1)
@@ -114,8 +114,8 @@ returns c =
     let bits = done.label-nodes.ensures in
     let all = c.loop-test.false in
     record {
-      left = λ F e. answered-left _ _ _ loop.i all loop.invariant.1 ∙ ap (λ l. overwritten l a.args.answers.now) (bits-verdicts _ _ _ _ bits a.pre.1.1.0 F e);
-      jointly = λ F e. ap (λ b. cond b 1 0) (answered-jointly _ _ _ loop.i all loop.invariant.1) ∙ bits-joint _ _ _ _ bits a.pre.1.1.0 F e;
+      left = λ F e. answered-left _ _ _ loop.i all loop.invariant.1 ∙ ap (λ l. overwritten l a.args.answers.now) (bits_verdicts _ _ _ _ bits a.pre.1.1.0 F e);
+      jointly = λ F e. ap (λ b. cond b 1 0) (answered-jointly _ _ _ loop.i all loop.invariant.1) ∙ bits_joint _ _ _ _ bits a.pre.1.1.0 F e;
     }
 
 pub answer-each-spec : {M : Type 1} → statement M

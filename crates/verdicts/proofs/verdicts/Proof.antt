@@ -1,6 +1,6 @@
 -- `verdicts` meets its contract: 14 for each buffer, then 10, then the list.
 use borrow.Author.Rules.{rules}
-use Rattle.formula_check.proofs.Laws.Inputs.{Both, inputs-prepared, both-held}
+use Rattle.formula_check.proofs.Laws.Inputs.{Both, inputs_prepared, both-held}
 use Rattle.formula_check.specs.declared.inputs.Unprepared.TheVariants.{BufferShort}
 use Rattle.verdicts.proofs.Laws.Entry.{refused, short-table, short-formula, short-answers, foreign, answered}
 use Rattle.verdicts.proofs.verdicts.Statement.{statement}
@@ -23,7 +23,7 @@ returns-4 c =
 -- Behind the tests.
 prepared : (c : tie.After-enum-told) → let a = c.before.before.before.before.before.before.before.before.before.before.args in
     Both a.table.now a.formula.now
-prepared c = inputs-prepared _ _ c.before.before.check-inputs.ensures c.enum_told.given.1
+prepared c = inputs_prepared _ _ c.before.before.check-inputs.ensures c.enum_told.given.1
 
 answer-list-requires : tie.Need-answer-list-requires
 answer-list-requires c κs =

@@ -4,16 +4,16 @@ use Prim.Native.Nat.{◌+◌, ◌-◌, ◌≤◌}
 use native.Mathlib.Omega.{arith}
 use lib.ListN.{length, drop}
 use borrow.Author.Rules.{rules}
-use Rattle.table_steps.specs.inner.StepArray.{stepsIn}
-use Rattle.frontier.specs.inner.Frontier.{nowhere, brought, allPlaces}
-use Rattle.frontier.specs.inner.Reached.{wordRead, rootReached}
-use Rattle.frontier.proofs.Laws.Left.{word-turn, word-turns, word_over}
+use Rattle.table_steps.specs.inner.StepArray.{steps_in}
+use Rattle.frontier.specs.inner.Frontier.{nowhere, brought, all_places}
+use Rattle.frontier.specs.inner.Reached.{word_read, root_reached}
+use Rattle.frontier.proofs.Laws.Left.{word_turn, word_turns, word_over}
 use Rattle.word_reading.proofs.read_word.Statement.{statement}
 use Rattle.word_reading.proofs.read_word.Tie as tie
 
 abbrev invariant-loop : tie.invariant-loop
 invariant-loop steps firsts masks start word reached₀ next₀ i₀ reached next i =
-    (i ≤ length word) × (wordRead (stepsIn steps firsts) masks word (rootReached start) nowhere ≡ wordRead (stepsIn steps firsts) masks (drop i word) reached next)
+    (i ≤ length word) × (word_read (steps_in steps firsts) masks word (root_reached start) nowhere ≡ word_read (steps_in steps firsts) masks (drop i word) reached next)
 
 abbrev decreases-loop : tie.decreases-loop
 decreases-loop steps firsts masks start word reached₀ next₀ i₀ reached next i = length word - i
@@ -24,7 +24,7 @@ bring-requires c κs = c.before.before.requires.1.0
 loop-holds : tie.Need-loop-init invariant-loop decreases-loop
 loop-holds c =
     let a = c.before.before.before.args in
-    (omega arith, ap (λ x. wordRead (stepsIn a.steps.now a.firsts.now) a.masks.now a.word.now x nowhere) (sym c.bring.ensures))
+    (omega arith, ap (λ x. word_read (steps_in a.steps.now a.firsts.now) a.masks.now a.word.now x nowhere) (sym c.bring.ensures))
 
 add-loop : tie.Need-overflow-add-loop invariant-loop decreases-loop
 add-loop c = omega (arith, c.loop.invariant.0)
@@ -57,10 +57,10 @@ loop-again c =
     let loop = in-loop.before.loop in
     let taken = in-loop.loop-test.true in
     let a = in-loop.before.before.before.before.before.args in
-    let from = stepsIn a.steps.now a.firsts.now in
+    let from = steps_in a.steps.now a.firsts.now in
     let two = c.read-two.ensures in (
       omega (arith, taken),
-      loop.invariant.1 ∙ word-turns from a.masks.now a.word.now loop.i loop.reached loop.next taken _ _ two.0 two.1,
+      loop.invariant.1 ∙ word_turns from a.masks.now a.word.now loop.i loop.reached loop.next taken _ _ two.0 two.1,
     )
 
 shared-slice-read-read-letter : tie.Need-shared-slice-read-read-letter invariant-loop decreases-loop
@@ -78,12 +78,12 @@ returns c =
     let odd = c.before.before.before.before.before.before in
     let at-loop = odd.before.before in
     let a = at-loop.before.before.before.before.args in
-    let from = stepsIn a.steps.now a.firsts.now in
+    let from = steps_in a.steps.now a.firsts.now in
     let loop = at-loop.loop in
-    let read = c.before.before.read-letter.ensures in
-    let last = word-turn from a.masks.now a.word.now loop.i loop.reached loop.next odd.if1.true _ read in
+    let read = c.before.before.read_letter_lem.ensures in
+    let last = word_turn from a.masks.now a.word.now loop.i loop.reached loop.next odd.if1.true _ read in
     let over = word_over from a.masks.now a.word.now (loop.i + 1) _ loop.reached odd.before.loop-test.false in
-    c.all-places.ensures ∙ ap allPlaces (sym (loop.invariant.1 ∙ (last ∙ over)))
+    c.all-places.ensures ∙ ap all_places (sym (loop.invariant.1 ∙ (last ∙ over)))
 
 returns-2 : tie.Need-returns-2 invariant-loop decreases-loop
 returns-2 c =
@@ -91,9 +91,9 @@ returns-2 c =
     let at-loop = even.before.before in
     let a = at-loop.before.before.before.before.args in
     let loop = at-loop.loop in
-    let from = stepsIn a.steps.now a.firsts.now in
+    let from = steps_in a.steps.now a.firsts.now in
     let over = word_over from a.masks.now a.word.now loop.i loop.reached loop.next even.if1.false in
-    c.all-places2.ensures ∙ ap allPlaces (sym (loop.invariant.1 ∙ over))
+    c.all-places2.ensures ∙ ap all_places (sym (loop.invariant.1 ∙ over))
 
 pub read-word-spec : {M : Type 1} → statement M
 read-word-spec =

@@ -4,24 +4,24 @@ use Prim.Native.Nat.{◌≤◌, ◌<◌, ◌-◌}
 use native.Mathlib.Omega.{arith}
 use borrow.Author.Rules.{rules}
 use lib.ListN.{length, get_or}
-use Rattle.automaton.specs.WordAsked.{isBad, badLetter}
-use Rattle.frontier.proofs.Laws.Left.{badLeft, bad-start, bad-over, bad-full, bad-here, bad-later}
+use Rattle.automaton.specs.WordAsked.{is_bad, bad_letter}
+use Rattle.frontier.proofs.Laws.Left.{bad_left, bad_start, bad_over, bad_full, bad_here, bad_later}
 use Rattle.words.proofs.bad_letter.Statement.{statement}
 use Rattle.words.proofs.bad_letter.Tie as tie
 
 abbrev invariant-loop : tie.invariant-loop
-invariant-loop labels word i₀ i = (i ≤ 1024) × (badLetter labels word ≡ badLeft labels word i)
+invariant-loop labels word i₀ i = (i ≤ 1024) × (bad_letter labels word ≡ bad_left labels word i)
 
 abbrev decreases-loop : tie.decreases-loop
 decreases-loop labels word i₀ i = length word - i
 
 loop-holds : tie.Need-loop-init invariant-loop decreases-loop
-loop-holds c = (omega arith, bad-start _ _)
+loop-holds c = (omega arith, bad_start _ _)
 
 returns : tie.Need-returns invariant-loop decreases-loop
 returns c =
     let loop = c.before.before.loop in
-    sym (loop.invariant.1 ∙ bad-full _ _ loop.i c.if1.true c.before.loop-test.true)
+    sym (loop.invariant.1 ∙ bad_full _ _ loop.i c.if1.true c.before.loop-test.true)
 
 shared-slice-read-wide : tie.Need-shared-slice-read-wide invariant-loop decreases-loop
 shared-slice-read-wide c = omega (arith, c.before.before.loop-test.true)
@@ -34,14 +34,14 @@ module _ (c : tie.After-is-bad invariant-loop decreases-loop) where
   few : at-loop.loop.i < 1024
   few = omega (arith, c.before.before.before.if1.false, at-loop.loop.inv.0)
 
-  told : isBad at-loop.before.before.args.labels (get_or at-loop.before.before.args.word.now at-loop.loop.i 0) ≡ c.is-bad.result
-  told = ap (isBad at-loop.before.before.args.labels) (sym c.before.wide.ensures) ∙ sym c.is-bad.ensures
+  told : is_bad at-loop.before.before.args.labels (get_or at-loop.before.before.args.word.now at-loop.loop.i 0) ≡ c.is-bad.result
+  told = ap (is_bad at-loop.before.before.args.labels) (sym c.before.wide.ensures) ∙ sym c.is-bad.ensures
 
 returns-2 : tie.Need-returns-2 invariant-loop decreases-loop
 returns-2 c =
     let e = c.before in
     let loop = (at-loop e).loop in
-    sym (loop.inv.1 ∙ bad-here _ _ loop.i (few e) e.before.before.before.before.loop-test.true (told e ∙ c.if2.true))
+    sym (loop.inv.1 ∙ bad_here _ _ loop.i (few e) e.before.before.before.before.loop-test.true (told e ∙ c.if2.true))
 
 add-i : tie.Need-overflow-add-i invariant-loop decreases-loop
 add-i c = omega (arith, few c.before)
@@ -53,10 +53,10 @@ loop-again : tie.Need-loop-preserved invariant-loop decreases-loop
 loop-again c =
     let e = c.before in
     let loop = (at-loop e).loop in
-    (omega (arith, few e), loop.inv.1 ∙ bad-later _ _ loop.i (few e) e.before.before.before.before.loop-test.true (told e ∙ c.if2.false))
+    (omega (arith, few e), loop.inv.1 ∙ bad_later _ _ loop.i (few e) e.before.before.before.before.loop-test.true (told e ∙ c.if2.false))
 
 returns-3 : tie.Need-returns-3 invariant-loop decreases-loop
-returns-3 c = sym (c.before.loop.invariant.1 ∙ bad-over _ _ c.before.loop.i c.loop-test.false)
+returns-3 c = sym (c.before.loop.invariant.1 ∙ bad_over _ _ c.before.loop.i c.loop-test.false)
 
 pub bad-letter-spec : {M : Type 1} → statement M
 bad-letter-spec =

@@ -2,20 +2,20 @@
 use mathlib.Core.Path.{◌≡◌, sym, ◌∙◌}
 use Prim.Native.Nat.{◌≤◌, ◌-◌}
 use native.Mathlib.Omega.{arith}
-use Rattle.automaton.specs.inner.Sizes.{placeCount}
-use Rattle.frontier.specs.inner.Reached.{finalPlace, someFinal}
-use Rattle.frontier.proofs.Laws.Left.{anyLeft, any-start, any_found, any-later, any-over}
+use Rattle.automaton.specs.inner.Sizes.{place_count}
+use Rattle.frontier.specs.inner.Reached.{final_place, some_final}
+use Rattle.frontier.proofs.Laws.Left.{any_left, any-start, any_found, any-later, any_over}
 use Rattle.words.proofs.some_final.Statement.{statement}
 use Rattle.words.proofs.some_final.Tie as tie
 
 abbrev invariant-loop : tie.invariant-loop
-invariant-loop finals places k₀ k = (k ≤ placeCount) × (someFinal finals places ≡ anyLeft (finalPlace finals places) placeCount k)
+invariant-loop finals places k₀ k = (k ≤ place_count) × (some_final finals places ≡ any_left (final_place finals places) place_count k)
 
 abbrev decreases-loop : tie.decreases-loop
-decreases-loop finals places k₀ k = placeCount - k
+decreases-loop finals places k₀ k = place_count - k
 
 loop-holds : tie.Need-loop-init invariant-loop decreases-loop
-loop-holds c = (omega arith, any-start (finalPlace c.args.finals.now c.args.places) placeCount)
+loop-holds c = (omega arith, any-start (final_place c.args.finals.now c.args.places) place_count)
 
 is-final-requires : tie.Need-is-final-requires invariant-loop decreases-loop
 is-final-requires c κs = omega (arith, c.loop-test.true)
@@ -24,7 +24,7 @@ returns : tie.Need-returns invariant-loop decreases-loop
 returns c =
     let tested = c.before.before in
     let loop = tested.before.loop in
-    sym (loop.invariant.1 ∙ any_found _ placeCount loop.k tested.loop-test.true (sym c.before.is-final.ensures ∙ c.if1.true))
+    sym (loop.invariant.1 ∙ any_found _ place_count loop.k tested.loop-test.true (sym c.before.is-final.ensures ∙ c.if1.true))
 
 add-k : tie.Need-overflow-add-k invariant-loop decreases-loop
 add-k c = omega (arith, c.before.before.loop-test.true)
@@ -36,11 +36,11 @@ loop-again : tie.Need-loop-preserved invariant-loop decreases-loop
 loop-again c =
     let tested = c.before.before in
     let loop = tested.before.loop in
-    let later = any-later _ placeCount loop.k tested.loop-test.true (sym c.before.is-final.ensures ∙ c.if1.false) in
+    let later = any-later _ place_count loop.k tested.loop-test.true (sym c.before.is-final.ensures ∙ c.if1.false) in
     (omega (arith, tested.loop-test.true), loop.invariant.1 ∙ later)
 
 returns-2 : tie.Need-returns-2 invariant-loop decreases-loop
-returns-2 c = sym (c.before.loop.invariant.1 ∙ any-over _ placeCount c.before.loop.k c.loop-test.false)
+returns-2 c = sym (c.before.loop.invariant.1 ∙ any_over _ place_count c.before.loop.k c.loop-test.false)
 
 pub some-final-spec : {M : Type 1} → statement M
 some-final-spec =

@@ -7,20 +7,20 @@ use Prim.Native.Nat.{ℕ, ◌≤◌, ◌<◌}
 use native.Mathlib.Nat.{zero-add}
 use lib.ListN.{length}
 use borrow.Author.Tests.{le-leb, lt-leb}
-use Rattle.lts.specs.Sizes.{tableLength, longestTableText}
-use Rattle.lts.specs.Reply.{accepted, refusal, leftIn, answers}
-use Rattle.lts.specs.TableText.{tableText}
-use Rattle.lts.specs.Prepared.{withTable}
+use Rattle.lts.specs.Sizes.{table_length, longest_table_text}
+use Rattle.lts.specs.Reply.{accepted, refusal, left_in, answers}
+use Rattle.lts.specs.TableText.{table_text}
+use Rattle.lts.specs.Prepared.{with_table}
 use Rattle.lts.specs.inner.Answers.{is_some}
-use Rattle.lts.specs.inner.Prepared.{tableIn, preparedTable}
+use Rattle.lts.specs.inner.Prepared.{table_in, prepared_table}
 use Rattle.lts.proofs.Laws.Pasted.{pasted-start}
-use Rattle.lts.proofs.Laws.Prepared.{prepared-in}
-use Rattle.write_table.specs.TableWriting.{tableWriting, tableWritten, tableTextLeft, ReadsBack}
-use Rattle.write_table.specs.Replies.{textReply}
+use Rattle.lts.proofs.Laws.Prepared.{prepared_in}
+use Rattle.write_table.specs.TableWriting.{table_writing, table_written, table_text_left, ReadsBack}
+use Rattle.write_table.specs.Replies.{text_reply}
 use Rattle.write_table.specs.declared.TextReply.{TextReply}
 use Rattle.write_table.specs.declared.TextReply.TheVariants.{Written, TableForeign, BufferShort}
 use Rattle.written_lines.specs.inner.Lines.{Stands}
-use Rattle.write_table.proofs.ReadBack.{reads-back}
+use Rattle.write_table.proofs.ReadBack.{reads_back}
 
 none_of : {A : Type 0} (o : Option A) → is_some o ≡ false → o ≡ none
 none_of none e = refl
@@ -28,43 +28,43 @@ none_of (some a) e = absurd (true≢false e)
 
 module _ (table text : List ℕ) where
   abbrev Promised : List ℕ → TextReply → Type 0
-  Promised text' r = (textReply r ≡ tableWritten table text) × ((text' ≡ tableTextLeft table text) × ReadsBack table (textReply r) text')
+  Promised text' r = (text_reply r ≡ table_written table text) × ((text' ≡ table_text_left table text) × ReadsBack table (text_reply r) text')
 
-  promised : (text' : List ℕ) (r : TextReply) → textReply r ≡ tableWritten table text → text' ≡ tableTextLeft table text → Promised text' r
+  promised : (text' : List ℕ) (r : TextReply) → text_reply r ≡ table_written table text → text' ≡ table_text_left table text → Promised text' r
   promised text' r d e = (
     d,
     (
       e,
-      subst (λ q. ReadsBack table q text') (sym d) (subst (λ l. ReadsBack table (tableWritten table text) l) (sym e) (reads-back table text)),
+      subst (λ q. ReadsBack table q text') (sym d) (subst (λ l. ReadsBack table (table_written table text) l) (sym e) (reads_back table text)),
     ),
   )
 
-  refused : (r : TextReply) (number figure : ℕ) → textReply r ≡ refusal number figure → tableWriting table text ≡ refusal number figure → Promised text r
-  refused r number figure d e = promised text r (d ∙ sym (ap (answers length) e)) (sym (ap (λ q. leftIn (λ s. s) q text) e))
+  refused : (r : TextReply) (number figure : ℕ) → text_reply r ≡ refusal number figure → table_writing table text ≡ refusal number figure → Promised text r
+  refused r number figure d e = promised text r (d ∙ sym (ap (answers length) e)) (sym (ap (λ q. left_in (λ s. s) q text) e))
 
-  pub short-table : length table < tableLength → Promised text (BufferShort tableLength)
-  unfolding tableWriting
-  short-table h = refused (BufferShort tableLength) 14 tableLength refl (rw (lt-leb tableLength (length table) h))
+  pub short-table : length table < table_length → Promised text (BufferShort table_length)
+  unfolding table_writing
+  short-table h = refused (BufferShort table_length) 14 table_length refl (rw (lt-leb table_length (length table) h))
 
-  module _ (long : tableLength ≤ length table) where
-    pub short-text : length text < longestTableText → Promised text (BufferShort longestTableText)
-    unfolding tableWriting
+  module _ (long : table_length ≤ length table) where
+    pub short-text : length text < longest_table_text → Promised text (BufferShort longest_table_text)
+    unfolding table_writing
     short-text h =
-        refused (BufferShort longestTableText) 14 longestTableText refl
-        (rw (le-leb tableLength (length table) long, lt-leb longestTableText (length text) h))
+        refused (BufferShort longest_table_text) 14 longest_table_text refl
+        (rw (le-leb table_length (length table) long, lt-leb longest_table_text (length text) h))
 
-    module _ (room : longestTableText ≤ length text) where
-      behind : tableWriting table text ≡ withTable (preparedTable table) (λ t. accepted (tableText t))
-      unfolding tableWriting
-      behind = rw (le-leb tableLength (length table) long, le-leb longestTableText (length text) room)
+    module _ (room : longest_table_text ≤ length text) where
+      behind : table_writing table text ≡ with_table (prepared_table table) (λ t. accepted (table_text t))
+      unfolding table_writing
+      behind = rw (le-leb table_length (length table) long, le-leb longest_table_text (length text) room)
 
-      pub foreign : is_some (preparedTable table) ≡ false → Promised text TableForeign
+      pub foreign : is_some (prepared_table table) ≡ false → Promised text TableForeign
       foreign e =
           refused TableForeign 10 0 refl
-          (behind ∙ ap (λ o. withTable o (λ t. accepted (tableText t))) (none_of (preparedTable table) e))
+          (behind ∙ ap (λ o. with_table o (λ t. accepted (table_text t))) (none_of (prepared_table table) e))
 
-      pub written : is_some (preparedTable table) ≡ true → (text' : List ℕ) (n : ℕ) → Stands (tableText (tableIn table)) 0 text text' n → Promised text' (Written n)
+      pub written : is_some (prepared_table table) ≡ true → (text' : List ℕ) (n : ℕ) → Stands (table_text (table_in table)) 0 text text' n → Promised text' (Written n)
       written e text' n s =
-          let is = sym (behind ∙ ap (λ o. withTable o (λ t. accepted (tableText t))) (prepared-in table e)) in
+          let is = sym (behind ∙ ap (λ o. with_table o (λ t. accepted (table_text t))) (prepared_in table e)) in
           promised text' (Written n) (ap accepted (s.ends ∙ zero-add _) ∙ ap (answers length) is)
-          (s.is ∙ pasted-start text (tableText (tableIn table)) ∙ ap (λ q. leftIn (λ l. l) q text) is)
+          (s.is ∙ pasted-start text (table_text (table_in table)) ∙ ap (λ q. left_in (λ l. l) q text) is)

@@ -5,7 +5,7 @@ use mathlib.Core.Bool.{true}
 use borrow.Author.Tests.{not-true, not-false}
 use native.Mathlib.Omega.{arith}
 use Rattle.lts.specs.inner.Answers.{is_some}
-use Rattle.lts.specs.inner.Prepared.{preparedTable}
+use Rattle.lts.specs.inner.Prepared.{prepared_table}
 use Rattle.lts.proofs.Laws.Prepared.{found-holds}
 use Rattle.write_table.proofs.Laws.Entry.{short-table, short-text, foreign, written}
 use Rattle.write_table.proofs.table_text.Statement.{statement}
@@ -36,7 +36,7 @@ returns-3 c =
     (sym asked.is-prepared.ensures ∙ not-true asked.is-prepared.result c.if3.true)
 
 -- Behind all tests.
-prepared : (c : tie.Else3) → is_some (preparedTable (start c.before).args.table.now) ≡ true
+prepared : (c : tie.Else3) → is_some (prepared_table (start c.before).args.table.now) ≡ true
 prepared c = let asked = c.before.is-prepared in sym asked.ensures ∙ not-false asked.result c.if3.false
 
 write-lines-requires : tie.Need-write-lines-requires

@@ -7,16 +7,16 @@ use native.Mathlib.Omega.{arith}
 use lib.ListN.{length, get_or, take}
 use lib.Seq.{take_all}
 use Rattle.columns.specs.inner.Write.{pasted}
-use Rattle.columns.proofs.Laws.Pasting.{Pasting, pasting-none, pasting-more}
+use Rattle.columns.proofs.Laws.Pasting.{Pasting, pasting_none, pasting_more}
 use Rattle.lts.specs.Steps.{labels}
-use Rattle.lts.specs.Sizes.{longestTableText}
-use Rattle.lts.specs.Text.{ended, labelLine, transitionLine}
-use Rattle.lts.specs.TableText.{labelLines, transitionLines, tableText}
-use Rattle.lts.specs.inner.Prepared.{tableIn, name_at, transitionAt}
+use Rattle.lts.specs.Sizes.{longest_table_text}
+use Rattle.lts.specs.Text.{ended, label_line, transition_line}
+use Rattle.lts.specs.TableText.{label_lines, transition_lines, table_text}
+use Rattle.lts.specs.inner.Prepared.{table_in, name_at, transition_at}
 use Rattle.lts.specs.inner.HoldsTable.{HoldsTable}
-use Rattle.lts.proofs.Lists.{getD-mem}
-use Rattle.lts.proofs.Laws.Contents.{name_in, transition-in}
-use Rattle.written_lines.specs.inner.Lines.{Stands, firstLineOf, labelWidth}
+use Rattle.lts.proofs.Lists.{get_d_mem}
+use Rattle.lts.proofs.Laws.Contents.{name_in_lem, transition_in}
+use Rattle.written_lines.specs.inner.Lines.{Stands, first_line_of, label_width}
 use Rattle.written_lines.proofs.Laws.Lengths.{step-wide, steps-length, first-length}
 use Rattle.written_lines.proofs.Laws.Lines.{labels-more, steps-more}
 
@@ -24,60 +24,60 @@ use Rattle.written_lines.proofs.Laws.Lines.{labels-more, steps-more}
 module _ (b e : List ℕ) (at : ℕ) where
   -- The lines of the first k labels; of the first k transitions.
   abbrev pub LabelsBelow : ℕ → List ℕ → ℕ → Type 0
-  LabelsBelow k x end = Pasting e at (labelLines 1 (take k (tableIn b).names)) x end
+  LabelsBelow k x end = Pasting e at (label_lines 1 (take k (table_in b).names)) x end
 
   abbrev pub StepsBelow : ℕ → List ℕ → ℕ → Type 0
-  StepsBelow k x end = Pasting e at (transitionLines (take k (tableIn b).transitions)) x end
+  StepsBelow k x end = Pasting e at (transition_lines (take k (table_in b).transitions)) x end
 
   module _ (k : ℕ) (x : List ℕ) (end : ℕ) where
-    pub label-on : LabelsBelow k x end → k < labels (tableIn b) → (y : List ℕ) (next : ℕ) → Stands (ended (labelLine (suc k) (name_at b k))) end x y next
+    pub label-on : LabelsBelow k x end → k < labels (table_in b) → (y : List ℕ) (next : ℕ) → Stands (ended (label_line (suc k) (name_at b k))) end x y next
         → next ≤ length e → LabelsBelow (k + 1) y next
     label-on p few y next s room =
         let number : suc k ≡ 1 + k = omega arith in
-        let line = ended (labelLine (suc k) (name_at b k)) in
+        let line = ended (label_line (suc k) (name_at b k)) in
         subst (λ l. Pasting e at l y next)
-        (ap (λ m. labelLines 1 (take k (tableIn b).names) ++ ended (labelLine m (name_at b k))) number
-        ∙ labels-more 1 (tableIn b).names k (name_at b k) few (name_in b k [] few)
-        ∙ ap (λ m. labelLines 1 (take m (tableIn b).names)) (sym (add-one k)))
-        (pasting-more p line y next s.is s.ends room)
+        (ap (λ m. label_lines 1 (take k (table_in b).names) ++ ended (label_line m (name_at b k))) number
+        ∙ labels-more 1 (table_in b).names k (name_at b k) few (name_in_lem b k [] few)
+        ∙ ap (λ m. label_lines 1 (take m (table_in b).names)) (sym (add-one k)))
+        (pasting_more p line y next s.is s.ends room)
 
-    pub labels-all : LabelsBelow k x end → k ≡ labels (tableIn b) → Stands (labelLines 1 (tableIn b).names) at e x end
+    pub labels-all : LabelsBelow k x end → k ≡ labels (table_in b) → Stands (label_lines 1 (table_in b).names) at e x end
     labels-all p all =
-        let whole = ap (labelLines 1) (take_all k (tableIn b).names (omega arith)) in
+        let whole = ap (label_lines 1) (take_all k (table_in b).names (omega arith)) in
         record { is = p.is ∙ ap (pasted e at) whole; ends = p.ends ∙ ap (λ l. at + length l) whole }
 
     module _ (h : HoldsTable b) where
-      slot-wide : k < length (tableIn b).transitions → length (ended (transitionLine (transitionAt b k))) ≡ 19
+      slot-wide : k < length (table_in b).transitions → length (ended (transition_line (transition_at b k))) ≡ 19
       slot-wide few =
-          let st = get_or (tableIn b).transitions k (transitionAt b k) in
-          ap (λ s. length (ended (transitionLine s))) (sym (transition-in b k (transitionAt b k) few))
-          ∙ step-wide (tableIn b) h.in-range st (getD-mem (tableIn b).transitions k (transitionAt b k) few)
+          let st = get_or (table_in b).transitions k (transition_at b k) in
+          ap (λ s. length (ended (transition_line s))) (sym (transition_in b k (transition_at b k) few))
+          ∙ step-wide (table_in b) h.in_range st (get_d_mem (table_in b).transitions k (transition_at b k) few)
 
-      pub step-on : StepsBelow k x end → k < length (tableIn b).transitions → (y : List ℕ) → y ≡ pasted x end (ended (transitionLine (transitionAt b k)))
+      pub step-on : StepsBelow k x end → k < length (table_in b).transitions → (y : List ℕ) → y ≡ pasted x end (ended (transition_line (transition_at b k)))
           → end + 19 ≤ length e → StepsBelow (k + 1) y (end + 19)
       step-on p few y is room =
-          let line = ended (transitionLine (transitionAt b k)) in
+          let line = ended (transition_line (transition_at b k)) in
           subst (λ l. Pasting e at l y (end + 19))
-          (steps-more (tableIn b).transitions k (transitionAt b k) (transitionAt b k) few (transition-in b k (transitionAt b k) few)
-          ∙ ap (λ m. transitionLines (take m (tableIn b).transitions)) (sym (add-one k)))
-          (pasting-more p line y (end + 19) is (omega (arith, slot-wide few)) room)
+          (steps-more (table_in b).transitions k (transition_at b k) (transition_at b k) few (transition_in b k (transition_at b k) few)
+          ∙ ap (λ m. transition_lines (take m (table_in b).transitions)) (sym (add-one k)))
+          (pasting_more p line y (end + 19) is (omega (arith, slot-wide few)) room)
 
-    pub steps_all : StepsBelow k x end → k ≡ length (tableIn b).transitions → Stands (transitionLines (tableIn b).transitions) at e x end
+    pub steps_all : StepsBelow k x end → k ≡ length (table_in b).transitions → Stands (transition_lines (table_in b).transitions) at e x end
     steps_all p all =
-        let whole = ap transitionLines (take_all k (tableIn b).transitions (omega arith)) in
+        let whole = ap transition_lines (take_all k (table_in b).transitions (omega arith)) in
         record { is = p.is ∙ ap (pasted e at) whole; ends = p.ends ∙ ap (λ l. at + length l) whole }
 
 -- Line 1, the labels' lines and the transitions', one behind the other.
-pub text-stands : (b e : List ℕ) → HoldsTable b → longestTableText ≤ length e → (x y z : List ℕ) (end last : ℕ) → x ≡ pasted e 0 (firstLineOf (tableIn b))
-    → Stands (labelLines 1 (tableIn b).names) 25 x y end → end ≤ 25 + labels (tableIn b) * labelWidth → Stands (transitionLines (tableIn b).transitions) end y z last
-    → Stands (tableText (tableIn b)) 0 e z last
-unfolding tableText
+pub text-stands : (b e : List ℕ) → HoldsTable b → longest_table_text ≤ length e → (x y z : List ℕ) (end last : ℕ) → x ≡ pasted e 0 (first_line_of (table_in b))
+    → Stands (label_lines 1 (table_in b).names) 25 x y end → end ≤ 25 + labels (table_in b) * label_width → Stands (transition_lines (table_in b).transitions) end y z last
+    → Stands (table_text (table_in b)) 0 e z last
+unfolding table_text
 text-stands b e h room x y z end last px s short u =
-    let t = tableIn b in
-    let r = h.in-range in
-    let first = pasting-more (pasting-none e 0 (omega arith)) (firstLineOf t) x 25 px (omega (arith, first-length t r)) (omega arith) in
-    let second = pasting-more first (labelLines 1 t.names) y end s.is s.ends (omega (arith, short, r.few-labels)) in
-    let third = pasting-more second (transitionLines t.transitions) z last u.is u.ends
-    (omega (arith, u.ends, steps-length t r, short, r.few-labels, r.few-transitions)) in
-    let whole = append_assoc (firstLineOf t) (labelLines 1 t.names) (transitionLines t.transitions) in
+    let t = table_in b in
+    let r = h.in_range in
+    let first = pasting_more (pasting_none e 0 (omega arith)) (first_line_of t) x 25 px (omega (arith, first-length t r)) (omega arith) in
+    let second = pasting_more first (label_lines 1 t.names) y end s.is s.ends (omega (arith, short, r.few_labels)) in
+    let third = pasting_more second (transition_lines t.transitions) z last u.is u.ends
+    (omega (arith, u.ends, steps-length t r, short, r.few_labels, r.few_transitions)) in
+    let whole = append_assoc (first_line_of t) (label_lines 1 t.names) (transition_lines t.transitions) in
     record { is = third.is ∙ ap (pasted e 0) whole; ends = third.ends ∙ ap (λ l. 0 + length l) whole }

@@ -4,7 +4,7 @@ use mathlib.Core.Path.{◌∙◌}
 use native.Mathlib.Omega.{arith}
 use lib.ListN.{length-set}
 use Rattle.columns.specs.inner.Write.{pasted}
-use Rattle.lts.specs.Text.{ended, headerLine}
+use Rattle.lts.specs.Text.{ended, header_line}
 use Rattle.written_lines.proofs.Laws.Lines.{header-stands}
 use Rattle.written_lines.proofs.write_header.Statement.{statement}
 use Rattle.written_lines.proofs.write_header.Tie as tie
@@ -54,7 +54,7 @@ returns c =
     (first-state c).start-state.result (omega (arith, s.fits)) (omega (arith, l.fits)) (omega (arith, t.fits)) (omega (arith, i.fits))
     (first c).write-small.new.1.0 (second c).write-small2.new.1.0 (third c).write-small3.new.1.0 (fourth c).write-small4.new.1.0
     (first c).write-small.ensures (second c).write-small2.ensures (third c).write-small3.ensures (fourth c).write-small4.ensures
-    ∙ (λ j. pasted e 0 (ended (headerLine (s.count j) (l.count j) (t.count j) (i.count j))))
+    ∙ (λ j. pasted e 0 (ended (header_line (s.count j) (l.count j) (t.count j) (i.count j))))
 
 pub write-header-spec : {M : Type 1} → statement M
 write-header-spec =

@@ -48,7 +48,7 @@ returns c =
     let first = number named in
     let held = (start first).pre in
     let a = (start first).args in (
-      label-stands a.text.now a.at a.k (omega (arith, held.1.0, held.0.in-range.few-labels)) (name_at a.table.now a.k)
+      label-stands a.text.now a.at a.k (omega (arith, held.1.0, held.0.in_range.few_labels)) (name_at a.table.now a.k)
           (omega (arith, slot-short held.0 held.1.0, held.1.1)) first.write-small.last.1.0 named.write-name.new.1.1.0
           named.write-name.result first.write-small.ensures named.write-name.ensures.0,
       omega (arith, named.write-name.ensures.1),

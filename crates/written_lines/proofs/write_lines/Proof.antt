@@ -21,7 +21,7 @@ write-labels-requires : tie.Need-write-labels-requires
 write-labels-requires c κs =
     let first = c.before.before.before in
     let held = (start first).requires in
-    (held.0, omega (arith, header-kept first, held.0.in-range.few-labels, held.1))
+    (held.0, omega (arith, header-kept first, held.0.in_range.few_labels, held.1))
 
 -- Behind the labels.
 module _ (c : tie.After-write-labels) where
@@ -35,8 +35,8 @@ step-lines-requires : tie.Need-step-lines-requires
 step-lines-requires c κs =
     let second = c.before.before.before in
     let held = (start (first second)).pre in
-    let r = held.0.in-range in
-    (held.0, omega (arith, labels-kept second, second.write-labels.ensures.1, r.few-labels, r.few-transitions, held.1))
+    let r = held.0.in_range in
+    (held.0, omega (arith, labels-kept second, second.write-labels.ensures.1, r.few_labels, r.few_transitions, held.1))
 
 same_length : tie.Need-same-length
 same_length c = let third = c.before.before in third.step_Lines.auto.1.0 ∙ labels-kept third.before.before.before.before

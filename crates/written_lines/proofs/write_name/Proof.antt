@@ -5,7 +5,7 @@ use Prim.Native.Nat.{◌+◌, ◌-◌, ◌≤◌}
 use native.Mathlib.Omega.{arith}
 use lib.ListN.{length}
 use Rattle.columns.specs.inner.Write.{pasted}
-use Rattle.lts.specs.inner.Sizes.{longestName}
+use Rattle.lts.specs.inner.Sizes.{longest_name}
 use Rattle.lts.specs.inner.Prepared.{name_at}
 use Rattle.written_lines.proofs.Laws.Names.{slot-short, slot-wide}
 use Rattle.written_lines.proofs.write_name.Statement.{statement}
@@ -16,7 +16,7 @@ module _ (c : tie.After-name-span) where
   abbrev start : tie.Start
   start = c.before.before.before
 
-  short : length (name_at start.args.table.now start.args.k) ≤ longestName
+  short : length (name_at start.args.table.now start.args.k) ≤ longest_name
   short = slot-short start.pre.0 start.pre.1.0
 
 write-at-requires : tie.Need-write-at-requires

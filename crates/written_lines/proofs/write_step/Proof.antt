@@ -5,8 +5,8 @@ use Prim.Native.Nat.{◌+◌}
 use native.Mathlib.Omega.{arith}
 use lib.ListN.{length, length-set}
 use Rattle.columns.specs.inner.Write.{pasted}
-use Rattle.lts.specs.Text.{ended, transitionLine}
-use Rattle.tables.specs.inner.Access.{stepIn}
+use Rattle.lts.specs.Text.{ended, transition_line}
+use Rattle.tables.specs.inner.Access.{step_in}
 use Rattle.written_lines.proofs.Laws.Kept.{from-kept, label_kept, to-kept}
 use Rattle.written_lines.proofs.Laws.Lines.{step-stands}
 use Rattle.written_lines.proofs.write_step.Statement.{statement}
@@ -15,7 +15,7 @@ use Rattle.written_lines.proofs.write_step.Tie as tie
 transition-at-requires : tie.Need-transition-at-requires
 transition-at-requires c κs =
     let held = c.before.before.before.requires.0 in
-    (held.0.long, omega (arith, held.1, held.0.in-range.few-transitions))
+    (held.0.long, omega (arith, held.1, held.0.in_range.few_transitions))
 
 -- The transition in the slot.
 module _ (c : tie.After-transition-at) where
@@ -26,7 +26,7 @@ copy-column-requires : tie.Need-copy-column-requires
 copy-column-requires c κs =
     let slot = c.before in
     let pre = (start slot).requires in
-    (from-kept pre.0.0 pre.0.1 pre.1.0 (stepIn slot.transition-at.result) slot.transition-at.ensures.step, omega (arith, pre.1.1))
+    (from-kept pre.0.0 pre.0.1 pre.1.0 (step_in slot.transition-at.result) slot.transition-at.ensures.step, omega (arith, pre.1.1))
 
 -- Behind the first column.
 module _ (c : tie.After-copy-column) where
@@ -43,7 +43,7 @@ copy-column-requires-2 : tie.Need-copy-column-requires-2
 copy-column-requires-2 c κs =
     let first = c.before.before.before in
     let pre = (begun first).requires in (
-      label_kept pre.0.0 pre.0.1 pre.1.0 (stepIn (slot first).transition-at.result) (slot first).transition-at.ensures.step,
+      label_kept pre.0.0 pre.0.1 pre.1.0 (step_in (slot first).transition-at.result) (slot first).transition-at.ensures.step,
       omega (arith, first-kept first, pre.1.1),
     )
 
@@ -59,7 +59,7 @@ copy-column-requires-3 : tie.Need-copy-column-requires-3
 copy-column-requires-3 c κs =
     let second = c.before.before.before in
     let pre = (begun (first second)).pre in (
-      to-kept pre.0.0 pre.0.1 pre.1.0 (stepIn (slot (first second)).transition-at.result) (slot (first second)).transition-at.ensures.step,
+      to-kept pre.0.0 pre.0.1 pre.1.0 (step_in (slot (first second)).transition-at.result) (slot (first second)).transition-at.ensures.step,
       omega (arith, second-kept second, pre.1.1),
     )
 
@@ -86,11 +86,11 @@ returns c =
     let one = first two in
     let a = (begun one).args in
     let st = (slot one).transition-at.ensures in
-    step-stands a.text.now a.at (begun one).pre.1.1 (stepIn (slot one).transition-at.result)
-    (omega (arith, st.from_byte)) (omega (arith, st.label-byte)) (omega (arith, st.to-byte))
+    step-stands a.text.now a.at (begun one).pre.1.1 (step_in (slot one).transition-at.result)
+    (omega (arith, st.from_byte)) (omega (arith, st.label_byte)) (omega (arith, st.to_byte))
     one.copy-column.last.1.1.0 two.copy-column2.last.1.1.0 third.copy-column3.new.1.1.0
     one.copy-column.ensures two.copy-column2.ensures third.copy-column3.ensures
-    ∙ ap (λ s. pasted a.text.now a.at (ended (transitionLine s))) st.step
+    ∙ ap (λ s. pasted a.text.now a.at (ended (transition_line s))) st.step
 
 pub write-step-spec : {M : Type 1} → statement M
 write-step-spec =

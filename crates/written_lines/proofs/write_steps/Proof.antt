@@ -4,21 +4,21 @@ use mathlib.Core.Path.{◌≡◌}
 use Prim.Native.Nat.{◌+◌, ◌*◌, ◌-◌, ◌≤◌, ◌<◌}
 use native.Mathlib.Omega.{arith}
 use lib.ListN.{length}
-use Rattle.columns.proofs.Laws.Pasting.{pasting-none, pasting-length}
-use Rattle.lts.specs.inner.Prepared.{tableIn}
-use Rattle.written_lines.specs.inner.Lines.{stepWidth}
+use Rattle.columns.proofs.Laws.Pasting.{pasting_none, pasting_length}
+use Rattle.lts.specs.inner.Prepared.{table_in}
+use Rattle.written_lines.specs.inner.Lines.{step_width}
 use Rattle.written_lines.proofs.Laws.Growing.{StepsBelow, step-on, steps_all}
 use Rattle.written_lines.proofs.write_steps.Statement.{statement}
 use Rattle.written_lines.proofs.write_steps.Tie as tie
 
 abbrev invariant-loop : tie.invariant-loop
-invariant-loop table kept text₀ at count end₀ k₀ text end k = StepsBelow table text₀ at k text end × (k ≤ count) × (end ≡ at + k * stepWidth)
+invariant-loop table kept text₀ at count end₀ k₀ text end k = StepsBelow table text₀ at k text end × (k ≤ count) × (end ≡ at + k * step_width)
 
 abbrev decreases-loop : tie.decreases-loop
 decreases-loop table kept text₀ at count end₀ k₀ text end k = count - k
 
 loop-holds : tie.Need-loop-init invariant-loop decreases-loop
-loop-holds c = (pasting-none _ _ (omega (arith, c.before.before.before.before.requires.1)), omega arith, omega arith)
+loop-holds c = (pasting_none _ _ (omega (arith, c.before.before.before.before.requires.1)), omega arith, omega arith)
 
 -- At a transition's turn.
 module _ (c : tie.In-loop invariant-loop decreases-loop) where
@@ -28,17 +28,17 @@ module _ (c : tie.In-loop invariant-loop decreases-loop) where
   abbrev start : tie.Start invariant-loop decreases-loop
   start = turn.before.before.before.before.before
 
-  few : turn.loop.k < length (tableIn start.args.table.now).transitions
+  few : turn.loop.k < length (table_in start.args.table.now).transitions
   few = omega (arith, c.loop-test.true, turn.before.transition-count.ensures.count)
 
-  room : turn.loop.end + stepWidth ≤ length start.args.text.now
+  room : turn.loop.end + step_width ≤ length start.args.text.now
   room = omega (arith, few, turn.loop.inv.2, start.pre.1)
 
 write-step-requires : tie.Need-write-step-requires invariant-loop decreases-loop
 write-step-requires c κs =
     let here = c.before in
     let held = (start here).requires.0 in
-    ((held.0, few here), (held.1, omega (arith, room here, pasting-length (turn here).loop.invariant.0)))
+    ((held.0, few here), (held.1, omega (arith, room here, pasting_length (turn here).loop.invariant.0)))
 
 add-end : tie.Need-overflow-add-end invariant-loop decreases-loop
 add-end c = omega (arith, room c.before.before.before.before)
@@ -56,7 +56,7 @@ loop-again c =
     )
 
 same_length : tie.Need-same-length invariant-loop decreases-loop
-same_length c = pasting-length c.before.loop.invariant.0
+same_length c = pasting_length c.before.loop.invariant.0
 
 returns : tie.Need-returns invariant-loop decreases-loop
 returns c =

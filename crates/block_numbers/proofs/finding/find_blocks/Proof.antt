@@ -2,9 +2,9 @@
 use borrow.Author.Rules.{rules}
 use Prim.Native.Nat.{◌-◌, ◌<◌}
 use native.Mathlib.Omega.{arith}
-use Rattle.deterministic.specs.Sizes.{mostSets}
+use Rattle.deterministic.specs.Sizes.{most_sets}
 use Rattle.block_numbers.proofs.Laws.Entered.{within-few, within_none, within-added}
-use Rattle.block_numbers.proofs.Laws.Searching.{Searching, search-start, search-turn, search-rows, search-edges}
+use Rattle.block_numbers.proofs.Laws.Searching.{Searching, search-start, search_turn, search-rows, search-edges}
 use Rattle.block_numbers.proofs.finding.find_blocks.Statement.{statement}
 use Rattle.block_numbers.proofs.finding.find_blocks.Tie as tie
 
@@ -12,7 +12,7 @@ abbrev invariant-loop : tie.invariant-loop
 invariant-loop next blocks rows₀ numbers₀ n columns block count totals₀ i₀ rows numbers totals i = Searching next blocks n columns i rows numbers totals.rows totals.edges
 
 abbrev decreases-loop : tie.decreases-loop
-decreases-loop next blocks rows₀ numbers₀ n columns block count totals₀ i₀ rows numbers totals i = mostSets - i
+decreases-loop next blocks rows₀ numbers₀ n columns block count totals₀ i₀ rows numbers totals i = most_sets - i
 
 element-copy-out-wide : tie.Need-element-copy-out-wide invariant-loop decreases-loop
 element-copy-out-wide c = omega arith
@@ -36,7 +36,7 @@ find-row-requires c κs =
     let d = at-loop.before.before.before.before.before.before in
     let f = d.requires.0 in
     let s = at-loop.loop.invariant in
-    ((f.states.1, f.inside), ((f.letters.1, (c.before.before.if1.true, s.few-edges)), (s.stand, s.within)))
+    ((f.states.1, f.inside), ((f.letters.1, (c.before.before.if1.true, s.few_edges)), (s.stand, s.within)))
 
 add-i : tie.Need-overflow-add-i invariant-loop decreases-loop
 add-i c = let t = c.before.before.before in omega (arith, t.if1.true, t.before.before.loop.invariant.stand.few)
@@ -50,7 +50,7 @@ loop-again c =
     let at-loop = t.before.before in
     let d = at-loop.before.before.before.before.before.before in
     let x = c.find-row.ensures in
-    search-turn d.requires.0 at-loop.loop.invariant t.if1.true x.0.0 x.0.1 x.1.0 x.1.1
+    search_turn d.requires.0 at-loop.loop.invariant t.if1.true x.0.0 x.0.1 x.1.0 x.1.1
 
 returns : tie.Need-returns invariant-loop decreases-loop
 returns c =

@@ -4,7 +4,7 @@ use Prim.Native.Nat.{ℕ, ◌-◌, ◌<◌}
 use native.Mathlib.Omega.{arith}
 use borrow.Author.Count.{below_more}
 use lib.ListN.{length, get_or}
-use Rattle.byte_words.proofs.Laws.Ends.{byte-differs, bytes_same}
+use Rattle.byte_words.proofs.Laws.Ends.{byte_differs, bytes_same}
 use Rattle.byte_words.proofs.same.same_bytes.Statement.{statement}
 use Rattle.byte_words.proofs.same.same_bytes.Tie as tie
 
@@ -27,7 +27,7 @@ returns : tie.Need-returns invariant-loop decreases-loop
 returns c =
     let turn = c.before.before.before.before in
     let start = turn.before in
-    byte-differs start.args.a.now start.args.b.now turn.loop.i c.if1.true
+    byte_differs start.args.a.now start.args.b.now turn.loop.i c.if1.true
 
 add-i : tie.Need-overflow-add-i invariant-loop decreases-loop
 add-i c = omega arith

@@ -4,7 +4,7 @@ use Prim.Native.Nat.{ℕ, ◌<◌}
 use native.Mathlib.Omega.{arith}
 use borrow.Author.Rules.{rules}
 use lib.ListN.{get_or}
-use Rattle.byte_words.proofs.Laws.Ends.{last-differs, first-decides}
+use Rattle.byte_words.proofs.Laws.Ends.{last_differs, first_decides}
 use Rattle.byte_words.proofs.same.same_ends.Statement.{statement}
 use Rattle.byte_words.proofs.same.same_ends.Tie as tie
 
@@ -29,14 +29,14 @@ returns : tie.Need-returns
 returns c =
     let read = c.before in
     let start = entry read in
-    last-differs (a read) (b read) start.pre.0 (small-a read) (small_b read) 8 start.pre.1.0 start.pre.1.1
+    last_differs (a read) (b read) start.pre.0 (small-a read) (small_b read) 8 start.pre.1.0 start.pre.1.1
     read.before.word.result read.word2.result read.before.word.ensures read.word2.ensures c.if1.true
 
 returns-2 : tie.Need-returns-2
 returns-2 c =
     let read = c.before.before.before in
     let start = entry read in
-    first-decides (a read) (b read) start.pre.0 (small-a read) (small_b read) 8 start.pre.1.0 start.pre.1.1
+    first_decides (a read) (b read) start.pre.0 (small-a read) (small_b read) 8 start.pre.1.0 start.pre.1.1
     read.before.word.result read.word2.result read.before.word.ensures read.word2.ensures c.before.before.if1.false
     c.before.word3.result c.word4.result c.before.word3.ensures c.word4.ensures
 

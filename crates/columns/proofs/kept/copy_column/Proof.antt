@@ -5,8 +5,8 @@ use Prim.Native.Nat.{◌*◌}
 use native.Mathlib.Omega.{arith}
 use lib.ListN.{length-set}
 use Rattle.columns.specs.inner.Write.{pasted}
-use Rattle.columns.proofs.Laws.Kept.{six-bytes}
-use Rattle.columns.proofs.Laws.Small.{six-set}
+use Rattle.columns.proofs.Laws.Kept.{six_bytes}
+use Rattle.columns.proofs.Laws.Small.{six_set}
 use Rattle.columns.proofs.kept.copy_column.Statement.{statement}
 use Rattle.columns.proofs.kept.copy_column.Tie as tie
 
@@ -33,8 +33,8 @@ returns c =
     let start = c.before.before.before.before.before.before in
     let a = start.args in
     let column-kept = start.requires.0 in
-    six-set a.out.now a.at start.requires.1 _ _ _ _ _ _
-    ∙ ap (pasted a.out.now a.at) (sym (six-bytes a.kept.now (a.n * 6) column-kept.there) ∙ column-kept.is)
+    six_set a.out.now a.at start.requires.1 _ _ _ _ _ _
+    ∙ ap (pasted a.out.now a.at) (sym (six_bytes a.kept.now (a.n * 6) column-kept.there) ∙ column-kept.is)
 
 pub copy-column-spec : {M : Type 1} → statement M
 copy-column-spec =

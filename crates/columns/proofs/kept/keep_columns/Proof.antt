@@ -3,7 +3,7 @@ use Prim.Native.Nat.{◌*◌, ◌+◌, ◌-◌, ◌≤◌}
 use native.Mathlib.Omega.{arith}
 use lib.ListN.{length}
 use Rattle.columns.proofs.Laws.Kept.{KeptBelow, kept_more, kept-all}
-use Rattle.columns.proofs.Laws.Pasting.{pasting-none, pasting-length}
+use Rattle.columns.proofs.Laws.Pasting.{pasting_none, pasting_length}
 use Rattle.columns.proofs.kept.keep_columns.Statement.{statement}
 use Rattle.columns.proofs.kept.keep_columns.Tie as tie
 
@@ -14,7 +14,7 @@ abbrev decreases-loop : tie.decreases-loop
 decreases-loop kept₀ count n₀ kept n = count - n
 
 loop-holds : tie.Need-loop-init invariant-loop decreases-loop
-loop-holds c = (pasting-none c.before.args.kept.now 0 (omega arith), omega arith)
+loop-holds c = (pasting_none c.before.args.kept.now 0 (omega arith), omega arith)
 
 -- At a number's turn.
 module _ (c : tie.In-loop invariant-loop decreases-loop) where
@@ -33,7 +33,7 @@ mul-write-small c = omega (arith, room c.before)
 write-small-requires : tie.Need-write-small-requires invariant-loop decreases-loop
 write-small-requires c κs =
     let here = c.before in
-    (omega (arith, here.loop-test.true, (start here).requires.0), omega (arith, room here, pasting-length (turn here).loop.invariant.0))
+    (omega (arith, here.loop-test.true, (start here).requires.0), omega (arith, room here, pasting_length (turn here).loop.invariant.0))
 
 loop-again : tie.Need-loop-preserved invariant-loop decreases-loop
 loop-again c =
@@ -46,7 +46,7 @@ loop-again c =
     )
 
 same_length : tie.Need-same-length invariant-loop decreases-loop
-same_length c = pasting-length c.before.loop.invariant.0
+same_length c = pasting_length c.before.loop.invariant.0
 
 returns : tie.Need-returns invariant-loop decreases-loop
 returns c =

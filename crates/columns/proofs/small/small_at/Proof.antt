@@ -15,7 +15,7 @@ returns-2 c =
     let start = read.before.before in
     λ few. small-there start.args.text.now start.args.at c.small-value.result start.requires
     (λ i. omega (arith, read.before.shared-slice-known.given i)) few
-    (sym read.first_two.ensures ∙ c.before.before.if1.false) (sym c.before.last-four.ensures ∙ c.small-value.ensures few)
+    (sym read.first_two.ensures ∙ c.before.before.if1.false) (sym c.before.last_four_lem.ensures ∙ c.small-value.ensures few)
 
 pub small-at-spec : {M : Type 1} → statement M
 small-at-spec =

@@ -6,7 +6,7 @@ use native.Mathlib.Omega.{arith}
 use lib.ListN.{length, length-drop}
 use Rattle.columns.specs.Columns.{column}
 use Rattle.columns.specs.inner.Write.{pasted}
-use Rattle.columns.proofs.Laws.Copying.{Copying, copying-none, copying-more, copying-length, copied}
+use Rattle.columns.proofs.Laws.Copying.{Copying, copying_none, copying_more, copying_length, copied}
 use Rattle.columns.proofs.write.write_column.Statement.{statement}
 use Rattle.columns.proofs.write.write_column.Tie as tie
 
@@ -17,7 +17,7 @@ abbrev decreases-loop : tie.decreases-loop
 decreases-loop n out₀ at from bytes i₀ out i = 20 - from - i
 
 loop-holds : tie.Need-loop-init invariant-loop decreases-loop
-loop-holds c = copying-none _ _ _ _ (omega (arith, c.before.spread.ensures.size))
+loop-holds c = copying_none _ _ _ _ (omega (arith, c.before.spread.ensures.size))
 
 sub-loop : tie.Need-overflow-sub-loop invariant-loop decreases-loop
 sub-loop c = omega arith
@@ -32,7 +32,7 @@ add-out-2 : tie.Need-overflow-add-out-2 invariant-loop decreases-loop
 add-out-2 c = omega arith
 
 slice-write-out : tie.Need-slice-write-out invariant-loop decreases-loop
-slice-write-out c = omega (arith, c.before.before.before.spread.ensures.size, copying-length c.before.loop.invariant, c.before.loop.invariant.fits)
+slice-write-out c = omega (arith, c.before.before.before.spread.ensures.size, copying_length c.before.loop.invariant, c.before.loop.invariant.fits)
 
 add-i : tie.Need-overflow-add-i invariant-loop decreases-loop
 add-i c = omega arith
@@ -41,7 +41,7 @@ loop-less : tie.Need-loop-smaller invariant-loop decreases-loop
 loop-less c = omega arith
 
 loop-again : tie.Need-loop-preserved invariant-loop decreases-loop
-loop-again c = copying-more c.before.loop.invariant (omega (arith, c.before.before.before.spread.ensures.size))
+loop-again c = copying_more c.before.loop.invariant (omega (arith, c.before.before.before.spread.ensures.size))
 
 sub-result : tie.Need-overflow-sub-result invariant-loop decreases-loop
 sub-result c = omega arith
@@ -50,7 +50,7 @@ add-result : tie.Need-overflow-add-result invariant-loop decreases-loop
 add-result c = omega arith
 
 same_length : tie.Need-same-length invariant-loop decreases-loop
-same_length c = copying-length c.before.loop.invariant
+same_length c = copying_length c.before.loop.invariant
 
 returns : tie.Need-returns invariant-loop decreases-loop
 returns c =

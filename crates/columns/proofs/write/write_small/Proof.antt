@@ -6,7 +6,7 @@ use Prim.Native.Nat.{◌+◌, ◌%◌}
 use native.Mathlib.Omega.{arith}
 use lib.ListN.{length-set}
 use Rattle.columns.specs.inner.Write.{pasted}
-use Rattle.columns.proofs.Laws.Small.{small-column, six-set}
+use Rattle.columns.proofs.Laws.Small.{small-column, six_set}
 use Rattle.columns.proofs.write.write_small.Statement.{statement}
 use Rattle.columns.proofs.write.write_small.Tie as tie
 
@@ -32,7 +32,7 @@ returns c =
     let thousands = c.before.before.lead-byte.ensures in
     let hundreds = c.before.lead-byte2.ensures in
     let tens = c.lead-byte3.ensures in
-    six-set a.out.now a.at start.requires.1 _ _ _ _ _ _
+    six_set a.out.now a.at start.requires.1 _ _ _ _ _ _
     ∙ (λ i. pasted a.out.now a.at (32 ∷ 32 ∷ thousands i ∷ hundreds i ∷ tens i ∷ (48 + a.n % 10) ∷ []))
     ∙ ap (pasted a.out.now a.at) (sym (small-column a.n start.requires.0))
 

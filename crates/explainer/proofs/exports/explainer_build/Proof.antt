@@ -11,7 +11,7 @@ returns c =
     let told = built.build.ensures in
     let said = said_of c.before.build-answer.ensures told.0 in
     let edges = kept_of (λ counts. counts.edges) start.args.count.now c.build-edges.ensures told.0 in
-    (said.number-said, (told.1.0, (told.1.1.0, (said.figure-said, edges))))
+    (said.number_said, (told.1.0, (told.1.1.0, (said.figure_said, edges))))
 
 pub explainer-build-spec : {M : Type 1} → statement M
 explainer-build-spec =

@@ -8,7 +8,7 @@ returns : tie.Need-returns
 returns c =
     let line = c.before.before.before.combine in
     let said = said_of c.combine-answer.ensures line.ensures.0 in
-    (said.number-said, (line.ensures.1.0, said.figure-said))
+    (said.number_said, (line.ensures.1.0, said.figure_said))
 
 pub explainer-combine-spec : {M : Type 1} → statement M
 explainer-combine-spec = tie.close (tie.spec (λ c κs. search rules) (λ c κs. search rules) (λ c. search rules) returns)

@@ -8,7 +8,7 @@ returns : tie.Need-returns
 returns c =
     let read = c.before.before.before.read-formula in
     let said = said_of c.formula-answer.ensures read.ensures.0 in
-    (said.number-said, (read.ensures.1.0, said.figure-said))
+    (said.number_said, (read.ensures.1.0, said.figure_said))
 
 pub explainer-read-formula-spec : {M : Type 1} → statement M
 explainer-read-formula-spec = tie.close (tie.spec (λ c κs. search rules) (λ c κs. search rules) (λ c. search rules) returns)

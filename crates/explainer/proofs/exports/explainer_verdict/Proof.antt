@@ -5,7 +5,7 @@ use Rattle.explainer.proofs.exports.explainer_verdict.Statement.{statement}
 use Rattle.explainer.proofs.exports.explainer_verdict.Tie as tie
 
 returns : tie.Need-returns
-returns c = let said = said_of c.verdict-answer.ensures c.before.verdict.ensures.0 in (said.number-said, said.figure-said)
+returns c = let said = said_of c.verdict-answer.ensures c.before.verdict.ensures.0 in (said.number_said, said.figure_said)
 
 pub explainer-verdict-spec : {M : Type 1} → statement M
 explainer-verdict-spec = tie.close (tie.spec (λ c κs. search rules) (λ c κs. search rules) returns)

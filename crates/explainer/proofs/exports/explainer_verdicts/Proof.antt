@@ -8,7 +8,7 @@ returns : tie.Need-returns
 returns c =
     let list = c.before.before.before.verdicts in
     let said = said_of c.verdicts-answer.ensures list.ensures.0 in
-    (said.number-said, (list.ensures.1.0, said.figure-said))
+    (said.number_said, (list.ensures.1.0, said.figure_said))
 
 pub explainer-verdicts-spec : {M : Type 1} → statement M
 explainer-verdicts-spec = tie.close (tie.spec (λ c κs. search rules) (λ c κs. search rules) (λ c. search rules) returns)

@@ -7,7 +7,7 @@ use Rattle.formula_classes.proofs.shape_of.Reads as shape-of-reads
 use Rattle.explaining.proofs.finishing.wide.Reads as wide-reads
 use mathlib.Core.Path.{ap, ◌∙◌}
 use Rattle.actl.specs.Formulas.{class_of}
-use Rattle.actl.proofs.Nodes.{size-pos}
+use Rattle.actl.proofs.Nodes.{size_pos}
 use Rattle.explaining.proofs.Told.{first-node}
 
 shape-of-requires : tie.Need-shape-of-requires
@@ -20,7 +20,7 @@ wide-requires : tie.Need-wide-requires
 wide-requires c κs = search rules
 
 returns : tie.Need-returns
-returns c = λ n F e. c.wide.ensures ∙ (c.before.before.shape_of.ensures n F e).classes 0 (size-pos F) ∙ ap class_of (first-node F)
+returns c = λ n F e. c.wide.ensures ∙ (c.before.before.shape_of.ensures n F e).classes 0 (size_pos F) ∙ ap class_of (first-node F)
 
 pub class-of-spec : {M : Type 1} → statement M
 class-of-spec = tie.close (tie.spec shape-of-requires array-read-wide wide-requires returns)

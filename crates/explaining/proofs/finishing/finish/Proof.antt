@@ -2,7 +2,7 @@
 use borrow.Author.Rules.{rules}
 use mathlib.Core.Path.{◌≡◌, refl}
 use native.Mathlib.Omega.{arith}
-use Rattle.explaining.proofs.Ending.{both_hold, refused-said, row-there, explained-said, copied}
+use Rattle.explaining.proofs.Ending.{both_hold, refused_said, row-there, explained_said, copied}
 use Rattle.explaining.proofs.finishing.finish.Statement.{statement}
 use Rattle.explaining.proofs.finishing.finish.Tie as tie
 
@@ -25,7 +25,7 @@ returns c = λ x held.
     let answer = c.before.before in
     let built = (told answer).built in
     let a = (start answer).args in
-    refused-said a.t.now a.f.now x held a.rows.now a.edges.now _ _ built.result built.ensures answer.build-answer.ensures
+    refused_said a.t.now a.f.now x held a.rows.now a.edges.now _ _ built.result built.ensures answer.build-answer.ensures
     (λ e. omega (arith, c.if1.true)) _ _
 
 -- Behind an accepted build.
@@ -63,7 +63,7 @@ returns-2 c = λ x held.
     let built = (told answer).built in
     let a = (start answer).args in
     let count = class.before.build-edges in
-    explained-said a.t.now a.f.now x held a.rows.now a.edges.now _ _ built.result built.ensures answer.build-answer.ensures (accepted class)
+    explained_said a.t.now a.f.now x held a.rows.now a.edges.now _ _ built.result built.ensures answer.build-answer.ensures (accepted class)
     _ class.class-of.result count.result verdict.verdict-told.result refl class.class-of.ensures count.ensures verdict.verdict-told.ensures
     a.table.now _ a.formula.now _
     (copied a.t.now a.table.now _ first.copy.ensures.1) (copied a.f.now a.formula.now _ second.copy2.ensures.1)

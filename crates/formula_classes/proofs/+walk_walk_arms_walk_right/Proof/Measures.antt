@@ -17,50 +17,50 @@ use Rattle.formula_classes.proofs.class_of_or.Reads as class-of-or-reads
 use Rattle.formula_classes.proofs.kind_at.Reads as kind-at-reads
 use Rattle.formula_classes.proofs.note.Reads as note-reads
 
-abbrev pub μ-walk : Measures 3 walk-kinds.ps ℕ
-μ-walk κs a = (length a.0.now - a.1.0) * 2 + 1
+abbrev pub μ_walk : Measures 3 walk-kinds.ps ℕ
+μ_walk κs a = (length a.0.now - a.1.0) * 2 + 1
 
-abbrev pub μ-walk-arms : Measures 3 walk-arms-kinds.ps ℕ
-μ-walk-arms κs a = (length a.0.now - a.1.0) * 2
+abbrev pub μ_walk_arms : Measures 3 walk-arms-kinds.ps ℕ
+μ_walk_arms κs a = (length a.0.now - a.1.0) * 2
 
-abbrev pub μ-walk-right : Measures 3 walk-right-kinds.ps ℕ
-μ-walk-right κs a = (length a.0.now - a.1.1.0) * 2 + 2
+abbrev pub μ_walk_right : Measures 3 walk-right-kinds.ps ℕ
+μ_walk_right κs a = (length a.0.now - a.1.1.0) * 2 + 2
 
 abbrev pub walk_at : ℕ → In 3 walk-kinds.ps
-walk_at t = and 3 walk-kinds.ps (is 3 walk-kinds.ps μ-walk t) walk.Pre
+walk_at t = and 3 walk-kinds.ps (is 3 walk-kinds.ps μ_walk t) walk.Pre
 
-abbrev pub walk-below : ℕ → In 3 walk-kinds.ps
-walk-below t = and 3 walk-kinds.ps (falls 3 walk-kinds.ps ◌<◌ μ-walk t) walk.Pre
+abbrev pub walk_below : ℕ → In 3 walk-kinds.ps
+walk_below t = and 3 walk-kinds.ps (falls 3 walk-kinds.ps ◌<◌ μ_walk t) walk.Pre
 
-abbrev pub walk-arms-at : ℕ → In 3 walk-arms-kinds.ps
-walk-arms-at t = and 3 walk-arms-kinds.ps (is 3 walk-arms-kinds.ps μ-walk-arms t) walk-arms.Pre
+abbrev pub walk_arms_at : ℕ → In 3 walk-arms-kinds.ps
+walk_arms_at t = and 3 walk-arms-kinds.ps (is 3 walk-arms-kinds.ps μ_walk_arms t) walk-arms.Pre
 
-abbrev pub walk-arms-below : ℕ → In 3 walk-arms-kinds.ps
-walk-arms-below t = and 3 walk-arms-kinds.ps (falls 3 walk-arms-kinds.ps ◌<◌ μ-walk-arms t) walk-arms.Pre
+abbrev pub walk_arms_below : ℕ → In 3 walk-arms-kinds.ps
+walk_arms_below t = and 3 walk-arms-kinds.ps (falls 3 walk-arms-kinds.ps ◌<◌ μ_walk_arms t) walk-arms.Pre
 
-abbrev pub walk-right-at : ℕ → In 3 walk-right-kinds.ps
-walk-right-at t = and 3 walk-right-kinds.ps (is 3 walk-right-kinds.ps μ-walk-right t) walk-right.Pre
+abbrev pub walk_right-at : ℕ → In 3 walk-right-kinds.ps
+walk_right-at t = and 3 walk-right-kinds.ps (is 3 walk-right-kinds.ps μ_walk_right t) walk-right.Pre
 
-abbrev pub walk-right-below : ℕ → In 3 walk-right-kinds.ps
-walk-right-below t = and 3 walk-right-kinds.ps (falls 3 walk-right-kinds.ps ◌<◌ μ-walk-right t) walk-right.Pre
+abbrev pub walk_right-below : ℕ → In 3 walk-right-kinds.ps
+walk_right-below t = and 3 walk-right-kinds.ps (falls 3 walk-right-kinds.ps ◌<◌ μ_walk_right t) walk-right.Pre
 
-abbrev pub walk-claims : ℕ → walk-lts.Claims
-walk-claims t = (
+abbrev pub walk_claims : ℕ → walk-lts.Claims
+walk_claims t = (
   kind-at-reads.Asked,
   kind-at-reads.Learnt,
   class-from-reads.Asked,
   class-from-reads.Learnt,
   note-reads.Asked,
   note-reads.Learnt,
-  walk-arms-below t,
+  walk_arms_below t,
   walk-arms.Post,
 )
 
-abbrev pub walk-arms-claims : ℕ → walk-arms-lts.Claims
-walk-arms-claims t = (
-  walk-below t,
+abbrev pub walk_arms_claims : ℕ → walk-arms-lts.Claims
+walk_arms_claims t = (
+  walk_below t,
   walk.Post,
-  walk-right-below t,
+  walk_right-below t,
   walk-right.Post,
   class-from-reads.Asked,
   class-from-reads.Learnt,
@@ -68,5 +68,5 @@ walk-arms-claims t = (
   note-reads.Learnt,
 )
 
-abbrev pub walk-right-claims : ℕ → walk-right-lts.Claims
-walk-right-claims t = (walk-below t, walk.Post, class-of-or-reads.Asked, class-of-or-reads.Learnt, note-reads.Asked, note-reads.Learnt)
+abbrev pub walk_right_claims : ℕ → walk-right-lts.Claims
+walk_right_claims t = (walk_below t, walk.Post, class-of-or-reads.Asked, class-of-or-reads.Learnt, note-reads.Asked, note-reads.Learnt)

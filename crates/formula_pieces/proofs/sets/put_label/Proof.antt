@@ -11,7 +11,7 @@ use Rattle.formula_pieces.proofs.sets.put_label.Statement.{statement}
 use Rattle.formula_pieces.proofs.sets.put_label.Tie as tie
 
 in-set-requires : tie.Need-in-set-requires
-in-set-requires c κs = let start = c.before.before in inl (omega (arith, start.requires.1, start.requires.0.holds.in-range.few-labels))
+in-set-requires c κs = let start = c.before.before in inl (omega (arith, start.requires.1, start.requires.0.holds.in_range.few_labels))
 
 returns : tie.Need-returns
 returns c =

@@ -6,7 +6,7 @@ use mathlib.Core.List.{List, [], ◌∷◌, ◌++◌}
 use Prim.Native.Nat.{ℕ}
 use native.Mathlib.Omega.{arith}
 use Rattle.formula_pieces.specs.inner.Adds.{Adds}
-use Rattle.formula_pieces.proofs.Laws.Adds.{adds_then, over-after}
+use Rattle.formula_pieces.proofs.Laws.Adds.{adds_then, over_after}
 use Rattle.formula_pieces.proofs.sets.put_member.Statement.{statement}
 use Rattle.formula_pieces.proofs.sets.put_member.Tie as tie
 
@@ -23,7 +23,7 @@ put-name-requires-2 : tie.Need-put-name-requires-2
 put-name-requires-2 c κs =
     let put = c.before.before.before in
     let start = put.before.before.before.before.before in
-    (over-after start.requires.0 put.put.ensures 13 (omega arith), start.requires.1)
+    (over_after start.requires.0 put.put.ensures 13 (omega arith), start.requires.1)
 
 returns-2 : tie.Need-returns-2
 returns-2 c =

@@ -6,7 +6,7 @@ use native.Mathlib.Omega.{arith}
 use lib.ListN.{length, take, drop}
 use Rattle.lts.specs.inner.Prepared.{name_at}
 use Rattle.lts.proofs.Laws.SlotNames.{name-length}
-use Rattle.formula_pieces.proofs.Laws.Adds.{adds-past, adds-copied}
+use Rattle.formula_pieces.proofs.Laws.Adds.{adds-past, adds_copied}
 use Rattle.formula_pieces.proofs.text.put_name.Statement.{statement}
 use Rattle.formula_pieces.proofs.text.put_name.Tie as tie
 
@@ -19,7 +19,7 @@ module _ (c : tie.After-name-span) where
   counted =
       let s = c.name-span.ensures in
       let few = start.pre.1 in
-      omega (arith, name-length start.args.table.now start.pre.0.holds.long start.args.k (omega (arith, few, start.pre.0.holds.in-range.few-labels)) s.short, s.ends)
+      omega (arith, name-length start.args.table.now start.pre.0.holds.long start.args.k (omega (arith, few, start.pre.0.holds.in_range.few_labels)) s.short, s.ends)
 
 returns : tie.Need-returns
 returns c = adds-past _ _ _ _ (omega (arith, counted c.before)) c.if1.true
@@ -32,7 +32,7 @@ returns-2 c =
     let part = named.name-span.ensures.name in
     let here : length (take (named.name-span.result.to - named.name-span.result.from) (drop named.name-span.result.from a.table.now))
     ≡ named.name-span.result.to - named.name-span.result.from = ap length part ∙ counted named in
-    adds-copied a.at _ a.out.now (omega (arith, here, (start named).requires.0.room.long, copying.before.before.before.if1.false))
+    adds_copied a.at _ a.out.now (omega (arith, here, (start named).requires.0.room.long, copying.before.before.before.if1.false))
     copying.copy.ensures.1 part (omega (arith, here))
 
 pub put-name-spec : {M : Type 1} → statement M

@@ -6,11 +6,11 @@ use Rattle.formula_sets.proofs.operand.Kinds as operand-kinds
 use Rattle.formula_sets.proofs.set.Kinds as set-kinds
 use Rattle.formula_sets.proofs.unsigned.Kinds as unsigned-kinds
 
-abbrev pub μ-unsigned : Measures 2 unsigned-kinds.ps ℕ
-μ-unsigned κs a = unread 3 0 a.1.0.now a.1.1.0.at
+abbrev pub μ_unsigned : Measures 2 unsigned-kinds.ps ℕ
+μ_unsigned κs a = unread 3 0 a.1.0.now a.1.1.0.at
 
-abbrev pub μ-operand : Measures 2 operand-kinds.ps ℕ
-μ-operand κs a = unread 3 1 a.1.0.now a.1.1.0.at
+abbrev pub μ_operand : Measures 2 operand-kinds.ps ℕ
+μ_operand κs a = unread 3 1 a.1.0.now a.1.1.0.at
 
-abbrev pub μ-set : Measures 2 set-kinds.ps ℕ
-μ-set κs a = unread 3 2 a.1.0.now a.1.1.0.at
+abbrev pub μ_set : Measures 2 set-kinds.ps ℕ
+μ_set κs a = unread 3 2 a.1.0.now a.1.1.0.at

@@ -13,20 +13,20 @@ use Prim.Native.Nat.{ℕ}
 use native.Mathlib.Omega.{arith}
 use borrow.Author.Rules.{rules}
 use borrow.Fn.Kinds.{In}
-use Rattle.actl.specs.inner.Readers.{namesIn}
+use Rattle.actl.specs.inner.Readers.{names_in}
 use Rattle.formula_cursor.specs.inner.CursorReplies.{TokenAnswer}
 use Rattle.formula_cursor.specs.declared.Match.{Match}
 use Rattle.formula_cursor.specs.declared.Match.TheVariants.{Past}
 use Rattle.formula_sets.proofs.ReaderCycles.{entered, called, token-falls, start-behind}
 use Rattle.formula_sets.proofs.ReadingSets.{group-says}
-use Rattle.formula_sets.proofs.+operand_set_unsigned.Proof.Measures.{μ-set, μ-unsigned}
+use Rattle.formula_sets.proofs.+operand_set_unsigned.Proof.Measures.{μ_set, μ_unsigned}
 
 module _ (t : ℕ) where
   abbrev claims : unsigned-lts.Claims
   claims = (
     token-reads.Asked,
     token-reads.Learnt,
-    called 2 set-kinds.ps μ-set set.Pre t,
+    called 2 set-kinds.ps μ_set set.Pre t,
     set.Post,
     closed-reads.Asked,
     closed-reads.Learnt,
@@ -35,7 +35,7 @@ module _ (t : ℕ) where
   )
 
   abbrev entry : In 2 unsigned-kinds.ps
-  entry = entered 2 unsigned-kinds.ps μ-unsigned unsigned.Pre t
+  entry = entered 2 unsigned-kinds.ps μ_unsigned unsigned.Pre t
 
   -- Whether `(` stands at the cursor.
   module _ (c : unsigned-lts.After-token claims entry unsigned.Post) where
@@ -43,7 +43,7 @@ module _ (t : ℕ) where
     start = c.before.before.before
 
     abbrev names : List (List ℕ)
-    names = namesIn start.args.table.now
+    names = names_in start.args.table.now
 
     abbrev Standing : Match → Type 0
     Standing = TokenAnswer start.args.text.now start.args.c.at 40
@@ -56,8 +56,8 @@ module _ (t : ℕ) where
     paren-token : Standing tried (Past c.d.given.0.0)
     paren-token = subst (Standing tried) c.d.given.1 tried.token.ensures
 
-  set-requires : unsigned-lts.Need-set-requires claims entry unsigned.Post
-  set-requires c κs =
+  set_requires : unsigned-lts.Need-set-requires claims entry unsigned.Post
+  set_requires c κs =
       let d = c.before in
       let pre = (start (tried d)).pre in
       (token-falls (paren-token d) 3 0 2 t pre.0 (omega arith), start-behind (paren-token d) pre.1.0)
@@ -69,14 +69,14 @@ module _ (t : ℕ) where
       group-says (names (tried d)) a.lost (paren-token d) c.closed.result
       (c.closed.ensures (names (tried d)) d.d.given.0.0.at a.lost c.before.set.ensures)
 
-  bare-operand-requires : unsigned-lts.Need-bare-operand-requires claims entry unsigned.Post
-  bare-operand-requires c κs =
+  bare-operand_requires : unsigned-lts.Need-bare-operand-requires claims entry unsigned.Post
+  bare-operand_requires c κs =
       let x = c.before.before in
-      ((start x).requires.1.0, record { no-not = (start x).requires.1.1; no-paren = subst (Standing x) c.enum_told.given.1 x.token.ensures })
+      ((start x).requires.1.0, record { no_not = (start x).requires.1.1; no_paren = subst (Standing x) c.enum_told.given.1 x.token.ensures })
 
-  returns-2 : unsigned-lts.Need-returns-2 claims entry unsigned.Post
-  returns-2 c = c.bare-operand.ensures
+  returns_2 : unsigned-lts.Need-returns-2 claims entry unsigned.Post
+  returns_2 c = c.bare-operand.ensures
 
-  pub unsigned-closed : {M : Type 1} → unsigned-lts.Closed claims entry unsigned.Post M
-  unsigned-closed = unsigned-lts.spec claims entry unsigned.Post (λ c κs. tt) (λ c. search rules) set-requires (λ c κs. tt) returns
-      (λ c. search rules) bare-operand-requires returns-2
+  pub unsigned_closed : {M : Type 1} → unsigned-lts.Closed claims entry unsigned.Post M
+  unsigned_closed = unsigned-lts.spec claims entry unsigned.Post (λ c κs. tt) (λ c. search rules) set_requires (λ c κs. tt) returns
+      (λ c. search rules) bare-operand_requires returns_2

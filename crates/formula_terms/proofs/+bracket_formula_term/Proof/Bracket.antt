@@ -12,22 +12,22 @@ use Prim.Native.Nat.{ℕ}
 use native.Mathlib.Omega.{arith}
 use borrow.Author.Rules.{rules}
 use borrow.Fn.Kinds.{In}
-use Rattle.actl.specs.inner.Readers.{namesIn}
+use Rattle.actl.specs.inner.Readers.{names_in}
 use Rattle.formula_cursor.specs.inner.CursorReplies.{MarkAnswer}
 use Rattle.formula_sets.proofs.ReaderCycles.{entered, called}
 use Rattle.formula_terms.specs.inner.TermReplies.{FormulaAnswer}
 use Rattle.formula_terms.specs.declared.Chain.{Chain}
-use Rattle.formula_terms.proofs.+bracket_formula_term.Proof.Measures.{μ-bracket, μ-formula}
+use Rattle.formula_terms.proofs.+bracket_formula_term.Proof.Measures.{μ_bracket, μ_formula}
 
 module _ (t : ℕ) where
   abbrev claims : bracket-lts.Claims
-  claims = (called 3 formula-kinds.ps μ-formula formula.Pre t, formula.Post, mark-reads.Asked, mark-reads.Learnt)
+  claims = (called 3 formula-kinds.ps μ_formula formula.Pre t, formula.Post, mark-reads.Asked, mark-reads.Learnt)
 
   abbrev entry : In 3 bracket-kinds.ps
-  entry = entered 3 bracket-kinds.ps μ-bracket bracket.Pre t
+  entry = entered 3 bracket-kinds.ps μ_bracket bracket.Pre t
 
-  formula-requires : bracket-lts.Need-formula-requires claims entry bracket.Post
-  formula-requires c κs =
+  formula_requires : bracket-lts.Need-formula-requires claims entry bracket.Post
+  formula_requires c κs =
       let pre = c.before.before.before.requires in
       (omega (arith, pre.0), pre.1)
 
@@ -40,7 +40,7 @@ module _ (t : ℕ) where
     text = start.args.text.now
 
     abbrev Said : Chain → Type 0
-    Said = FormulaAnswer (namesIn start.args.table.now) text start.args.c.at start.args.n start.args.lost start.args.nodes.now c.formula.new.1.1.0
+    Said = FormulaAnswer (names_in start.args.table.now) text start.args.c.at start.args.n start.args.lost start.args.nodes.now c.formula.new.1.1.0
 
   returns : bracket-lts.Need-returns claims entry bracket.Post
   returns c =
@@ -49,16 +49,16 @@ module _ (t : ℕ) where
       let other = subst (MarkAnswer (text f) x.x2.given.0.1.0.at 41) c.enum_told.given.1 c.before.before.mark.ensures in
       inr (record { end = _; m = _; left = _; contents = subst (Said f) x.x2.given.1 f.formula.ensures; other = other })
 
-  returns-2 : bracket-lts.Need-returns-2 claims entry bracket.Post
-  returns-2 c = let f = c.before.before.before in inl (subst (Said f) c.before.x.given.1 f.formula.ensures)
+  returns_2 : bracket-lts.Need-returns-2 claims entry bracket.Post
+  returns_2 c = let f = c.before.before.before in inl (subst (Said f) c.before.x.given.1 f.formula.ensures)
 
-  returns-3 : bracket-lts.Need-returns-3 claims entry bracket.Post
-  returns-3 c =
+  returns_3 : bracket-lts.Need-returns-3 claims entry bracket.Post
+  returns_3 c =
       let x = c.before.before.before.before.before in
       let f = x.before.before in
       let shut = subst (MarkAnswer (text f) x.x2.given.0.1.0.at 41) c.before.f.given.1 c.before.before.before.mark.ensures in
       record { end = _; behind = x.x2.given.0.1.0.at; contents = subst (Said f) x.x2.given.1 f.formula.ensures; shut = shut }
 
-  pub bracket-closed : {M : Type 1} → bracket-lts.Closed claims entry bracket.Post M
-  bracket-closed = bracket-lts.spec claims entry bracket.Post formula-requires (λ c. search rules) (λ c. search rules) (λ c κs. tt)
-      (λ c. search rules) (λ c. search rules) returns returns-2 returns-3
+  pub bracket_closed : {M : Type 1} → bracket-lts.Closed claims entry bracket.Post M
+  bracket_closed = bracket-lts.spec claims entry bracket.Post formula_requires (λ c. search rules) (λ c. search rules) (λ c κs. tt)
+      (λ c. search rules) (λ c. search rules) returns returns_2 returns_3

@@ -6,11 +6,11 @@ use Rattle.formula_terms.proofs.bracket.Kinds as bracket-kinds
 use Rattle.formula_terms.proofs.formula.Kinds as formula-kinds
 use Rattle.formula_terms.proofs.term.Kinds as term-kinds
 
-abbrev pub μ-term : Measures 3 term-kinds.ps ℕ
-μ-term κs a = unread 3 0 a.1.0.now a.1.1.1.0.at
+abbrev pub μ_term : Measures 3 term-kinds.ps ℕ
+μ_term κs a = unread 3 0 a.1.0.now a.1.1.1.0.at
 
-abbrev pub μ-formula : Measures 3 formula-kinds.ps ℕ
-μ-formula κs a = unread 3 1 a.1.0.now a.1.1.1.0.at
+abbrev pub μ_formula : Measures 3 formula-kinds.ps ℕ
+μ_formula κs a = unread 3 1 a.1.0.now a.1.1.1.0.at
 
-abbrev pub μ-bracket : Measures 3 bracket-kinds.ps ℕ
-μ-bracket κs a = unread 3 2 a.1.0.now a.1.1.1.0.at
+abbrev pub μ_bracket : Measures 3 bracket-kinds.ps ℕ
+μ_bracket κs a = unread 3 2 a.1.0.now a.1.1.1.0.at

@@ -1,15 +1,15 @@
 -- `answer` refuses 7, 8 and 9 in this order, and else leaves the prepared bytes.
 use borrow.Author.Rules.{rules}
 use mathlib.Core.Path.{sym, ap, ◌∙◌}
-use Rattle.formula_classes.specs.inner.WalkReplies.{classlessNode}
-use Rattle.formula_text.proofs.ReadingAnswers.{kinds-are, answer-unknown, answer-many, answer-classless, answer-accepted}
+use Rattle.formula_classes.specs.inner.WalkReplies.{classless_node}
+use Rattle.formula_text.proofs.ReadingAnswers.{kinds_are, answer_unknown, answer-many, answer_classless, answer-accepted}
 use Rattle.formula_text.proofs.writing.answer.Statement.{statement}
 use Rattle.formula_text.proofs.writing.answer.Tie as tie
 
 returns : tie.Need-returns
 returns c =
     let a = c.before.before.args in
-    λ F o h. answer-unknown a.nodes.now a.n a.lost a.formula.now F o h c.if1.true
+    λ F o h. answer_unknown a.nodes.now a.n a.lost a.formula.now F o h c.if1.true
 
 returns-2 : tie.Need-returns-2
 returns-2 c =
@@ -24,8 +24,8 @@ returns-3 c =
     let a = few.before.before.before.args in
     let b = a.nodes.now in
     λ F o h.
-    let kinds = sym (kinds-are b a.n F h.count (h.made few.if2.false) few.if2.false) in
-    let None-found = ap classlessNode (sym told.enum_told.given.1) ∙ found.highest-classless.ensures F kinds in
+    let kinds = sym (kinds_are b a.n F h.count (h.made few.if2.false) few.if2.false) in
+    let None-found = ap classless_node (sym told.enum_told.given.1) ∙ found.highest-classless.ensures F kinds in
     answer-accepted b a.n a.lost a.formula.now F few.before.if1.false o h few.if2.false _ None-found
     c.before.before.write_bytes.ensures
 
@@ -36,9 +36,9 @@ returns-4 c =
     let a = few.before.before.before.args in
     let b = a.nodes.now in
     λ F o h.
-    let kinds = sym (kinds-are b a.n F h.count (h.made few.if2.false) few.if2.false) in
-    let one_Found = ap classlessNode (sym c.before.k.given.1) ∙ found.highest-classless.ensures F kinds in
-    answer-classless b a.n a.lost a.formula.now F few.before.if1.false o h few.if2.false _ one_Found
+    let kinds = sym (kinds_are b a.n F h.count (h.made few.if2.false) few.if2.false) in
+    let one_Found = ap classless_node (sym c.before.k.given.1) ∙ found.highest-classless.ensures F kinds in
+    answer_classless b a.n a.lost a.formula.now F few.before.if1.false o h few.if2.false _ one_Found
 
 pub answer-spec : {M : Type 1} → statement M
 answer-spec =

@@ -4,13 +4,13 @@ use mathlib.Core.Path.{◌≡◌, sym}
 use native.Mathlib.Omega.{arith}
 use lib.ListN.{length, take}
 use lib.Seq.{length-take-le}
-use Rattle.actl.specs.Sizes.{formulaLength}
-use Rattle.formula_text.proofs.ReadingAnswers.{bytes-copied}
+use Rattle.actl.specs.Sizes.{formula_length}
+use Rattle.formula_text.proofs.ReadingAnswers.{bytes_copied}
 use Rattle.formula_text.proofs.writing.write_bytes.Statement.{statement}
 use Rattle.formula_text.proofs.writing.write_bytes.Tie as tie
 
-copied : (start : tie.Start) → length (take formulaLength start.args.nodes.now) ≡ formulaLength
-copied start = length-take-le formulaLength start.args.nodes.now (omega (arith, start.requires.0))
+copied : (start : tie.Start) → length (take formula_length start.args.nodes.now) ≡ formula_length
+copied start = length-take-le formula_length start.args.nodes.now (omega (arith, start.requires.0))
 
 slice-aggregate-copy : tie.Need-slice-aggregate-copy
 slice-aggregate-copy c = sym (copied c.before.before.before)
@@ -25,7 +25,7 @@ returns c =
     let copying = c.before.before in
     let start = copying.before.before.before.before.before in
     let a = start.args in
-    bytes-copied a.nodes.now a.formula.now _ a.n _ (omega (arith, start.requires.0)) start.requires.2 (copied start)
+    bytes_copied a.nodes.now a.formula.now _ a.n _ (omega (arith, start.requires.0)) start.requires.2 (copied start)
     copying.copy.ensures.1
 
 pub write-bytes-spec : {M : Type 1} → statement M

@@ -2,7 +2,7 @@
 use mathlib.Core.Path.{sym, ◌∙◌}
 use borrow.Author.Rules.{rules}
 use native.Mathlib.Omega.{arith}
-use Rattle.lts.proofs.Silence.{carried-heard}
+use Rattle.lts.proofs.Silence.{carried_heard}
 use Rattle.actl.specs.Actions.{in_set}
 use Rattle.formulas.proofs.conditions.in_set.Statement.{statement}
 use Rattle.formulas.proofs.conditions.in_set.Tie as tie
@@ -12,7 +12,7 @@ is-silent-requires c κs = search rules
 
 -- The label is heard.
 shr-result : tie.Need-overflow-shr-result
-shr-result c = omega (arith, carried-heard c.before.before.requires (sym c.before.is-silent.ensures ∙ c.if1.false))
+shr-result c = omega (arith, carried_heard c.before.before.requires (sym c.before.is-silent.ensures ∙ c.if1.false))
 
 returns : tie.Need-returns
 unfolding in_set

@@ -1,15 +1,15 @@
--- `node_at` meets its contract: at each kind the slot has that kind, the masks that were read, and zero for those that it does not have.
+-- `node_at_lem` meets its contract: at each kind the slot has that kind, the masks that were read, and zero for those that it does not have.
 use native.Mathlib.Omega.{arith}
 use mathlib.Core.Path.{◌≡◌, refl, sym}
 use mathlib.Core.Bool.{false}
 use Prim.Native.Nat.{ℕ, ◌+◌, ◌≤◌}
 use Rattle.actl.specs.Prepared.{Slot, slot}
 use Rattle.actl.specs.inner.Prepared.{slot_at}
-use Rattle.actl.specs.inner.Shaped.{firstUsed, secondUsed}
-use Rattle.actl.proofs.Laws.Slots.{shape_of, slot-by-parts, slot-without-masks, slot-with-first}
+use Rattle.actl.specs.inner.Shaped.{first_used, second_used}
+use Rattle.actl.proofs.Laws.Slots.{shape_of, slot_by_parts, slot_without_masks, slot_with_first}
 use borrow.Author.Rules.{rules}
-use Rattle.formulas.proofs.node.node_at.Statement.{statement}
-use Rattle.formulas.proofs.node.node_at.Tie as tie
+use Rattle.formulas.proofs.node.node_at_lem.Statement.{statement}
+use Rattle.formulas.proofs.node.node_at_lem.Tie as tie
 
 past-four : (n : ℕ) {k : ℕ} → n ≤ k → (k ≡ n → ⊥) → (k ≡ n + 1 → ⊥) → (k ≡ n + 2 → ⊥) → (k ≡ n + 3 → ⊥) → n + 4 ≤ k
 past-four n h a b c d = omega arith
@@ -23,11 +23,11 @@ module _ (c : tie.Start) where
   read = slot_at c.args.formula.now c.args.k
 
   module _ {kind : ℕ} (e : read.kind ≡ kind) where
-    without-masks : firstUsed kind ≡ false → secondUsed kind ≡ false → slot kind 0 0 ≡ read
-    without-masks f s = slot-without-masks read c.requires.1.1 e f s
+    without-masks : first_used kind ≡ false → second_used kind ≡ false → slot kind 0 0 ≡ read
+    without-masks f s = slot_without_masks read c.requires.1.1 e f s
 
-    with_first : {a : ℕ} → secondUsed kind ≡ false → read.first ≡ a → slot kind a 0 ≡ read
-    with_first s f = slot-with-first read c.requires.1.1 e s f
+    with_first : {a : ℕ} → second_used kind ≡ false → read.first ≡ a → slot kind a 0 ≡ read
+    with_first s f = slot_with_first read c.requires.1.1 e s f
 
 returns : tie.Need-returns
 returns c = without-masks c.before.before.before c.match.keys1 refl refl
@@ -60,7 +60,7 @@ returns-9 c =
     let h = shape_of (read start) start.requires.1.1 in
     let five = past-four 1 h.low r.0.0.0.0.0.0.0.1 r.0.0.0.0.0.0.1 r.0.0.0.0.0.1 r.0.0.0.0.1 in
     let nine = past-four 5 five r.0.0.0.1 r.0.0.1 r.0.1 r.1 in
-    slot-by-parts (read start) (antisymm h.high nine) (sym c.before.first-mask4.ensures) (sym c.second-mask.ensures)
+    slot_by_parts (read start) (antisymm h.high nine) (sym c.before.first-mask4.ensures) (sym c.second-mask.ensures)
 
 pub node_at_spec : {M : Type 1} → statement M
 node_at_spec =

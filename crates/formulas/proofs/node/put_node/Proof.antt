@@ -4,8 +4,8 @@ use Prim.Native.Nat.{ℕ, ◌+◌, ◌*◌}
 use native.Mathlib.Omega.{arith}
 use lib.ListN.{length, set, length-set}
 use Rattle.columns.specs.inner.Write.{pasted}
-use Rattle.actl.specs.Sizes.{nodeSlotLength}
-use Rattle.actl.specs.Prepared.{slotBytes}
+use Rattle.actl.specs.Sizes.{node_slot_length}
+use Rattle.actl.specs.Prepared.{slot_bytes}
 use Rattle.actl.proofs.ReadingBytes.{slot-pasted}
 use borrow.Author.Rules.{rules}
 use Rattle.formulas.proofs.node.put_node.Statement.{statement}
@@ -14,7 +14,7 @@ use Rattle.formulas.proofs.node.put_node.Tie as tie
 -- The kind is written at the slot's place, and the length stays.
 module _ (c : tie.After-slot-of) where
   abbrev slot-place : ℕ
-  slot-place = 1 + c.before.before.args.k * nodeSlotLength
+  slot-place = 1 + c.before.before.args.k * node_slot_length
 
   kind-length : length (set c.before.before.args.formula.now slot-place c.slot_of.result.kind) ≡ length c.before.before.args.formula.now
   kind-length = length-set c.before.before.args.formula.now slot-place c.slot_of.result.kind
@@ -45,7 +45,7 @@ returns c =
     let at = slot-place known in
     slot-pasted at (at + 1) (at + 9) s.kind s.first s.second e _ _ _ start.requires refl refl refl first.put-mask.ensures
     put.put-mask2.ensures
-    ∙ ap (λ x. pasted e at (slotBytes x)) known.slot_of.ensures
+    ∙ ap (λ x. pasted e at (slot_bytes x)) known.slot_of.ensures
 
 pub put-node-spec : {M : Type 1} → statement M
 put-node-spec =

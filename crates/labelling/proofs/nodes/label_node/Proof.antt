@@ -5,26 +5,26 @@ use mathlib.Core.Bool.{Bool}
 use mathlib.Core.List.{List}
 use Prim.Native.Nat.{ℕ}
 use native.Mathlib.Omega.{arith}
-use Rattle.lts.specs.inner.Steps.{stepsFrom}
-use Rattle.table_steps.specs.inner.StepArray.{stepsIn}
-use Rattle.lts.specs.inner.Prepared.{tableIn}
+use Rattle.lts.specs.inner.Steps.{steps_from}
+use Rattle.table_steps.specs.inner.StepArray.{steps_in}
+use Rattle.lts.specs.inner.Prepared.{table_in}
 use Rattle.formulas.specs.declared.node.Node.{Node}
-use Rattle.until_search.specs.inner.Flags.{at_once, nodeHolds, Flags}
+use Rattle.until_search.specs.inner.Flags.{at_once, node_holds, Flags}
 use Rattle.labelling.specs.inner.Rows.{row_at}
-use Rattle.until_search.proofs.Laws.Flags.{flags-same}
-use Rattle.labelling.proofs.Laws.Nodes.{until-flags}
+use Rattle.until_search.proofs.Laws.Flags.{flags_same}
+use Rattle.labelling.proofs.Laws.Nodes.{until_flags}
 use Rattle.labelling.proofs.nodes.label_node.Statement.{statement}
 use Rattle.labelling.proofs.nodes.label_node.Tie as tie
 
 abbrev AtOnce : tie.Start → List Bool → Node → Type 0
 AtOnce c flags n =
-    let t = tableIn c.args.table.now in
-    Flags t.states (λ s. at_once n (row_at c.args.flags.now c.args.arm) (row_at c.args.flags.now c.args.other) s (stepsFrom t s)) flags
+    let t = table_in c.args.table.now in
+    Flags t.states (λ s. at_once n (row_at c.args.flags.now c.args.arm) (row_at c.args.flags.now c.args.other) s (steps_from t s)) flags
 
 abbrev Wanted : tie.Start → List Bool → Node → Type 0
 Wanted c flags n =
-    let t = tableIn c.args.table.now in
-    Flags t.states (nodeHolds t n (row_at c.args.flags.now c.args.arm) (row_at c.args.flags.now c.args.other)) flags
+    let t = table_in c.args.table.now in
+    Flags t.states (node_holds t n (row_at c.args.flags.now c.args.arm) (row_at c.args.flags.now c.args.other)) flags
 
 -- What was found at once.
 module _ (c : tie.After-label-at-once) where
@@ -39,11 +39,11 @@ at-once : (c : tie.After-label-at-once) → AtOnce (begun c) (row c) (begun c).a
 at-once c =
     let start = begun c in
     let a = start.args in
-    let t = tableIn a.table.now in
-    let once : ℕ → Bool = λ s. at_once a.node (row_at a.flags.now a.arm) (row_at a.flags.now a.other) s (stepsIn a.steps.now a.firsts.now s) in
+    let t = table_in a.table.now in
+    let once : ℕ → Bool = λ s. at_once a.node (row_at a.flags.now a.arm) (row_at a.flags.now a.other) s (steps_in a.steps.now a.firsts.now s) in
     let found = subst (λ n. Flags n once (row c)) c.before.state-count.ensures.count c.label-at-once.ensures in
-    let few = start.pre.0.in-range.few-states in
-    flags-same
+    let few = start.pre.0.in_range.few_states in
+    flags_same
     (λ s h. ap (at_once a.node (row_at a.flags.now a.arm) (row_at a.flags.now a.other) s) (start.pre.1.0.leaving s (omega (arith, few))))
     found
 
@@ -54,7 +54,7 @@ label-at-once-requires : tie.Need-label-at-once-requires
 label-at-once-requires c κs =
     let start = c.before.before in
     let rows = start.requires.1.1 in
-    (start.requires.1.0.fit, (omega (arith, c.state-count.ensures.count, start.requires.0.in-range.few-states), rows.1, rows.2))
+    (start.requires.1.0.fit, (omega (arith, c.state-count.ensures.count, start.requires.0.in_range.few_states), rows.1, rows.2))
 
 -- A node that is known: what holds at once makes what is wanted.
 settled : (c : tie.After-label-at-once) (flags : List Bool) {n : Node} → (begun c).args.node ≡ n
@@ -80,14 +80,14 @@ returns-5 c = settled c.before.before _ c.enum-told5.given.1 (λ once. once)
 returns-6 : tie.Need-returns-6
 returns-6 c =
     let known = c.before.before.before.before.before in
-    let in-range = (begun known).requires.0.in-range in
-    settled known _ c.before.before.before.node.given.1 (λ once. until-flags _ in-range _ _ _ _ once c.until.ensures)
+    let in_range = (begun known).requires.0.in_range in
+    settled known _ c.before.before.before.node.given.1 (λ once. until_flags _ in_range _ _ _ _ once c.until.ensures)
 
 returns-7 : tie.Need-returns-7
 returns-7 c =
     let known = c.before.before.before.before.before in
-    let in-range = (begun known).requires.0.in-range in
-    settled known _ c.before.before.before.node2.given.1 (λ once. until-flags _ in-range _ _ _ _ once c.until2.ensures)
+    let in_range = (begun known).requires.0.in_range in
+    settled known _ c.before.before.before.node2.given.1 (λ once. until_flags _ in_range _ _ _ _ once c.until2.ensures)
 
 pub label-node-spec : {M : Type 1} → statement M
 label-node-spec =

@@ -4,7 +4,7 @@ use Prim.Native.Nat.{◌≤◌, ◌<◌, ◌+◌, ◌-◌}
 use native.Mathlib.Omega.{arith}
 use lib.ListN.{get_or}
 use Rattle.labelling.specs.inner.Nodes.{RowsFrom}
-use Rattle.actl.proofs.Laws.Held.{formula-long, formula-few}
+use Rattle.actl.proofs.Laws.Held.{formula_long, formula-few}
 use Rattle.labelling.proofs.Laws.Prepared.{rows_none, rows_all}
 use Rattle.labelling.proofs.Laws.Nodes.{rows_on}
 use Rattle.labelling.proofs.nodes.label_nodes.Statement.{statement}
@@ -34,7 +34,7 @@ entering-requires : tie.Need-entering-requires invariant-loop decreases-loop
 entering-requires c κs = (c.before.before.before.requires.0, refl)
 
 node-count-requires : tie.Need-node-count-requires invariant-loop decreases-loop
-node-count-requires c κs = formula-long _ _ c.before.before.before.before.requires.1.1.0
+node-count-requires c κs = formula_long _ _ c.before.before.before.before.requires.1.1.0
 
 loop-holds : tie.Need-loop-init invariant-loop decreases-loop
 loop-holds c =
@@ -52,10 +52,10 @@ row-from-arms-requires c κs =
     let turn = c.before.before.before in
     let start = entry turn in
     record {
-      table-held = start.pre.0;
+      table_held = start.pre.0;
       steps_of = start.pre.1.0;
       linked = turn.before.before.before.entering.ensures;
-      formula-held = start.pre.1.1.0;
+      formula_held = start.pre.1.1.0;
       arms_end = start.pre.1.1.1.0;
       inside = inside turn;
       rows_behind = behind turn;

@@ -1,16 +1,16 @@
 -- `put_row` meets its contract: the flags of the states below s are put in.
 use Prim.Native.Nat.{◌≤◌, ◌-◌}
 use native.Mathlib.Omega.{arith}
-use Rattle.lts.specs.Sizes.{mostStates}
+use Rattle.lts.specs.Sizes.{most_states}
 use Rattle.labelling.proofs.Laws.Rows.{RowPutBelow, row-put-none, row-put-on, row-put-all}
 use Rattle.labelling.proofs.nodes.put_row.Statement.{statement}
 use Rattle.labelling.proofs.nodes.put_row.Tie as tie
 
 abbrev invariant-loop : tie.invariant-loop
-invariant-loop flags₀ k found s₀ flags s = (s ≤ mostStates) × RowPutBelow k s found flags₀ flags
+invariant-loop flags₀ k found s₀ flags s = (s ≤ most_states) × RowPutBelow k s found flags₀ flags
 
 abbrev decreases-loop : tie.decreases-loop
-decreases-loop flags₀ k found s₀ flags s = mostStates - s
+decreases-loop flags₀ k found s₀ flags s = most_states - s
 
 loop-holds : tie.Need-loop-init invariant-loop decreases-loop
 loop-holds c = (omega arith, row-put-none _ _ _ c.requires.1)

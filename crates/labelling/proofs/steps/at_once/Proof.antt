@@ -2,19 +2,19 @@
 use borrow.Author.Rules.{rules}
 use mathlib.Core.Path.{sym, ap, ◌∙◌}
 use mathlib.Core.Bool.{Bool, not, ◌||◌}
-use Rattle.table_steps.specs.inner.StepArray.{stepsIn}
+use Rattle.table_steps.specs.inner.StepArray.{steps_in}
 use Rattle.lts.proofs.Booleans.{or-true-left}
 use Rattle.actl.specs.Actions.{meets}
-use Rattle.formulas.specs.inner.Access.{condIn}
+use Rattle.formulas.specs.inner.Access.{cond_in}
 use Rattle.formulas.specs.declared.node.Node.{Node}
-use Rattle.until_search.specs.inner.Flags.{leadsTo, at_once}
+use Rattle.until_search.specs.inner.Flags.{leads_to, at_once}
 use Rattle.labelling.specs.inner.Rows.{row_at}
 use Rattle.until_search.proofs.Laws.Flags.{every-not-some}
 use Rattle.labelling.proofs.steps.at_once.Statement.{statement}
 use Rattle.labelling.proofs.steps.at_once.Tie as tie
 
 abbrev value : tie.Start → Node → Bool
-value c node = at_once node (row_at c.args.flags.now c.args.arm) (row_at c.args.flags.now c.args.other) c.args.s (stepsIn c.args.steps.now c.args.firsts.now c.args.s)
+value c node = at_once node (row_at c.args.flags.now c.args.arm) (row_at c.args.flags.now c.args.other) c.args.s (steps_in c.args.steps.now c.args.firsts.now c.args.s)
 
 -- What an arm's row says of the state.
 abbrev arm : tie.Start → Bool
@@ -49,9 +49,9 @@ returns-5 c = c.some-step.ensures ∙ sym (ap (value c.before.before.before.befo
 returns-6 : tie.Need-returns-6
 returns-6 c =
     let start = c.before.before.before.before in
-    let steps = stepsIn start.args.steps.now start.args.firsts.now start.args.s in
+    let steps = steps_in start.args.steps.now start.args.firsts.now start.args.s in
     ap not c.some-step2.ensures
-    ∙ (every-not-some (leadsTo (condIn c.before.before.node2.given.0.0) (row_at start.args.flags.now start.args.arm)) steps
+    ∙ (every-not-some (leads_to (cond_in c.before.before.node2.given.0.0) (row_at start.args.flags.now start.args.arm)) steps
     ∙ sym (ap (value start) c.before.before.node2.given.1))
 
 returns-7 : tie.Need-returns-7

@@ -1,27 +1,27 @@
 -- `label_at_once` meets its contract: the states below s are labelled.
 use Prim.Native.Nat.{◌≤◌, ◌<◌, ◌-◌}
 use native.Mathlib.Omega.{arith}
-use Rattle.lts.specs.Sizes.{mostStates}
-use Rattle.table_steps.specs.inner.StepArray.{stepsIn}
+use Rattle.lts.specs.Sizes.{most_states}
+use Rattle.table_steps.specs.inner.StepArray.{steps_in}
 use Rattle.until_search.specs.inner.Flags.{at_once, Flags}
 use Rattle.labelling.specs.inner.Rows.{row_at}
-use Rattle.until_search.proofs.Laws.Flags.{flags-none, flags-on, flags-all}
+use Rattle.until_search.proofs.Laws.Flags.{flags_none, flags_on, flags_all}
 use Rattle.labelling.proofs.steps.label_at_once.Statement.{statement}
 use Rattle.labelling.proofs.steps.label_at_once.Tie as tie
 
 abbrev invariant-loop : tie.invariant-loop
 invariant-loop steps firsts states node flags arm other found₀ s₀ found s =
-    (s ≤ states) × Flags s (λ v. at_once node (row_at flags arm) (row_at flags other) v (stepsIn steps firsts v)) found
+    (s ≤ states) × Flags s (λ v. at_once node (row_at flags arm) (row_at flags other) v (steps_in steps firsts v)) found
 
 abbrev decreases-loop : tie.decreases-loop
 decreases-loop steps firsts states node flags arm other found₀ s₀ found s = states - s
 
 -- The state is one that a table may have.
-state : (c : tie.In-loop invariant-loop decreases-loop) → c.before.loop.s < mostStates
+state : (c : tie.In-loop invariant-loop decreases-loop) → c.before.loop.s < most_states
 state c = omega (arith, c.loop-test.true, c.before.before.requires.1.0)
 
 loop-holds : tie.Need-loop-init invariant-loop decreases-loop
-loop-holds c = (omega arith, flags-none _)
+loop-holds c = (omega arith, flags_none _)
 
 at-once-requires : tie.Need-at-once-requires invariant-loop decreases-loop
 at-once-requires c κs = let held = c.before.before.requires in (held.0, (state c, held.1.1, held.1.2))
@@ -39,10 +39,10 @@ loop-again : tie.Need-loop-preserved invariant-loop decreases-loop
 loop-again c =
     let turn = c.before in
     let loop = turn.before.loop in
-    (omega (arith, turn.loop-test.true), flags-on _ loop.s c.at-once.result (state turn) c.at-once.ensures loop.invariant.1)
+    (omega (arith, turn.loop-test.true), flags_on _ loop.s c.at-once.result (state turn) c.at-once.ensures loop.invariant.1)
 
 returns : tie.Need-returns invariant-loop decreases-loop
-returns c = flags-all _ _ c.before.loop.s c.loop-test.false c.before.loop.invariant.1
+returns c = flags_all _ _ c.before.loop.s c.loop-test.false c.before.loop.invariant.1
 
 pub label-at-once-spec : {M : Type 1} → statement M
 label-at-once-spec =

@@ -3,15 +3,15 @@ use mathlib.Core.Path.{◌≡◌, sym, ap, ◌∙◌, subst}
 use mathlib.Core.Bool.{Bool, ◌&&◌}
 use Prim.Native.Nat.{◌≤◌, ◌<◌, ◌-◌}
 use native.Mathlib.Omega.{arith}
-use Rattle.lts.specs.inner.Sizes.{mostSteps}
+use Rattle.lts.specs.inner.Sizes.{most_steps}
 use Rattle.lts.specs.Lists.{any_of}
 use Rattle.lts.specs.Steps.{Step}
 use Rattle.lts.specs.inner.Steps.{Carried}
-use Rattle.table_steps.specs.inner.StepArray.{stepAt, steps_between, stepsIn, span_of}
+use Rattle.table_steps.specs.inner.StepArray.{step_at, steps_between, steps_in, span_of}
 use Rattle.table_steps.specs.declared.Span.{Span}
 use Rattle.actl.specs.Actions.{meets}
-use Rattle.formulas.specs.inner.Access.{condIn}
-use Rattle.until_search.specs.inner.Flags.{asWanted, leadsAsWanted, someStep}
+use Rattle.formulas.specs.inner.Access.{cond_in}
+use Rattle.until_search.specs.inner.Flags.{as_wanted, leads_as_wanted, some_step}
 use Rattle.labelling.specs.inner.Rows.{row_at}
 use Rattle.until_search.proofs.Laws.Flags.{some-found, some-later, some-none}
 use Rattle.labelling.proofs.steps.some_step.Statement.{statement}
@@ -19,25 +19,25 @@ use Rattle.labelling.proofs.steps.some_step.Tie as tie
 
 abbrev invariant-loop : tie.invariant-loop
 invariant-loop steps firsts wanted condition flags arm s end k₀ k = ((span_of firsts s).from ≤ k) × (end ≡ (span_of firsts s).to)
-    × (someStep wanted (condIn condition) (row_at flags arm) (stepsIn steps firsts s)
-    ≡ any_of (leadsAsWanted wanted (condIn condition) (row_at flags arm)) (steps_between steps s k end))
+    × (some_step wanted (cond_in condition) (row_at flags arm) (steps_in steps firsts s)
+    ≡ any_of (leads_as_wanted wanted (cond_in condition) (row_at flags arm)) (steps_between steps s k end))
 
 abbrev decreases-loop : tie.decreases-loop
 decreases-loop steps firsts wanted condition flags arm s end k₀ k = end - k
 
 -- What is asked of each step.
 abbrev wanted : tie.Start invariant-loop decreases-loop → Step → Bool
-wanted c = leadsAsWanted c.args.wanted (condIn c.args.condition) (row_at c.args.flags.now c.args.arm)
+wanted c = leads_as_wanted c.args.wanted (cond_in c.args.condition) (row_at c.args.flags.now c.args.arm)
 
 -- The step at k has its place.
-placed : (c : tie.In-loop invariant-loop decreases-loop) → c.before.loop.k < mostSteps
+placed : (c : tie.In-loop invariant-loop decreases-loop) → c.before.loop.k < most_steps
 placed c =
     let start = c.before.before.before in
     omega (arith, c.loop-test.true, c.before.loop.invariant.1, start.requires.0.few start.args.s start.requires.1.0)
 
 -- The step at k, as the search has it.
 abbrev searched : tie.At-loop invariant-loop decreases-loop → Step
-searched c = stepAt c.before.before.args.steps.now c.before.before.args.s c.loop.k
+searched c = step_at c.before.before.args.steps.now c.before.before.args.s c.loop.k
 
 -- What the call answered of it.
 outcome : (c : tie.After-leads invariant-loop decreases-loop)
@@ -48,7 +48,7 @@ outcome c =
     let label = c.before.label_of.ensures in
     let to = c.before.before.before.state-of.ensures.0 in
     sym (λ i. wanted start (record { from = a.s; label = label i; to = to i }))
-    ∙ sym (ap (λ b. asWanted a.wanted (meets (condIn a.condition) c.before.label_of.result && b)) c.before.before.flag.ensures)
+    ∙ sym (ap (λ b. as_wanted a.wanted (meets (cond_in a.condition) c.before.label_of.result && b)) c.before.before.flag.ensures)
     ∙ sym c.leads.ensures
 
 leaving-requires : tie.Need-leaving-requires invariant-loop decreases-loop

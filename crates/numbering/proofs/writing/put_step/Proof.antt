@@ -2,7 +2,7 @@
 use borrow.Author.Rules.{rules}
 use native.Mathlib.Omega.{arith}
 use lib.ListN.{length-set}
-use Rattle.listing.proofs.Laws.Stores.{three-stores}
+use Rattle.listing.proofs.Laws.Stores.{three_stores}
 use Rattle.numbering.proofs.writing.put_step.Statement.{statement}
 use Rattle.numbering.proofs.writing.put_step.Tie as tie
 
@@ -13,7 +13,7 @@ slice-write-out-3 : tie.Need-slice-write-out-3
 slice-write-out-3 c = simp length-set (omega arith)
 
 returns : tie.Need-returns
-returns c = three-stores _ _ _ _ _ c.requires.0
+returns c = three_stores _ _ _ _ _ c.requires.0
 
 pub put-step-spec : {M : Type 1} → statement M
 put-step-spec =

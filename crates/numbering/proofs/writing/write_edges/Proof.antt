@@ -6,16 +6,16 @@ use Prim.Native.Nat.{ℕ, ◌+◌, ◌-◌, ◌*◌, ◌≤◌}
 use native.Mathlib.Omega.{arith}
 use lib.ListN.{length}
 use Rattle.columns.specs.inner.Write.{pasted}
-use Rattle.deterministic.specs.Sizes.{mostLetters}
-use Rattle.numbering.specs.inner.Written.{stepsIn, edgesIn, RowFits}
-use Rattle.numbering.proofs.Laws.Puts.{Left, left-start, left_as, part_room, left_after, left-done, edges-turn, edges-over}
+use Rattle.deterministic.specs.Sizes.{most_letters}
+use Rattle.numbering.specs.inner.Written.{steps_in, edges_in, RowFits}
+use Rattle.numbering.proofs.Laws.Puts.{Left, left-start, left_as, part_room, left_after, left_done, edges_turn, edges_over}
 use Rattle.numbering.proofs.writing.write_edges.Statement.{statement}
 use Rattle.numbering.proofs.writing.write_edges.Tie as tie
 
 abbrev invariant-loop : tie.invariant-loop
 invariant-loop next blocks rows numbers n columns count out₀ end₀ i₀ out end i = (i ≤ count) × (length out ≡ length out₀)
-    × (let all = edgesIn next blocks numbers n columns rows 0 count in
-    Left (edgesIn next blocks numbers n columns rows i (count - i)) out end (pasted out₀ (4 + count) all) (4 + count + length all))
+    × (let all = edges_in next blocks numbers n columns rows 0 count in
+    Left (edges_in next blocks numbers n columns rows i (count - i)) out end (pasted out₀ (4 + count) all) (4 + count + length all))
 
 abbrev decreases-loop : tie.decreases-loop
 decreases-loop next blocks rows numbers n columns count out₀ end₀ i₀ out end i = count - i
@@ -27,7 +27,7 @@ loop-holds : tie.Need-loop-init invariant-loop decreases-loop
 loop-holds c =
     let d = c.before in
     let a = d.args in
-    let all = edgesIn a.next.now a.blocks.now a.numbers.now a.n a.columns a.rows.now 0 in
+    let all = edges_in a.next.now a.blocks.now a.numbers.now a.n a.columns a.rows.now 0 in
     let whole : a.count ≡ a.count - 0 = omega arith in
     (omega arith, refl, left_as (ap all whole) (left-start (all a.count) a.out.now (4 + a.count) d.requires.1.1.1))
 
@@ -49,16 +49,16 @@ module _ (c : tie.After-wide invariant-loop decreases-loop) where
   i = in-loop.before.loop.i
 
   abbrev row : ℕ → List ℕ
-  row b = let a = entry.args in stepsIn a.next.now a.blocks.now a.numbers.now a.n a.columns i (b * mostLetters) 0 a.columns
+  row b = let a = entry.args in steps_in a.next.now a.blocks.now a.numbers.now a.n a.columns i (b * most_letters) 0 a.columns
 
   abbrev rest : List ℕ
-  rest = let a = entry.args in edgesIn a.next.now a.blocks.now a.numbers.now a.n a.columns a.rows.now (i + 1) (a.count - (i + 1))
+  rest = let a = entry.args in edges_in a.next.now a.blocks.now a.numbers.now a.n a.columns a.rows.now (i + 1) (a.count - (i + 1))
 
-  left : let a = entry.args in let all = edgesIn a.next.now a.blocks.now a.numbers.now a.n a.columns a.rows.now 0 a.count in
+  left : let a = entry.args in let all = edges_in a.next.now a.blocks.now a.numbers.now a.n a.columns a.rows.now 0 a.count in
       Left (row c.wide.result ++ rest) in-loop.before.loop.out in-loop.before.loop.end (pasted a.out.now (4 + a.count) all) (4 + a.count + length all)
   left =
       let a = entry.args in
-      let turn = edges-turn a.next.now a.blocks.now a.numbers.now a.n a.columns a.rows.now i a.count in-loop.loop-test.taken in
+      let turn = edges_turn a.next.now a.blocks.now a.numbers.now a.n a.columns a.rows.now i a.count in-loop.loop-test.taken in
       left_as (turn ∙ ap (λ b. row b ++ rest) (sym c.wide.ensures)) in-loop.before.loop.inv.2
 
 write-row-requires : tie.Need-write-row-requires invariant-loop decreases-loop
@@ -92,7 +92,7 @@ returns : tie.Need-returns invariant-loop decreases-loop
 returns c =
     let a = c.before.before.before.args in
     let l = c.before.loop in
-    (left-done (edges-over a.next.now a.blocks.now a.numbers.now a.n a.columns a.rows.now l.i a.count c.loop-test.false) l.invariant.2).0
+    (left_done (edges_over a.next.now a.blocks.now a.numbers.now a.n a.columns a.rows.now l.i a.count c.loop-test.false) l.invariant.2).0
 
 pub write-edges-spec : {M : Type 1} → statement M
 write-edges-spec =

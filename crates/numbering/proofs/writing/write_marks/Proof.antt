@@ -8,14 +8,14 @@ use lib.ListN.{length, get_or, take, length-map, length-set}
 use lib.Seq.{length-take-le, slice}
 use Rattle.columns.specs.inner.Write.{pasted}
 use Rattle.columns.proofs.Laws.Pasted.{set-pasted}
-use Rattle.numbering.specs.inner.Written.{mark_of, marksOf}
-use Rattle.numbering.proofs.Laws.Puts.{put_as, Left, left-start, left_as, part_room, left_after, left-done, marks-turn, marks-over}
+use Rattle.numbering.specs.inner.Written.{mark_of, marks_of}
+use Rattle.numbering.proofs.Laws.Puts.{put_as, Left, left-start, left_as, part_room, left_after, left_done, marks_turn, marks_over}
 use Rattle.numbering.proofs.writing.write_marks.Statement.{statement}
 use Rattle.numbering.proofs.writing.write_marks.Tie as tie
 
 abbrev invariant-loop : tie.invariant-loop
 invariant-loop marks rows count out₀ i₀ out i = (i ≤ count) × (length out ≡ length out₀)
-    × Left (map (mark_of marks) (slice i count rows)) out (4 + i) (pasted out₀ 4 (marksOf marks rows count)) (4 + length (marksOf marks rows count))
+    × Left (map (mark_of marks) (slice i count rows)) out (4 + i) (pasted out₀ 4 (marks_of marks rows count)) (4 + length (marks_of marks rows count))
 
 abbrev decreases-loop : tie.decreases-loop
 decreases-loop marks rows count out₀ i₀ out i = count - i
@@ -24,7 +24,7 @@ loop-holds : tie.Need-loop-init invariant-loop decreases-loop
 loop-holds c =
     let d = c.before in
     let a = d.args in
-    let all = marksOf a.marks.now a.rows.now a.count in
+    let all = marks_of a.marks.now a.rows.now a.count in
     let long = length-map (take a.count a.rows.now) (mark_of a.marks.now) in
     let few = length-take-le a.count a.rows.now (omega (arith, d.requires.0.0, d.requires.0.1.0)) in
     (omega arith, refl, left-start all a.out.now 4 (omega (arith, long, few, d.requires.0.1.1)))
@@ -65,7 +65,7 @@ loop-again c =
     let mark = mark_of a.marks.now (get_or a.rows.now l.i 0) in
     let rest = map (mark_of a.marks.now) (slice (l.i + 1) a.count a.rows.now) in
     let mark-is : c.bit.result ≡ mark = c.bit.ensures ∙ ap (mark_of a.marks.now) c.before.before.wide.ensures in
-    let left = left_as (marks-turn a.marks.now a.rows.now l.i a.count there (omega (arith, d.requires.0.0, d.requires.0.1.0))) l.invariant.2 in
+    let left = left_as (marks_turn a.marks.now a.rows.now l.i a.count there (omega (arith, d.requires.0.0, d.requires.0.1.0))) l.invariant.2 in
     let put = set-pasted l.out (4 + l.i) c.bit.result (omega (arith, part_room (mark ∷ []) rest left)) in (
       omega (arith, there),
       length-set l.out (4 + l.i) c.bit.result ∙ l.invariant.1,
@@ -80,7 +80,7 @@ returns c =
     let d = c.before.before.before in
     let a = d.args in
     let l = c.before.loop in
-    (left-done (marks-over a.marks.now a.rows.now l.i a.count c.loop-test.false (omega (arith, d.requires.0.0, d.requires.0.1.0))) l.invariant.2).0
+    (left_done (marks_over a.marks.now a.rows.now l.i a.count c.loop-test.false (omega (arith, d.requires.0.0, d.requires.0.1.0))) l.invariant.2).0
 
 pub write-marks-spec : {M : Type 1} → statement M
 write-marks-spec =

@@ -5,16 +5,16 @@ use Prim.Native.Nat.{ℕ, ◌+◌, ◌-◌, ◌*◌, ◌≤◌}
 use native.Mathlib.Omega.{arith}
 use lib.ListN.{length}
 use Rattle.columns.specs.inner.Write.{pasted}
-use Rattle.deterministic.specs.Sizes.{mostLetters}
-use Rattle.numbering.specs.inner.Written.{stepIn, stepsIn}
-use Rattle.numbering.proofs.Laws.Puts.{Left, left-start, left_as, part_room, left_after, left-done, steps-turn, steps-over}
+use Rattle.deterministic.specs.Sizes.{most_letters}
+use Rattle.numbering.specs.inner.Written.{step_in, steps_in}
+use Rattle.numbering.proofs.Laws.Puts.{Left, left-start, left_as, part_room, left_after, left_done, steps_turn, steps_over}
 use Rattle.numbering.proofs.writing.write_row.Statement.{statement}
 use Rattle.numbering.proofs.writing.write_row.Tie as tie
 
 abbrev invariant-loop : tie.invariant-loop
 invariant-loop next blocks numbers n columns row block out₀ at first end₀ c₀ out end c = (c ≤ columns) × (length out ≡ length out₀)
-    × (let all = stepsIn next blocks numbers n columns row first 0 columns in
-    Left (stepsIn next blocks numbers n columns row first c (columns - c)) out end (pasted out₀ at all) (at + length all))
+    × (let all = steps_in next blocks numbers n columns row first 0 columns in
+    Left (steps_in next blocks numbers n columns row first c (columns - c)) out end (pasted out₀ at all) (at + length all))
 
 abbrev decreases-loop : tie.decreases-loop
 decreases-loop next blocks numbers n columns row block out₀ at first end₀ c₀ out end c = columns - c
@@ -26,8 +26,8 @@ loop-holds : tie.Need-loop-init invariant-loop decreases-loop
 loop-holds c =
     let d = c.before in
     let a = d.args in
-    let first = a.block * mostLetters in
-    let all = stepsIn a.next.now a.blocks.now a.numbers.now a.n a.columns a.row first 0 in
+    let first = a.block * most_letters in
+    let all = steps_in a.next.now a.blocks.now a.numbers.now a.n a.columns a.row first 0 in
     let whole : a.columns ≡ a.columns - 0 = omega arith in
     (omega arith, refl, left_as (ap all whole) (left-start (all a.columns) a.out.now a.at d.requires.1.1.1))
 
@@ -37,19 +37,19 @@ module _ (c : tie.In-loop invariant-loop decreases-loop) where
   entry = c.before.before.before
 
   abbrev first : ℕ
-  first = entry.args.block * mostLetters
+  first = entry.args.block * most_letters
 
   abbrev this : List ℕ
-  this = let a = entry.args in stepIn a.next.now a.blocks.now a.numbers.now a.n a.columns a.row first c.before.loop.c
+  this = let a = entry.args in step_in a.next.now a.blocks.now a.numbers.now a.n a.columns a.row first c.before.loop.c
 
   abbrev from : ℕ → List ℕ
-  from k = let a = entry.args in stepsIn a.next.now a.blocks.now a.numbers.now a.n a.columns a.row first k (a.columns - k)
+  from k = let a = entry.args in steps_in a.next.now a.blocks.now a.numbers.now a.n a.columns a.row first k (a.columns - k)
 
-  left : let a = entry.args in let all = stepsIn a.next.now a.blocks.now a.numbers.now a.n a.columns a.row first 0 a.columns in
+  left : let a = entry.args in let all = steps_in a.next.now a.blocks.now a.numbers.now a.n a.columns a.row first 0 a.columns in
       Left (this ++ from (c.before.loop.c + 1)) c.before.loop.out c.before.loop.end (pasted a.out.now a.at all) (a.at + length all)
   left =
       let a = entry.args in
-      left_as (steps-turn a.next.now a.blocks.now a.numbers.now a.n a.columns a.row first c.before.loop.c c.loop-test.true) c.before.loop.invariant.2
+      left_as (steps_turn a.next.now a.blocks.now a.numbers.now a.n a.columns a.row first c.before.loop.c c.loop-test.true) c.before.loop.invariant.2
 
 write-step-requires : tie.Need-write-step-requires invariant-loop decreases-loop
 write-step-requires c κs =
@@ -83,8 +83,8 @@ returns : tie.Need-returns invariant-loop decreases-loop
 returns c =
     let a = c.before.before.before.args in
     let l = c.before.loop in
-    let over = steps-over a.next.now a.blocks.now a.numbers.now a.n a.columns a.row (a.block * mostLetters) l.c c.loop-test.false in
-    let (x, y) = left-done over l.invariant.2 in
+    let over = steps_over a.next.now a.blocks.now a.numbers.now a.n a.columns a.row (a.block * most_letters) l.c c.loop-test.false in
+    let (x, y) = left_done over l.invariant.2 in
     record { is = x; ends = y }
 
 pub write-row-spec : {M : Type 1} → statement M

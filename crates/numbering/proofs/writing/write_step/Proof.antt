@@ -5,7 +5,7 @@ use mathlib.Core.List.{[], ◌∷◌}
 use Prim.Native.Nat.{◌+◌, ◌-◌, ◌<◌, ◌≤◌}
 use native.Mathlib.Omega.{arith}
 use lib.ListN.{length, get_or}
-use Rattle.deterministic.specs.Sizes.{mostSets}
+use Rattle.deterministic.specs.Sizes.{most_sets}
 use Rattle.block_numbers.specs.inner.Found.{goal}
 use Rattle.numbering.proofs.Laws.Puts.{put-none, put_as, step-none, step-one}
 use Rattle.numbering.proofs.writing.write_step.Statement.{statement}
@@ -28,7 +28,7 @@ module _ (c : tie.After-wide2) where
   block-is : let a = entry.args in c.wide2.result ≡ goal a.next.now a.blocks.now a.n (a.first + a.c)
   block-is = c.wide2.ensures ∙ ap (λ k. get_or entry.args.blocks.now k 0) c.before.before.before.wide.ensures
 
-  small : c.wide2.result < mostSets
+  small : c.wide2.result < most_sets
   small = omega (arith, block-is, entry.pre.0.1 (get_or entry.args.next.now (entry.args.first + entry.args.c) 0) leads, entry.pre.0.0)
 
 mul-wide-3 : tie.Need-overflow-mul-wide-3
@@ -45,7 +45,7 @@ module _ (c : tie.After-wide3) where
   number_is : let a = (entry block).args in c.wide3.result ≡ get_or a.numbers.now (goal a.next.now a.blocks.now a.n (a.first + a.c)) 0
   number_is = c.wide3.ensures ∙ ap (λ k. get_or (entry block).args.numbers.now k 0) (block-is block)
 
-  number-some : (0 < c.wide3.result) × (c.wide3.result ≤ mostSets)
+  number-some : (0 < c.wide3.result) × (c.wide3.result ≤ most_sets)
   number-some = let (x, y) = (entry block).pre.1.1.0 (leads block) in (omega (arith, number_is), omega (arith, number_is))
 
 sub-put-step : tie.Need-overflow-sub-put-step

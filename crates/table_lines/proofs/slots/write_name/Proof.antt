@@ -4,7 +4,7 @@ use mathlib.Core.Path.{◌∙◌}
 use Prim.Native.Nat.{◌*◌}
 use lib.ListN.{length-set}
 use native.Mathlib.Omega.{arith}
-use Rattle.lts.specs.Sizes.{nameSlotLength}
+use Rattle.lts.specs.Sizes.{name_slot_length}
 use Rattle.lts.proofs.Laws.Pasted.{pasted-first}
 use Rattle.table_lines.proofs.slots.write_name.Statement.{statement}
 use Rattle.table_lines.proofs.slots.write_name.Tie as tie
@@ -18,7 +18,7 @@ same_length c = c.before.before.write-at.auto.0 ∙ simp length-set
 returns : tie.Need-returns
 returns c =
     let a = c.before.before.before.before.before.before in
-    c.before.before.write-at.ensures ∙ pasted-first a.args.names.now (a.args.count * nameSlotLength) _ a.args.name.now (omega arith)
+    c.before.before.write-at.ensures ∙ pasted-first a.args.names.now (a.args.count * name_slot_length) _ a.args.name.now (omega arith)
 
 pub write-name-spec : {M : Type 1} → statement M
 write-name-spec =

@@ -6,7 +6,7 @@ use mathlib.Core.List.{[], ◌∷◌, append_assoc}
 use lib.ListN.{take, drop, length-set}
 use lib.Seq.{sets-eq}
 use native.Mathlib.Omega.{arith}
-use Rattle.lts.specs.Sizes.{transitionLength}
+use Rattle.lts.specs.Sizes.{transition_length}
 use Rattle.table_lines.proofs.slots.write_transition.Statement.{statement}
 use Rattle.table_lines.proofs.slots.write_transition.Tie as tie
 
@@ -19,7 +19,7 @@ slice-write-slots-3 c = simp length-set (omega arith)
 returns : tie.Need-returns
 returns c =
     let a = c.before.before.before.args in
-    let i = a.count * transitionLength in
+    let i = a.count * transition_length in
     let l = a.slots.now in
     let second : i + 1 ≡ suc i = omega arith in
     let third : i + 2 ≡ suc (suc i) = omega arith in

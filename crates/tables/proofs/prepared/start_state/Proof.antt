@@ -1,5 +1,5 @@
 -- `start_state` meets its contract.
-use Rattle.lts.specs.inner.Prepared.{tableIn}
+use Rattle.lts.specs.inner.Prepared.{table_in}
 use borrow.Author.Rules.{rules}
 use Rattle.tables.proofs.prepared.start_state.Statement.{statement}
 use Rattle.tables.proofs.prepared.start_state.Tie as tie
@@ -8,7 +8,7 @@ byte-requires : tie.Need-byte-requires
 byte-requires c κs = search rules
 
 returns : tie.Need-returns
-unfolding tableIn
+unfolding table_in
 returns c = search rules
 
 pub start-state-spec : {M : Type 1} → statement M

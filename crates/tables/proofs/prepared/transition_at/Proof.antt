@@ -11,8 +11,8 @@ returns c =
     record {
       step = λ i. record { from = first.count i; label = second.count i; to = third.count i };
       from_byte = first.fits;
-      label-byte = second.fits;
-      to-byte = third.fits;
+      label_byte = second.fits;
+      to_byte = third.fits;
     }
 
 pub transition-at-spec : {M : Type 1} → statement M

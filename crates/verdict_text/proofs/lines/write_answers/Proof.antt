@@ -2,7 +2,7 @@
 use borrow.Author.Rules.{rules}
 use mathlib.Core.Path.{◌≡◌, ◌∙◌}
 use native.Mathlib.Omega.{arith}
-use Rattle.verdict_text.proofs.Laws.Lines.{pair-wide, all-written}
+use Rattle.verdict_text.proofs.Laws.Lines.{pair_wide, all-written}
 use Rattle.verdict_text.proofs.lines.write_answers.Statement.{statement}
 use Rattle.verdict_text.proofs.lines.write_answers.Tie as tie
 
@@ -12,7 +12,7 @@ module _ (c : tie.After-write-pair) where
   start = c.before.before.before.before.before
 
   first_ends : c.write-pair.result ≡ 13
-  first_ends = c.write-pair.ensures.ends ∙ omega (arith, pair-wide start.args.joint start.args.count (omega (arith, start.pre.0)) (omega (arith, start.pre.0)))
+  first_ends = c.write-pair.ensures.ends ∙ omega (arith, pair_wide start.args.joint start.args.count (omega (arith, start.pre.0)) (omega (arith, start.pre.0)))
 
 write-entries-requires : tie.Need-write-entries-requires
 write-entries-requires c κs =

@@ -2,7 +2,7 @@
 use borrow.Author.Rules.{rules}
 use Prim.Native.Nat.{◌-◌, ◌≤◌}
 use native.Mathlib.Omega.{arith}
-use Rattle.columns.proofs.Laws.Pasting.{pasting-length}
+use Rattle.columns.proofs.Laws.Pasting.{pasting_length}
 use Rattle.verdict_text.proofs.Laws.Lines.{LinesBelow, lines_start, line-room, line-more, lines-written}
 use Rattle.verdict_text.proofs.lines.write_entries.Statement.{statement}
 use Rattle.verdict_text.proofs.lines.write_entries.Tie as tie
@@ -53,7 +53,7 @@ loop-again c =
     )
 
 same_length : tie.Need-same-length invariant-loop decreases-loop
-same_length c = pasting-length c.before.loop.invariant.0.pasting
+same_length c = pasting_length c.before.loop.invariant.0.pasting
 
 returns : tie.Need-returns invariant-loop decreases-loop
 returns c =

@@ -4,9 +4,9 @@ use mathlib.Core.Path.{refl, ◌∙◌}
 use Prim.Native.Nat.{◌-◌, ◌<◌}
 use native.Mathlib.Omega.{arith}
 use lib.ListN.{length}
-use Rattle.starts.specs.inner.Search.{enoughStarts}
-use Rattle.verdict_text.specs.VerdictsText.{entriesIn}
-use Rattle.verdict_text.proofs.Laws.Entries.{ReadBelow, read-on, read_all, read-stopped}
+use Rattle.starts.specs.inner.Search.{enough_starts}
+use Rattle.verdict_text.specs.VerdictsText.{entries_in}
+use Rattle.verdict_text.proofs.Laws.Entries.{ReadBelow, read-on, read_all, read_stopped}
 use Rattle.verdict_text.proofs.list.read_list.Statement.{statement}
 use Rattle.verdict_text.proofs.list.read_list.Tie as tie
 
@@ -27,10 +27,10 @@ module _ (c : tie.In-loop invariant-loop decreases-loop) where
   abbrev counted : tie.After-entry-count invariant-loop decreases-loop
   counted = turn.before
 
-  listed : turn.loop.i < length (entriesIn counted.before.before.args.list.now)
+  listed : turn.loop.i < length (entries_in counted.before.before.args.list.now)
   listed = omega (arith, c.loop-test.true, counted.entry-count.ensures.0)
 
-  few : turn.loop.i < enoughStarts
+  few : turn.loop.i < enough_starts
   few = omega (arith, c.loop-test.true, counted.entry-count.ensures.1)
 
 entry-at-requires : tie.Need-entry-at-requires invariant-loop decreases-loop
@@ -40,7 +40,7 @@ returns : tie.Need-returns invariant-loop decreases-loop
 returns c =
     let asked = c.before in
     let here = asked.before in
-    read-stopped _ _ (turn here).loop.i _ (turn here).loop.invariant (listed here) asked.entry_at.ensures c.if1.true
+    read_stopped _ _ (turn here).loop.i _ (turn here).loop.invariant (listed here) asked.entry_at.ensures c.if1.true
 
 narrow-requires : tie.Need-narrow-requires invariant-loop decreases-loop
 narrow-requires c κs = omega (arith, c.if1.false)

@@ -6,18 +6,18 @@ use Prim.Native.Nat.{ℕ, ◌-◌, ◌<◌}
 use native.Mathlib.Omega.{arith}
 use lib.Bits.{bit_or}
 use lib.ListN.{get_or}
-use Rattle.frontier.specs.inner.Frontier.{hasState, placesAdded, allPlaces}
-use Rattle.frontier.proofs.Laws.Through.{left, left_over, left-skip, left-turn}
+use Rattle.frontier.specs.inner.Frontier.{has_state, places_added, all_places}
+use Rattle.frontier.proofs.Laws.Through.{left, left_over, left_skip, left_turn}
 use Rattle.word_reading.proofs.frontiers.all_places.Statement.{statement}
 use Rattle.word_reading.proofs.frontiers.all_places.Tie as tie
 
 abbrev invariant-loop : tie.invariant-loop
-invariant-loop frontier found₀ s₀ found s = (s < 256 → hasState frontier s ≡ true) × (allPlaces frontier ≡ left (placesAdded frontier) 256 s found)
+invariant-loop frontier found₀ s₀ found s = (s < 256 → has_state frontier s ≡ true) × (all_places frontier ≡ left (places_added frontier) 256 s found)
 
 abbrev decreases-loop : tie.decreases-loop
 decreases-loop frontier found₀ s₀ found s = 256 - s
 
-idle : (frontier : List ℕ) (s found : ℕ) → hasState frontier s ≡ false → placesAdded frontier s found ≡ found
+idle : (frontier : List ℕ) (s found : ℕ) → has_state frontier s ≡ false → places_added frontier s found ≡ found
 idle frontier s found e = ap (λ b. cond b (bit_or found (get_or frontier s 0)) found) e
 
 next-state-requires : tie.Need-next-state-requires invariant-loop decreases-loop
@@ -27,7 +27,7 @@ loop-holds : tie.Need-loop-init invariant-loop decreases-loop
 loop-holds c =
     let frontier = c.before.args.frontier.now in
     let first = c.next-state.ensures in
-    (first.found, left-skip (placesAdded frontier) 256 (hasState frontier) (idle frontier) 0 first)
+    (first.found, left_skip (places_added frontier) 256 (has_state frontier) (idle frontier) 0 first)
 
 mul-found : tie.Need-overflow-mul-found invariant-loop decreases-loop
 mul-found c = omega arith
@@ -51,12 +51,12 @@ loop-again c =
     let taken = c.before.before.loop-test.true in
     let first = c.next-state2.ensures in
     let more = bit_or loop.found (get_or frontier loop.s 0) in
-    (first.found, loop.invariant.1 ∙ left-turn (placesAdded frontier) 256 (hasState frontier) (idle frontier) loop.found more taken (ap (λ b. cond b more loop.found) (loop.invariant.0 taken)) first)
+    (first.found, loop.invariant.1 ∙ left_turn (places_added frontier) 256 (has_state frontier) (idle frontier) loop.found more taken (ap (λ b. cond b more loop.found) (loop.invariant.0 taken)) first)
 
 returns : tie.Need-returns invariant-loop decreases-loop
 returns c =
     let frontier = c.before.before.before.args.frontier.now in
-    sym (c.before.loop.invariant.1 ∙ left_over (placesAdded frontier) 256 c.before.loop.s c.before.loop.found c.loop-test.false)
+    sym (c.before.loop.invariant.1 ∙ left_over (places_added frontier) 256 c.before.loop.s c.before.loop.found c.loop-test.false)
 
 pub all-places-spec : {M : Type 1} → statement M
 all-places-spec =

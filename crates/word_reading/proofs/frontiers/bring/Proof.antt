@@ -4,7 +4,7 @@ use mathlib.Core.Bool.{cond}
 use Prim.Native.Nat.{◌+◌, ◌/◌, ◌%◌, ◌^◌}
 use lib.Bits.{bit_or}
 use lib.ListN.{get_or, set}
-use Rattle.frontier.specs.inner.Frontier.{marksAt, places_at, brought}
+use Rattle.frontier.specs.inner.Frontier.{marks_at, places_at, brought}
 use borrow.Author.Rules.{rules}
 use Rattle.word_reading.proofs.frontiers.bring.Statement.{statement}
 use Rattle.word_reading.proofs.frontiers.bring.Tie as tie
@@ -16,7 +16,7 @@ returns c =
     let had : c.before.kept.result ≡ places_at a.frontier.now a.s =
     c.before.kept.ensures ∙ ap (λ b. cond b (get_or a.frontier.now a.s 0) 0) c.before.before.before.has.ensures in
     let bit : c.bit.result ≡ 2 ^ (a.s % 64) = c.bit.ensures in
-    (λ i. set (set a.frontier.now a.s (bit_or (had i) a.places)) (256 + a.s / 64) (bit_or (marksAt a.frontier.now a.s) (bit i)))
+    (λ i. set (set a.frontier.now a.s (bit_or (had i) a.places)) (256 + a.s / 64) (bit_or (marks_at a.frontier.now a.s) (bit i)))
 
 pub bring-spec : {M : Type 1} → statement M
 bring-spec =

@@ -3,13 +3,13 @@ use mathlib.Core.Path.{◌≡◌}
 use mathlib.Core.Bool.{false}
 use Prim.Native.Nat.{ℕ, ◌-◌, ◌≤◌, ◌<◌}
 use native.Mathlib.Omega.{arith}
-use Rattle.frontier.specs.inner.Frontier.{hasState}
+use Rattle.frontier.specs.inner.Frontier.{has_state}
 use Rattle.frontier.proofs.Laws.Frontiers.{state-found, state-later}
 use Rattle.word_reading.proofs.frontiers.next_state.Statement.{statement}
 use Rattle.word_reading.proofs.frontiers.next_state.Tie as tie
 
 abbrev invariant-loop : tie.invariant-loop
-invariant-loop frontier s v₀ v = (s ≤ v) × (v ≤ 256) × ((j : ℕ) → s ≤ j → j < v → hasState frontier j ≡ false)
+invariant-loop frontier s v₀ v = (s ≤ v) × (v ≤ 256) × ((j : ℕ) → s ≤ j → j < v → has_state frontier j ≡ false)
 
 abbrev decreases-loop : tie.decreases-loop
 decreases-loop frontier s v₀ v = 256 - v
