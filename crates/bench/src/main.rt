@@ -1,4 +1,6 @@
 // The scope's bench sheet and the lines of later requests, run: for each line the table's name and the formula, the listing or the refusal, and the answers for some words.
+#![tactic(auto)]
+
 mod asking;
 mod sheet;
 mod writing;

@@ -1,4 +1,6 @@
 // Going through the places of a mask, a number of 64 bits, from the lowest on.
+#![tactic(auto)]
+
 ghost use Rattle.std.specs.Prelude.{◌≡◌, ◌-◌, ◌^◌};
 ghost use Rattle.std.specs.Int.Count.{count_trailing_zeros};
 

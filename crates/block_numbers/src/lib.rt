@@ -1,2 +1,4 @@
 // Blocks numbered as a search from the first one meets them.
+#![tactic(auto)]
+
 pub mod finding;

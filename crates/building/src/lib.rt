@@ -1,4 +1,6 @@
 // Building the rows and edges of the automaton.
+#![tactic(auto)]
+
 use formula_check::inputs::{Inputs, Unprepared, check_inputs};
 
 pub mod building;

@@ -1,4 +1,6 @@
 // Numbers in six columns, the form of every number in the texts of tables and listings.
+#![tactic(auto)]
+
 pub mod kept;
 pub mod small;
 pub mod write;

@@ -1,4 +1,6 @@
 // What the program `print_combined` writes for its two files: the text of the table in which both tables run side by side, or the refusal's line.
+#![tactic(auto)]
+
 ghost use Rattle.std.specs.Prelude.{◌≡◌, ◌≤◌, length};
 ghost use Rattle.explanations.specs.inner.Printed.{TextWritten};
 ghost use Rattle.files.specs.inner.Writing.{PrefixLength};

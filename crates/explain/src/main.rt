@@ -1,4 +1,6 @@
 // The program `explain`: reads table.txt and formula.txt in the folder that it runs in, and writes the listing or the refusal's line.
+#![tactic(auto)]
+
 use explained_text::explain_files;
 use explanations::sizes::{KEPT, TEXT_LENGTH};
 use folder::{read_table_lem, scan_formula};

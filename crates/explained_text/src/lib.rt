@@ -1,5 +1,7 @@
 // What the program `explain` writes for its two files. They may be of any length: of the table 20,322 bytes are enough, of the formula
 // what crate `files` keeps.
+#![tactic(auto)]
+
 ghost use Rattle.std.specs.Prelude.{◌≤◌, take};
 ghost use Rattle.explanations.specs.inner.Sizes.{kept_length};
 ghost use Rattle.explanations.specs.inner.Printed.{TextWritten};

@@ -1,4 +1,6 @@
 // From two texts to the automaton in one call.
+#![tactic(auto)]
+
 ghost use Rattle.std.specs.Prelude.{◌≤◌, length};
 ghost use Rattle.actl.specs.Sizes.{formula_length};
 ghost use Rattle.lts.specs.Sizes.{table_length};

@@ -1,4 +1,6 @@
 // What is kept of a formula file of any length: its first 513 bytes, its length and its last byte. A refusal's line tells that length.
+#![tactic(auto)]
+
 ghost use Rattle.std.specs.Prelude.{◌≡◌, ◌+◌, ◌≤◌, min, length};
 ghost use Rattle.explanations.specs.inner.Sizes.{kept_length};
 ghost use Rattle.explanations.specs.inner.Printed.{TextWritten};

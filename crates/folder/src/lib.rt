@@ -1,4 +1,6 @@
 // What the programs read: table.txt and formula.txt in the folder that they run in, or two tables, first.txt and second.txt.
+#![tactic(auto)]
+
 ghost use Rattle.io.specs.Counts.{IsPrefixLen};
 ghost use Rattle.files.specs.inner.Scan.{scan_start};
 ghost use Rattle.folder.specs.inner.Scanning.{ScannedOn};

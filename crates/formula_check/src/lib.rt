@@ -1,2 +1,4 @@
 // Whether formula bytes are prepared, and what every entry over prepared bytes tests first.
+#![tactic(auto)]
+
 pub mod inputs;

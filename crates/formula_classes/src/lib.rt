@@ -1,4 +1,6 @@
 // Walking a formula's nodes for numbering and classes: over their kinds in node order, from a node into its arms.
+#![tactic(auto)]
+
 ghost use Rattle.std.specs.Prelude.{◌≡◌, ◌+◌, ◌*◌, ◌<◌, ◌≤◌, length, get_or, set};
 ghost use Rattle.std.proofs.Math.Option.{none};
 ghost use Rattle.actl.specs.Sizes.{most_nodes, formula_length};

@@ -1,4 +1,6 @@
 // A place in a formula's text, by value. Its methods skip blanks, take a token and hand the cursor back.
+#![tactic(auto)]
+
 ghost use Rattle.std.specs.Prelude.{◌≤◌, length};
 ghost use Rattle.actl.specs.inner.Cursor.{Skipped};
 ghost use Rattle.formula_cursor.specs.inner.CursorReplies.{MarkAnswer, TokenAnswer, KeywordAnswer, NameAnswer};

@@ -1,4 +1,6 @@
 // Reading a keyword with its square bracket: its node, without the arm. A short form's node is that of what it stands for.
+#![tactic(auto)]
+
 ghost use Rattle.std.specs.Prelude.{◌≡◌, ◌≤◌, length, get_or};
 ghost use Rattle.actl.specs.Sizes.{longest_text};
 ghost use Rattle.lts.specs.inner.HoldsTable.{HoldsTable};

@@ -1,4 +1,6 @@
 // A keyword with what stands in its square brackets, as text.
+#![tactic(auto)]
+
 ghost use Rattle.std.specs.Prelude.{true, [], ◌∷◌, ◌++◌, ◌≡◌};
 ghost use Rattle.lts.specs.Steps.{labels};
 ghost use Rattle.lts.specs.inner.Prepared.{table_in};

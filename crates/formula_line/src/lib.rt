@@ -1,4 +1,6 @@
 // What the program `print_formula` writes for its two files: the formula as it is written back, with an LF behind it, or the refusal's line.
+#![tactic(auto)]
+
 ghost use Rattle.std.specs.Prelude.{◌≡◌, ◌+◌, ◌≤◌, ◌<◌, length, set};
 ghost use Rattle.actl.specs.Sizes.{longest_text};
 ghost use Rattle.explanations.specs.inner.Sizes.{kept_length};

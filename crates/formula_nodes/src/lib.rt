@@ -1,4 +1,6 @@
 // The nodes of a text, written out and stored as in a prepared formula. Of more than 40 nodes no place is told: they are counted alone.
+#![tactic(auto)]
+
 ghost use Rattle.std.specs.Prelude.{◌≡◌, [], ◌++◌, ◌+◌, ◌≤◌, length};
 ghost use Rattle.actl.specs.Sizes.{formula_length};
 ghost use Rattle.actl.specs.Prepared.{slot_bytes};

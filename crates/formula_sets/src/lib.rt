@@ -1,4 +1,6 @@
 // Reading a set of labels: readers that call each other, each from a cursor to the cursor behind what it read.
+#![tactic(auto)]
+
 ghost use Rattle.std.specs.Prelude.{◌≡◌, ◌^◌, ◌<◌, suc, cond};
 ghost use Rattle.std.proofs.Math.Option.{some};
 ghost use Rattle.actl.specs.Sizes.{longest_text};

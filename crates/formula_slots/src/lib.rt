@@ -1,4 +1,6 @@
 // The check that prepared formula bytes are the one form of a formula, over a table's labels.
+#![tactic(auto)]
+
 ghost use Rattle.std.specs.Prelude.{◌≡◌, ◌&&◌, ◌||◌, ◌+◌, ◌*◌, ◌<◌, ◌≤◌, eqb, leb, length};
 ghost use Rattle.actl.specs.Sizes.{most_nodes, formula_length};
 ghost use Rattle.lts.specs.Sizes.{most_labels};

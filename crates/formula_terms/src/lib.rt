@@ -1,5 +1,7 @@
 // Reading a formula's text: the readers of terms, brackets and formulas call each other, each from a cursor to the cursor behind what it
 // read. What they make of it: the nodes of the text written out, in preorder, stored as in a prepared formula, and the first name that the table lacks.
+#![tactic(auto)]
+
 ghost use Rattle.std.specs.Prelude.{◌≡◌, ◌≤◌, length};
 ghost use Rattle.actl.specs.Sizes.{longest_text, formula_length};
 ghost use Rattle.lts.specs.inner.HoldsTable.{HoldsTable};

@@ -1,4 +1,6 @@
 // Reading a formula's text over a prepared table.
+#![tactic(auto)]
+
 ghost use Rattle.std.specs.Prelude.{◌≡◌, ◌≤◌, length};
 ghost use Rattle.lts.specs.inner.HoldsTable.{HoldsTable};
 ghost use Rattle.actl.specs.Sizes.{formula_length};

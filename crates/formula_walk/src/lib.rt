@@ -1,4 +1,6 @@
 // One walk over a formula's nodes: each writes itself, and behind an arm's T comes what is pending, `)` and `|` as bytes.
+#![tactic(auto)]
+
 ghost use Rattle.std.specs.Prelude.{true, ◌≡◌, ◌+◌, length, false};
 ghost use Rattle.lts.specs.Steps.{labels};
 ghost use Rattle.lts.specs.inner.HoldsTable.{HoldsTable};

@@ -1,3 +1,5 @@
 // Sets of rows kept in bytes, one behind the other.
+#![tactic(auto)]
+
 pub mod kept;
 pub mod words;

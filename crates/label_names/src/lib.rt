@@ -1,6 +1,8 @@
 // Names of labels: where a name ends in a text and which direction its mark gives it, whether two are equal, and where one stands in slots
 // of names. A slot has 16 bytes: the name's length, its bytes, zeros. A name is compared where it stands, and none is copied. Nothing else
 // knows the bytes of a name; two slots of a prepared table are compared whole, by `table_check`.
+#![tactic(auto)]
+
 ghost use Rattle.std.specs.Prelude.{◌≡◌, ◌+◌, ◌*◌, ◌≤◌, ◌<◌, suc, length};
 ghost use Rattle.lts.specs.Sizes.{most_labels, name_slot_length, table_length};
 ghost use Rattle.columns.specs.Bytes.{same_bytes};

@@ -1,4 +1,6 @@
 // Where the nodes of a formula hold, and the verdict.
+#![tactic(auto)]
+
 use actl::sizes::NODE_POSITIONS;
 use formula_check::inputs::{Inputs, Unprepared, check_inputs};
 use formula_classes::shape_of;

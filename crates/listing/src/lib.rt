@@ -1,4 +1,6 @@
 // Rows and edges in lent places: written and read, each in its place.
+#![tactic(auto)]
+
 ghost use Rattle.std.specs.Prelude.{◌≡◌, ◌+◌, ◌*◌, ◌≤◌, ◌<◌, length};
 ghost use Rattle.automaton.specs.Bytes.{row_length, edge_length, bit_of, edge_at};
 ghost use Rattle.columns.specs.Bytes.{low_first};

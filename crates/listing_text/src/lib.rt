@@ -1,4 +1,6 @@
 // The listing as text, by the bytes of rows and edges.
+#![tactic(auto)]
+
 ghost use Rattle.std.specs.Prelude.{◌≡◌, true, false, ◌+◌, ◌*◌, ◌≤◌, length};
 ghost use Rattle.automaton.specs.Bytes.{row_length, edge_length};
 ghost use Rattle.explanations.specs.Printed.{refusal_line};

@@ -1,4 +1,6 @@
 // Partition refinement (Moore) of a deterministic table: round by round, until a round changes nothing. A block is named by its lowest state.
+#![tactic(auto)]
+
 ghost use Rattle.std.specs.Prelude.{◌≡◌, List, ◌&&◌, ℕ, suc, ◌+◌, ◌*◌, ◌<◌, ◌≤◌, eqb, length, take, drop, get_or};
 ghost use Rattle.lts.specs.inner.Answers.{Decides};
 ghost use Rattle.deterministic.specs.Sizes.{most_sets, most_letters, work_length};

@@ -1,4 +1,6 @@
 // The blocks of a deterministic table, numbered breadth first by rising label, and the automaton written.
+#![tactic(auto)]
+
 pub mod writing;
 
 ghost use Rattle.std.specs.Prelude.{◌≡◌, ◌++◌, ℕ, ◌*◌, ◌<◌, ◌≤◌, length, get_or, take};

@@ -1,5 +1,7 @@
 // The steps of a table as refinement reads them: in lent bytes, column by column, two bytes for each state. A column in which no state leads to a
 // state is left out.
+#![tactic(auto)]
+
 ghost use Rattle.std.specs.Prelude.{◌≡◌, false, cond, ◌+◌, ◌*◌, ◌<◌, ◌≤◌, length, drop};
 ghost use Rattle.deterministic.specs.Sizes.{most_sets, most_letters, work_length};
 ghost use Rattle.packed_steps.specs.inner.Packed.{entry_at, EntryPut, target_in, Nowhere, ColumnTo, Packed, Sized};

@@ -1,5 +1,7 @@
 // The program `print_combined`: reads first.txt and second.txt in the folder that it runs in, and writes the text of the table in which both tables run side
 // by side, or the refusal's line.
+#![tactic(auto)]
+
 use combined_text::{COMBINED_LENGTH, write_combined_of};
 use folder::{read_first, read_second};
 use libc::STDOUT_FILENO;

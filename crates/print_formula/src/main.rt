@@ -1,4 +1,6 @@
 // The program `print_formula`: reads table.txt and formula.txt in the folder that it runs in, and writes the formula as it is written back, or the refusal's line.
+#![tactic(auto)]
+
 use explanations::sizes::KEPT;
 use folder::{read_table_lem, scan_formula};
 use formula_line::{LINE_LENGTH, write_line_of};

@@ -1,5 +1,7 @@
 // The program `print_smallest`: reads table.txt and formula.txt in the folder that it runs in, and writes the text of the smallest deterministic automaton with
 // the words that `explain` lists, or the refusal's line.
+#![tactic(auto)]
+
 use explanations::sizes::KEPT;
 use folder::{read_table_lem, scan_formula};
 use libc::STDOUT_FILENO;

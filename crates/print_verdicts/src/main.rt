@@ -1,5 +1,7 @@
 // The program `print_verdicts`: reads table.txt and formula.txt in the folder that it runs in, and a list of states from its standard input, and writes
 // the verdict at each of them, or the refusal's line.
+#![tactic(auto)]
+
 use explanations::sizes::KEPT;
 use folder::{read_table_lem, scan_formula};
 use libc::{STDIN_FILENO, STDOUT_FILENO};

@@ -1,4 +1,6 @@
 // The number and the figure of each reply, which the C interface hands out: of reading, of verdicts, of building and of words.
+#![tactic(auto)]
+
 ghost use Rattle.std.specs.Prelude.{◌≡◌};
 ghost use Rattle.table_text.specs.Replies.{table_reply};
 ghost use Rattle.formula_text.specs.Replies.{formula_reply};

@@ -1,4 +1,6 @@
 // Building, and beside the rows and edges the smallest deterministic automaton with the same words.
+#![tactic(auto)]
+
 use crate::beside::beside;
 use actl::sizes::FORMULA_LENGTH;
 use deterministic::sizes::{SMALLEST_LENGTH, WORK_LENGTH};

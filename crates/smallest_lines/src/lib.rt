@@ -1,4 +1,6 @@
 // What the program `print_smallest` writes for its two files: the text of the smallest deterministic automaton, or the refusal's line.
+#![tactic(auto)]
+
 ghost use Rattle.std.specs.Prelude.{◌≡◌, ◌≤◌, length};
 ghost use Rattle.deterministic.specs.Sizes.{smallest_length};
 ghost use Rattle.explanations.specs.inner.Printed.{TextWritten};

@@ -1,4 +1,6 @@
 // The number and the figure of each reply of the entry `smallest`.
+#![tactic(auto)]
+
 ghost use Rattle.std.specs.Prelude.{◌≡◌};
 ghost use Rattle.smallest.specs.Replies.{smallest_reply};
 ghost use Rattle.replies.specs.inner.Says.{Says};

@@ -1,4 +1,6 @@
 // The text of a deterministic automaton, from its bytes.
+#![tactic(auto)]
+
 ghost use Rattle.std.specs.Prelude.{◌≡◌, [], ◌∷◌, ◌++◌, ◌+◌, ◌*◌, ◌≤◌, ◌<◌, length};
 ghost use Rattle.deterministic.specs.Automata.{Automaton};
 ghost use Rattle.explanations.specs.inner.Printed.{TextWritten};

@@ -1,4 +1,6 @@
 // The search for the first wrong entry of a list of starts.
+#![tactic(auto)]
+
 ghost use Rattle.std.specs.Prelude.{◌≡◌, cond, ◌≤◌, min, length};
 ghost use Rattle.std.proofs.Math.Option.{none, some};
 ghost use Rattle.lts.specs.Sizes.{most_states};

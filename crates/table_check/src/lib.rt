@@ -1,4 +1,6 @@
 // Whether bytes are a prepared table: the counts, each name's slot, each transition's slot, and zeros in the slots that are not used.
+#![tactic(auto)]
+
 ghost use Rattle.std.specs.Prelude.{◌≡◌, ◌+◌, ◌*◌, ◌≤◌, ◌<◌, length};
 ghost use Rattle.lts.specs.Sizes.{most_labels, most_transitions, table_length};
 ghost use Rattle.lts.specs.Steps.{labels};

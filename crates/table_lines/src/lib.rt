@@ -1,4 +1,6 @@
 // The lines of a table's text: what each says, where the next one starts, and whether its numbers are in range.
+#![tactic(auto)]
+
 ghost use Rattle.std.specs.Prelude.{◌≡◌, ◌+◌, ◌<◌, ◌≤◌, eqb, length, get_or};
 ghost use Rattle.lts.specs.Reading.{header_in_range, step_in_range};
 ghost use Rattle.table_lines.specs.inner.LineReplies.{pair_at, header, HeaderAnswer, LabelAnswer, TransitionAnswer};

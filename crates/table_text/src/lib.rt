@@ -1,5 +1,7 @@
 // Reading a table's text, line by line. Names and transitions are gathered in local bytes, laid out as in the prepared table, so that
 // the lent bytes are written only when the whole text is accepted.
+#![tactic(auto)]
+
 ghost use Rattle.std.specs.Prelude.{◌≡◌, ◌+◌, ◌<◌, ◌≤◌, length, replicate};
 ghost use Rattle.lts.specs.Sizes.{most_states, most_labels, most_transitions};
 ghost use Rattle.lts.specs.inner.Sizes.{names_length, transitions_length};

@@ -1,5 +1,7 @@
 // The places that a step leads to, as masks, and the final places of a prepared formula: from the last node to the first, so that arms
 // come before their node.
+#![tactic(auto)]
+
 ghost use Rattle.std.specs.Prelude.{◌≡◌, cond, not, ◌+◌, ◌^◌, ◌<◌, ◌≤◌, eqb, length, get_or};
 ghost use Rattle.actl.specs.Sizes.{most_nodes, formula_length};
 ghost use Rattle.automaton.specs.inner.Sizes.{column_count, masks_length};

@@ -1,4 +1,6 @@
 // What the program `print_verdicts` writes for its two files and its list: the verdict at each state of the list, or the refusal's line.
+#![tactic(auto)]
+
 ghost use Rattle.std.specs.Prelude.{◌≡◌, ◌≤◌, min, length, take};
 ghost use Rattle.lts.specs.Sizes.{most_states};
 ghost use Rattle.explanations.specs.inner.Printed.{TextWritten};

@@ -1,4 +1,6 @@
 // One formula, many starts: the verdict at each state of a list, from one labelling of the table.
+#![tactic(auto)]
+
 ghost use Rattle.std.specs.Prelude.{◌≡◌, cond, ◌&&◌, ◌≤◌, length};
 ghost use Rattle.std.proofs.Math.Option.{none};
 ghost use Rattle.lts.specs.Sizes.{most_states};

@@ -1,4 +1,6 @@
 // The letters of a word, one after the other: the positions that they reach. No rows are built.
+#![tactic(auto)]
+
 use crate::frontiers::{all_places, bring, clear, next_bit, next_state};
 use automaton::sizes::{COLUMNS, MASKS_LENGTH, PLACES};
 use frontier::sizes::FRONTIER;

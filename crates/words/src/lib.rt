@@ -1,4 +1,6 @@
 // Whether the automaton accepts a word: the positions that its letters reach, as a mask of places for each state. No rows are built.
+#![tactic(auto)]
+
 ghost use Rattle.std.specs.Prelude.{◌≡◌, ◌≤◌};
 ghost use Rattle.actl.specs.Sizes.{most_nodes};
 ghost use Rattle.lts.specs.Reply.{accepted};

@@ -1,4 +1,6 @@
 // Writing a prepared formula back as text, over its table.
+#![tactic(auto)]
+
 ghost use Rattle.std.specs.Prelude.{◌≡◌, ◌≤◌, length};
 ghost use Rattle.actl.specs.Sizes.{longest_text};
 ghost use Rattle.lts.specs.Steps.{labels};

@@ -1,4 +1,6 @@
 // Writing a prepared table back as text.
+#![tactic(auto)]
+
 ghost use Rattle.std.specs.Prelude.{◌≡◌};
 ghost use Rattle.write_table.specs.Replies.{text_reply};
 ghost use Rattle.write_table.specs.TableWriting.{table_written, table_text_left, ReadsBack};

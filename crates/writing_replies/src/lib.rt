@@ -1,4 +1,6 @@
 // The number and the figure of each reply of the entries that write a text or a table.
+#![tactic(auto)]
+
 ghost use Rattle.write_formula.specs.Replies.{write_reply};
 ghost use Rattle.combine.specs.Replies.{combine_reply};
 ghost use Rattle.write_table.specs.Replies.{text_reply};

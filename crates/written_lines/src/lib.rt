@@ -1,4 +1,6 @@
 // The lines of a table's text, each at a place of the lent buffer: the header, the labels, the transitions.
+#![tactic(auto)]
+
 ghost use Rattle.std.specs.Prelude.{◌≡◌, ◌+◌, ◌*◌, ◌≤◌, ◌<◌, suc, length};
 ghost use Rattle.columns.specs.inner.Write.{pasted};
 ghost use Rattle.lts.specs.Sizes.{longest_table_text};
