@@ -135,7 +135,7 @@ module _ {A B : Type 0} where
       step h (inl e) = (x, Memᴰ.head refl, e)
       step h (inr d) = let (z, n, e) = h d in (z, Memᴰ.tail n, e)
 
-  pub map-to : (f : A → B) {l : List A} {x : A} → Memᴰ x l → Memᴰ (f x) (map f l)
+  pub map-to : (f : A → B) {x : A} {l : List A} → Memᴰ x l → Memᴰ (f x) (map f l)
   map-to f (Memᴰ.head e) = Memᴰ.head (ap f e)
   map-to f (Memᴰ.tail m) = Memᴰ.tail (map-to f m)
 
@@ -168,7 +168,7 @@ module _ {A B : Type 0} where
       step h (inl d) = (x, Memᴰ.head refl, d)
       step h (inr d) = let (z, n, e) = h d in (z, Memᴰ.tail n, e)
 
-  pub bind_to : (f : A → List B) {l : List A} {x : A} {y : B} → Memᴰ x l → Memᴰ y (f x) → Memᴰ y (bind f l)
+  pub bind_to : (f : A → List B) {x : A} {l : List A} {y : B} → Memᴰ x l → Memᴰ y (f x) → Memᴰ y (bind f l)
   bind_to f {y} (Memᴰ.head {x = z} {xs = l} e) m = Memᴰ.append_left (bind f l) (subst (λ x. Memᴰ y (f x)) e m)
   bind_to f (Memᴰ.tail {x = z} d) m = Memᴰ.append_right (f z) (bind_to f d m)
 
@@ -248,7 +248,7 @@ module _ {A : Type 0} (p : A → Bool) (d : A) where
 
 -- Order and members by number.
 module _ {A : Type 0} (d : A) where
-  pub mem_index : {l : List A} {x : A} → Memᴰ x l → (i : ℕ) × (i < length l) × (get_or l i d ≡ x)
+  pub mem_index : {x : A} {l : List A} → Memᴰ x l → (i : ℕ) × (i < length l) × (get_or l i d ≡ x)
   mem_index (Memᴰ.head e) = (0, omega arith, sym e)
   mem_index (Memᴰ.tail m) = let (i, b, e) = mem_index m in (suc i, omega arith, e)
 

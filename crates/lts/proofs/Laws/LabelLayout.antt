@@ -34,8 +34,8 @@ module _ (s : List ℕ) (at : ℕ) where
     abbrev name : List ℕ
     name = take n (drop (at + 7) s)
 
-    is_name : is_name name ≡ true
-    is_name = (run-is-name (drop (at + 7) s) some_byte).1
+    named : is_name name ≡ true
+    named = (run-is-name (drop (at + 7) s) some_byte).1
 
     abbrev label-line : List ℕ
     label-line = label_line number name
@@ -59,15 +59,15 @@ module _ (s : List ℕ) (at : ℕ) where
       bytes = label-line;
       lies = record {
         is_line = ap first_line label-text ∙ line-here label-line (drop (end + 1) s)
-            (each_append NoEnd (column number) (32 ∷ name) (no_end number) (λ z. omega arith, each_weaken High NoEnd (λ b h z. omega arith) name (name-high name is_name)));
+            (each_append NoEnd (column number) (32 ∷ name) (no_end number) (λ z. omega arith, each_weaken High NoEnd (λ b h z. omega arith) name (name-high name named)));
         laid_out = and-true-to (same_bytes label-line (label_line (value_at 0 label-line) (drop 7 label-line))) (is_name (drop 7 label-line))
             (same-to label-line (label_line (value_at 0 label-line) (drop 7 label-line)) (sym (ap₂ label_line number-first name-behind)))
-            (ap is_name name-behind ∙ is_name);
+            (ap is_name name-behind ∙ named);
         within = omega (arith, byte-within s end 10 (omega arith) e);
       };
       numbered = number-first;
       starts = omega arith;
-      ends = omega (arith, length-take-le n (drop (at + 7) s) (run-is-name (drop (at + 7) s) some_byte).0, (name-short name is_name).1);
+      ends = omega (arith, length-take-le n (drop (at + 7) s) (run-is-name (drop (at + 7) s) some_byte).0, (name-short name named).1);
       name = let long : n ≡ end - (at + 7) = omega arith in name-behind ∙ ap (λ k. take k (drop (at + 7) s)) long;
     }
 

@@ -1,0 +1,15 @@
+-- `same_bytes` meets its contract: the bytes before place i are the same.
+use mathlib.Core.Path.{◌≡◌}
+use Prim.Native.Nat.{ℕ, ◌-◌, ◌<◌}
+use native.Mathlib.Omega.{arith}
+use borrow.Author.Count.{below_more}
+use lib.ListN.{length, get_or}
+use Rattle.byte_words.proofs.Laws.Ends.{byte_differs, bytes_same}
+use Rattle.byte_words.proofs.same.same_bytes.Given as goal
+
+-- `same_bytes` meets its contract: the bytes before place i are the same.
+abbrev pub invariant-loop-i : goal.invariant-loop-i
+invariant-loop-i l = (j : ℕ) → j < l.i → get_or l.a j 0 ≡ get_or l.b j 0
+
+abbrev pub decreases-loop-i : goal.decreases-loop-i
+decreases-loop-i l = length l.a - l.i
