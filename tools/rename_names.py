@@ -103,7 +103,8 @@ def main(root):
             word = m[0]
             if word in local or word not in table:
                 return word
-            if path.endswith(".rt") and word in ("main",):
+            if table[word] == word + "_lem" and (not path.endswith(".antt") or m.string[m.end():m.end() + 1] == "."):
+                # A function of src/, or a crate, of that name.
                 return word
             return table[word]
 
@@ -118,6 +119,7 @@ def main(root):
             changed += 1
             with open(path, "w") as f:
                 f.write(new)
+    os.makedirs(os.path.join(root, "tools"), exist_ok=True)
     with open(os.path.join(root, "tools", "names.tsv"), "w") as f:
         for old in sorted(table):
             f.write(f"{old}\t{table[old]}\n")

@@ -12,7 +12,7 @@ use columns::write::write_numbers;
 use combine::combine;
 use lts::sizes::{LONGEST_TABLE_TEXT, TABLE_LENGTH};
 use replies::{Answer, table_answer};
-use table_text::read_table_lem;
+use table_text::read_table;
 use writing_replies::{combine_answer, text_answer};
 
 // The longest text of a table.
@@ -31,7 +31,7 @@ fn read_file(file: &[u8], table: &mut [u8]) -> Answer
     requires { length table.old ≡ table_length }
     ensures { FileRead file.now table.new result }
 {
-    table_answer(read_table_lem(file, table))
+    table_answer(read_table(file, table))
 }
 
 // Two prepared tables, combined and written.

@@ -3,13 +3,13 @@
 
 use explained_text::explain_files;
 use explanations::sizes::{KEPT, TEXT_LENGTH};
-use folder::{read_table_lem, scan_formula};
+use folder::{read_table, scan_formula};
 use libc::STDOUT_FILENO;
 use lts::sizes::ENOUGH_TABLE_TEXT;
 
 fn main() {
     let mut table = [0u8; ENOUGH_TABLE_TEXT];
-    let n = read_table_lem(&mut table);
+    let n = read_table(&mut table);
     let mut head = [0u8; KEPT];
     let scanned = scan_formula(&mut head);
     let mut out = [0u8; TEXT_LENGTH];

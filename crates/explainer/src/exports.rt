@@ -7,7 +7,7 @@ ghost use Rattle.starts.specs.VerdictsAsked.{verdicts_replied, verdicts_left};
 ghost use Rattle.automaton.specs.Build.{build_replied, rows_left, edges_left};
 ghost use Rattle.automaton.specs.WordAsked.{word_replied};
 ghost use Rattle.deterministic.specs.SmallestAsked.{smallest_replied, smallest_rows, smallest_edges, smallest_left, smallest_work};
-ghost use Rattle.written_back_lem.specs.FormulaWriting.{formula_written, text_left};
+ghost use Rattle.written_back.specs.FormulaWriting.{formula_written, text_left};
 ghost use Rattle.write_table.specs.TableWriting.{table_written, table_text_left};
 ghost use Rattle.side_by_side.specs.Combining.{combine_replied, combined_left};
 ghost use Rattle.replies.specs.Interface.{number_in, figure_in, edges_in};
@@ -26,7 +26,7 @@ use replies::{
 };
 use smallest::smallest;
 use smallest_replies::{smallest_answer, smallest_edges};
-use table_text::read_table_lem;
+use table_text::read_table;
 use verdicts::verdicts;
 use words::accepts;
 use write_formula::write_formula;
@@ -38,7 +38,7 @@ pub extern "C" fn explainer_read_table(text: &[u8], table: &mut [u8], figure: &m
     ensures table_after { table.new ≡ table_left text.now table.old }
     ensures figure_after { figure.new ≡ figure_in (λ _. 0) (table_replied text.now table.old) }
 {
-    let answer = table_answer(read_table_lem(text, table));
+    let answer = table_answer(read_table(text, table));
     *figure = answer.figure;
     answer.number
 }

@@ -7,7 +7,7 @@ ghost use Rattle.explanations.specs.inner.BothTexts.{readings};
 
 use formula_text::read_text_over;
 use replies::{formula_answer, table_answer};
-use table_text::read_table_lem;
+use table_text::read_table;
 
 #[derive(Drop)]
 pub enum BothRead {
@@ -24,7 +24,7 @@ pub fn read_both(
     requires { (length table.old ≡ table_length) × (length formula.old ≡ formula_length) }
     ensures { ReadBoth (readings tabletext.now formulatext.now) result table.new formula.new }
 {
-    let first = table_answer(read_table_lem(tabletext, table));
+    let first = table_answer(read_table(tabletext, table));
     if first.number != 0 {
         return BothRead::Refused(first.number, first.figure);
     }

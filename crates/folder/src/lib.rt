@@ -68,7 +68,7 @@ fn read_opened(fd: i32, table: &mut [u8]) -> usize
     count
 }
 
-pub fn read_table_lem(table: &mut [u8]) -> usize
+pub fn read_table(table: &mut [u8]) -> usize
     ensures { IsPrefixLen result table.new }
 {
     read_opened(os::open_read(b"table.txt"), table)

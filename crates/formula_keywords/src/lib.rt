@@ -5,7 +5,7 @@ ghost use Rattle.std.specs.Prelude.{true, [], ◌∷◌, ◌++◌, ◌≡◌};
 ghost use Rattle.lts.specs.Steps.{labels};
 ghost use Rattle.lts.specs.inner.Prepared.{table_in};
 ghost use Rattle.actl.specs.Prepared.{mask_within};
-ghost use Rattle.written_back_lem.specs.FormulaText.{set_text, cond_text, in_square};
+ghost use Rattle.written_back.specs.FormulaText.{set_text, cond_text, in_square};
 ghost use Rattle.formulas.specs.inner.Access.{cond_in};
 ghost use Rattle.formula_pieces.specs.inner.Adds.{Room, Adds, Over, CondWithin};
 

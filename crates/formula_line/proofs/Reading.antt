@@ -24,9 +24,9 @@ use Rattle.replies.specs.inner.Says.{Says}
 use Rattle.replies.specs.declared.Answer.{Answer}
 use Rattle.explaining.proofs.Answers.{said_of}
 use Rattle.explaining.proofs.Into.{WasRead}
-use Rattle.written_back_lem.specs.FormulaText.{formula_text}
-use Rattle.written_back_lem.proofs.Written.{text_in}
-use Rattle.written_back_lem.specs.FormulaWriting.{unless_long, formula_writing, formula_written, text_left}
+use Rattle.written_back.specs.FormulaText.{formula_text}
+use Rattle.written_back.proofs.Written.{text_in}
+use Rattle.written_back.specs.FormulaWriting.{unless_long, formula_writing, formula_written, text_left}
 use Rattle.formula_line.specs.LineText.{written_back}
 use Rattle.formula_line.specs.inner.Back.{WroteBack}
 

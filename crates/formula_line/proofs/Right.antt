@@ -13,7 +13,7 @@ use Rattle.explanations.specs.Printed.{without_end}
 use Rattle.explanations.specs.inner.Printed.{with_length}
 use Rattle.explanations.specs.inner.Sizes.{kept_length}
 use Rattle.explanations.proofs.Beginnings.{NotLength, texts_begun}
-use Rattle.written_back_lem.specs.FormulaText.{formula_text}
+use Rattle.written_back.specs.FormulaText.{formula_text}
 use Rattle.files.specs.declared.Scanned.{Scanned}
 use Rattle.files.specs.inner.Scan.{scan_start, Scan, scan_chunks, ScanOf}
 use Rattle.files.specs.inner.Files.{Begins}

@@ -5,8 +5,8 @@ use Rattle.lts.specs.Reading.{read_table}
 use Rattle.actl.specs.inner.Reading.{read_formula}
 use Rattle.explanations.specs.Explanation.{and_then}
 use Rattle.explanations.specs.Printed.{refusal_line, without_end}
-use Rattle.written_back_lem.specs.FormulaText.{formula_text}
-use Rattle.written_back_lem.specs.FormulaWriting.{unless_long}
+use Rattle.written_back.specs.FormulaText.{formula_text}
+use Rattle.written_back.specs.FormulaWriting.{unless_long}
 
 -- The refusals of the entries in turn: reading the table, reading the formula, writing.
 unfoldable pub written_back : List ℕ → List ℕ → Reply (List ℕ)

@@ -3,7 +3,7 @@ ghost use Rattle.std.specs.Prelude.{true, cond, [], ◌∷◌, ◌++◌, ◌≡�
 ghost use Rattle.lts.specs.Steps.{labels};
 ghost use Rattle.lts.specs.inner.Prepared.{table_in, name_at};
 ghost use Rattle.actl.specs.Prepared.{mask_within};
-ghost use Rattle.written_back_lem.specs.FormulaText.{set_text, members, joined};
+ghost use Rattle.written_back.specs.FormulaText.{set_text, members, joined};
 ghost use Rattle.formula_pieces.specs.inner.Adds.{Adds, Over, label_text};
 
 use crate::text::{put, put_name};

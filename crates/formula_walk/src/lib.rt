@@ -14,7 +14,7 @@ ghost use Rattle.formula_walk.specs.inner.Walk.{Walks, Stack, drained, rested, s
 
 use formula_keywords::{put_keyword, put_until_then};
 use formula_pieces::text::put;
-use formulas::node::{Condition, Node, node_at_lem, node_count};
+use formulas::node::{Condition, Node, node_at, node_count};
 
 // Two bytes for each node.
 const PENDING: usize = 80;
@@ -125,7 +125,7 @@ pub fn write_nodes(table: &[u8], formula: &[u8], out: &mut [u8]) -> usize
     let mut arm = false;
     let mut k: usize = 0;
     while k < count {
-        let node = node_at_lem(formula, k);
+        let node = node_at(formula, k);
         let next = write_node(table, node, arm, &mut pending, top, out, at);
         at = next.at;
         top = next.top;

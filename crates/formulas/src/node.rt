@@ -54,7 +54,7 @@ pub fn node_count(formula: &[u8]) -> usize
 }
 
 // Node k of a formula. `shaped` holds of every node's slot (proofs/Laws/Prepared.antt).
-pub fn node_at_lem(formula: &[u8], k: usize) -> Node
+pub fn node_at(formula: &[u8], k: usize) -> Node
     requires formula_length_in_bounds { formula_length ≤ length formula.now }
     requires k_lt_most_nodes { k < most_nodes }
     requires k_value { shaped (slot_at formula.now k) ≡ true }
@@ -130,7 +130,7 @@ fn put_mask(formula: &mut [u8], at: usize, mask: u64)
     }
 }
 
-// Writes node k where `node_at_lem` reads it.
+// Writes node k where `node_at` reads it.
 pub fn put_node(formula: &mut [u8], k: usize, node: Node)
     requires { 1 + k * node_slot_length + node_slot_length ≤ length formula.old }
     ensures { formula.new ≡ put_at k (slot_of_node node) formula.old }

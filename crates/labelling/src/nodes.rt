@@ -15,7 +15,7 @@ ghost use Rattle.actl.specs.inner.HoldsFormula.{HoldsFormula, ArmsEnd};
 use crate::steps::label_at_once;
 use actl::sizes::{NODE_POSITIONS, NODES};
 use formula_classes::right_arm;
-use formulas::node::{Node, node_at_lem, node_count};
+use formulas::node::{Node, node_at, node_count};
 use lts::sizes::{FIRSTS, STATES, STEPS};
 use tables::prepared::state_count;
 use until_search::links::entering;
@@ -85,7 +85,7 @@ fn row_from_arms(
     requires { ArmsLabelled table.now steps.now firsts.now links.now formula.now ends.now flags.now k }
     ensures { NodeRow table.now formula.now k found.new }
 {
-    let node = node_at_lem(formula, k);
+    let node = node_at(formula, k);
     let arm = row_of(k + 1);
     let other = row_of(right_arm(ends, k));
     label_node(table, steps, firsts, links, node, flags, arm, other, found);

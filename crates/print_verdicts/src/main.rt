@@ -3,14 +3,14 @@
 #![tactic(auto)]
 
 use explanations::sizes::KEPT;
-use folder::{read_table_lem, scan_formula};
+use folder::{read_table, scan_formula};
 use libc::{STDIN_FILENO, STDOUT_FILENO};
 use lts::sizes::ENOUGH_TABLE_TEXT;
 use verdict_lines::{LINES_LENGTH, LIST_LENGTH, write_verdicts_of};
 
 fn main() {
     let mut table = [0u8; ENOUGH_TABLE_TEXT];
-    let n = read_table_lem(&mut table);
+    let n = read_table(&mut table);
     let mut head = [0u8; KEPT];
     let scanned = scan_formula(&mut head);
     let mut list = [0u8; LIST_LENGTH];

@@ -11,7 +11,7 @@ use crate::slots::write_at;
 use lts::sizes::{HEAD, TRANSITIONS_AT};
 
 // The first bytes of a prepared table: the counts, and the start.
-fn head_bytes_lem(counts: HeaderFields) -> [u8; HEAD]
+fn head_bytes(counts: HeaderFields) -> [u8; HEAD]
     requires { (counts.labels ≤ most_labels) × (counts.start < 256) }
     ensures { result ≡ head_bytes (header counts) }
 {
@@ -31,7 +31,7 @@ pub fn write_table(table: &mut [u8], counts: HeaderFields, names: &[u8], slots: 
     requires states_le_most_states { (counts.states ≤ most_states) × ((counts.labels ≤ most_labels) × ((counts.transitions ≤ most_transitions) × (counts.start < 256))) }
     ensures { table.new ≡ overwritten (head_bytes (header counts) ++ (names.now ++ slots.now)) table.old }
 {
-    let head = head_bytes_lem(counts);
+    let head = head_bytes(counts);
     write_at(table, 0, &head);
     write_at(table, HEAD, names);
     write_at(table, TRANSITIONS_AT, slots);

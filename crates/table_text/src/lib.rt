@@ -20,7 +20,7 @@ use table_lines::{
 };
 use tables::lookup::Lookup;
 
-// What `read_table_lem` answers. specs/Replies.antt lists the number and the figure of each case.
+// What `read_table` answers. specs/Replies.antt lists the number and the figure of each case.
 #[derive(Drop)]
 pub enum TableReply {
     Accepted,
@@ -174,7 +174,7 @@ fn is_accepted(reply: TableReply) -> bool
 }
 
 // Reads a table's text into the prepared bytes.
-pub fn read_table_lem(text: &[u8], table: &mut [u8]) -> TableReply
+pub fn read_table(text: &[u8], table: &mut [u8]) -> TableReply
     ensures result_value { table_reply result ≡ table_replied text.now table.old }
     ensures table_after { table.new ≡ table_left text.now table.old }
 {

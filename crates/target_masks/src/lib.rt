@@ -15,7 +15,7 @@ use actl::sizes::{NODE_SLOT, NODES};
 use automaton::sizes::{COLUMNS, MASKS_LENGTH, PLACES};
 use formula_classes::right_arm;
 use formulas::conditions::{in_set, meets, passes};
-use formulas::node::{Node, node_at_lem, node_count};
+use formulas::node::{Node, node_at, node_count};
 use lts::sizes::IDLE;
 
 // Bit k, if it is wanted.
@@ -131,7 +131,7 @@ fn mask_place(formula: &[u8], ends: &[u8; NODES], masks: &mut [u64; MASKS_LENGTH
     ensures { (F : Formula) → Spells formula.now ends.now F → MasksOn F k column_count masks.new }
 {
     let end = node_count(formula);
-    let node = node_at_lem(formula, k);
+    let node = node_at(formula, k);
     let last = is_true(formula, k + 1);
     let right = other_arm(ends, k);
     let mut l: usize = 0;
@@ -170,7 +170,7 @@ pub fn final_places(formula: &[u8], ends: &[u8; NODES]) -> [bool; PLACES]
         k -= 1;
         let arm = finals[k + 1];
         let other = finals[other_arm(ends, k)];
-        finals[k] = node_final(node_at_lem(formula, k), arm, other);
+        finals[k] = node_final(node_at(formula, k), arm, other);
     }
     finals
 }

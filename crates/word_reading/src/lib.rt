@@ -25,7 +25,7 @@ pub fn wide(letter: u8) -> usize
 }
 
 // The target places of a set of places on a label.
-pub fn targets_of_lem(masks: &[u64; MASKS_LENGTH], places: u64, label: usize) -> u64
+pub fn targets_of(masks: &[u64; MASKS_LENGTH], places: u64, label: usize) -> u64
     requires { Carried label }
     ensures { result ≡ targets_of masks.now places label }
 {
@@ -88,7 +88,7 @@ fn read_places(
     requires carried { Carried label × (s < most_states) }
     ensures { next.new ≡ places_read (steps_in steps.now firsts.now s) masks.now places label next.old }
 {
-    let targets = targets_of_lem(masks, places, label);
+    let targets = targets_of(masks, places, label);
     if targets != 0 {
         take_steps(steps, firsts, s, label, targets, next);
     }

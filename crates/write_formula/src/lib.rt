@@ -8,8 +8,8 @@ ghost use Rattle.lts.specs.inner.HoldsTable.{HoldsTable};
 ghost use Rattle.lts.specs.inner.Prepared.{table_in};
 ghost use Rattle.actl.specs.inner.HoldsFormula.{HoldsFormula};
 ghost use Rattle.write_formula.specs.inner.Line.{LineWritten};
-ghost use Rattle.written_back_lem.specs.FormulaWriting.{formula_written, text_left};
-ghost use Rattle.written_back_lem.specs.ReadBack.{Restored};
+ghost use Rattle.written_back.specs.FormulaWriting.{formula_written, text_left};
+ghost use Rattle.written_back.specs.ReadBack.{Restored};
 ghost use Rattle.write_formula.specs.Replies.{write_reply};
 
 use actl::sizes::{FORMULA_LENGTH, LONGEST_TEXT};

@@ -17,8 +17,8 @@ use Rattle.actl.specs.Grammar.{Quantifier, existential, universal, Head, next, u
 use Rattle.actl.specs.Grammar.{Disjunction, conjunction, or, Conjunction, term, and, Term, tru, not, modal, paren, Piece, byte, text_of}
 use Rattle.actl.specs.Grammar.{blanks, pieces_s, pieces_o, pieces_c, pieces_q, pieces_r, pieces_l, pieces_h, pieces_f, pieces_a, pieces_t}
 use Rattle.actl.specs.Grammatical.{Text}
-use Rattle.written_back_lem.specs.Brackets.{count_from, outside, ampersands}
-use Rattle.written_back_lem.proofs.Pairs.{pairs, pairs_a, pairs_t, ands, ands_a, ands_t}
+use Rattle.written_back.specs.Brackets.{count_from, outside, ampersands}
+use Rattle.written_back.proofs.Pairs.{pairs, pairs_a, pairs_t, ands, ands_a, ands_t}
 
 -- So many are counted in the text of these pieces.
 record Counts (c : ℕ) (inside : Bool) (n : ℕ) (l : List Piece) : Type 0 where

@@ -15,9 +15,9 @@ use Rattle.actl.specs.Actions.{mask_of, in_set, silent, labels}
 use Rattle.actl.specs.Formulas.{Formula, tru, not, or, ex, ax, eu, eu_then, class_of, highest_without_class}
 use Rattle.actl.specs.Reading.{with_classes}
 use Rattle.actl.specs.inner.Reading.{read_unlimited}
-use Rattle.written_back_lem.specs.Brackets.{outside, ampersands}
-use Rattle.written_back_lem.specs.FormulaText.{set_text, formula_text}
-use Rattle.written_back_lem.specs.FormulaWriting.{unless_long}
+use Rattle.written_back.specs.Brackets.{outside, ampersands}
+use Rattle.written_back.specs.FormulaText.{set_text, formula_text}
+use Rattle.written_back.specs.FormulaWriting.{unless_long}
 
 -- Over the names N the formula F has this text.
 abbrev Writes : List (List ℕ) → Formula → String → Type 0

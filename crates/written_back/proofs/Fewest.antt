@@ -25,13 +25,13 @@ use Rattle.actl.specs.Reading.{unless_found, unknown_from, with_classes, on_tree
 use Rattle.actl.specs.inner.Prepared.{prepared_formula}
 use Rattle.actl.proofs.Pieces.{shown_text}
 use Rattle.actl.proofs.Laws.Replies.{refusal-is-not-accepted, unless-accepted}
-use Rattle.written_back_lem.specs.FormulaText.{is_or, formula_text}
-use Rattle.written_back_lem.specs.Brackets.{outside, ampersands, FewestBrackets}
-use Rattle.written_back_lem.proofs.Pairs.{pairs, pairs_a, pairs_t, ands, ands_a, ands_t, no_ands}
-use Rattle.written_back_lem.proofs.Counted.{pairs-counted, ands_counted}
-use Rattle.written_back_lem.proofs.SetTrees.{bytes_of}
-use Rattle.written_back_lem.proofs.Trees.{as_term, tree_of, formula_shown}
-use Rattle.written_back_lem.proofs.ReadBack.{as-names}
+use Rattle.written_back.specs.FormulaText.{is_or, formula_text}
+use Rattle.written_back.specs.Brackets.{outside, ampersands, FewestBrackets}
+use Rattle.written_back.proofs.Pairs.{pairs, pairs_a, pairs_t, ands, ands_a, ands_t, no_ands}
+use Rattle.written_back.proofs.Counted.{pairs-counted, ands_counted}
+use Rattle.written_back.proofs.SetTrees.{bytes_of}
+use Rattle.written_back.proofs.Trees.{as_term, tree_of, formula_shown}
+use Rattle.written_back.proofs.ReadBack.{as-names}
 
 -- The pairs that are written around an arm, which has n of its own.
 abbrev pub arm_pairs : Formula → ℕ → ℕ

@@ -33,10 +33,10 @@ use Rattle.actl.proofs.Pieces.{shown_text, on_mentions_lem}
 use Rattle.actl.proofs.Laws.Accepted.{Within}
 use Rattle.actl.proofs.Laws.Expanded.{line_read}
 use Rattle.actl.proofs.Laws.Prepared.{prepared-of, one_form}
-use Rattle.written_back_lem.specs.FormulaText.{formula_text}
-use Rattle.written_back_lem.specs.ReadBack.{Restores, RestoresBytes, ReadsBack, SameText}
-use Rattle.written_back_lem.proofs.SetTrees.{bytes_of}
-use Rattle.written_back_lem.proofs.Trees.{tree_of, formula_shown, formula-read, formula_clear}
+use Rattle.written_back.specs.FormulaText.{formula_text}
+use Rattle.written_back.specs.ReadBack.{Restores, RestoresBytes, ReadsBack, SameText}
+use Rattle.written_back.proofs.SetTrees.{bytes_of}
+use Rattle.written_back.proofs.Trees.{tree_of, formula_shown, formula-read, formula_clear}
 
 -- Every node has a class, so there is no highest one without.
 abbrev EachClassed : List Formula → Type 0

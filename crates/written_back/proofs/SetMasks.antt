@@ -19,9 +19,9 @@ use Rattle.actl.specs.Grammar.{Name, Set, operand, union, name, any, except, Pie
 use Rattle.actl.specs.Meaning.{action_of_set, mask_in}
 use Rattle.actl.specs.Prepared.{mask_within}
 use Rattle.actl.specs.Reading.{unknown_at, unknown_from}
-use Rattle.written_back_lem.proofs.Masks.{mask_by_labels}
-use Rattle.written_back_lem.proofs.SetTrees.{bytes_of, kept_from, joined_to, union_of, set_tree, kept-all, kept-none}
-use Rattle.written_back_lem.proofs.SetTrees.{FoundFrom, names-found, is_one, kept_at}
+use Rattle.written_back.proofs.Masks.{mask_by_labels}
+use Rattle.written_back.proofs.SetTrees.{bytes_of, kept_from, joined_to, union_of, set_tree, kept-all, kept-none}
+use Rattle.written_back.proofs.SetTrees.{FoundFrom, names-found, is_one, kept_at}
 
 module _ (N : List (List ℕ)) (d : ℕ → Direction) (b : ℕ) where
   abbrev is_b : Name → Bool

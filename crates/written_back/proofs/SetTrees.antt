@@ -19,7 +19,7 @@ use Rattle.actl.specs.Actions.{Mask, in_set}
 use Rattle.actl.specs.Grammar.{Name, Set, operand, union, name, any, except}
 use Rattle.actl.specs.Meaning.{label_number}
 use Rattle.actl.specs.inner.Show.{show_s}
-use Rattle.written_back_lem.specs.FormulaText.{members_from, joined, set_text}
+use Rattle.written_back.specs.FormulaText.{members_from, joined, set_text}
 
 -- The names of a table, as bytes.
 abbrev pub bytes_of : List Name → List (List ℕ)

@@ -18,9 +18,9 @@ use Rattle.actl.specs.Prepared.{slot_of, mask_within}
 use Rattle.actl.specs.inner.Show.{show_c, show_f, show_t}
 use Rattle.actl.proofs.Laws.Accepted.{Within}
 use Rattle.actl.proofs.Laws.Classed.{root_among_nodes}
-use Rattle.written_back_lem.specs.FormulaText.{set_text, cond_text, as_arm, formula_text}
-use Rattle.written_back_lem.proofs.SetTrees.{bytes_of, set_tree, set_shown, names-found}
-use Rattle.written_back_lem.proofs.SetMasks.{set-read, Clear, clear_byte, set_clear}
+use Rattle.written_back.specs.FormulaText.{set_text, cond_text, as_arm, formula_text}
+use Rattle.written_back.proofs.SetTrees.{bytes_of, set_tree, set_shown, names-found}
+use Rattle.written_back.proofs.SetMasks.{set-read, Clear, clear_byte, set_clear}
 
 abbrev cond_tree : List Name → Cond → Condition
 cond_tree K silent = dot

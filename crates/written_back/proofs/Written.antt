@@ -23,10 +23,10 @@ use Rattle.actl.specs.inner.Prepared.{prepared_formula}
 use Rattle.actl.proofs.Laws.Foreign.{NotTen, with_formula-numbers, refuses_foreign, answers_refuse_foreign}
 use Rattle.lts.proofs.Laws.Refusals.{with_table-numbers}
 use Rattle.actl.proofs.Laws.Replies.{unless-accepted, long-enough-accepted, on-prepared-accepted, accepted-answer}
-use Rattle.written_back_lem.specs.FormulaText.{formula_text}
-use Rattle.written_back_lem.specs.FormulaWriting.{unless_long, formula_writing, formula_written, text_left}
-use Rattle.written_back_lem.specs.ReadBack.{RestoresBytes, Restored}
-use Rattle.written_back_lem.proofs.ReadBack.{restores_bytes}
+use Rattle.written_back.specs.FormulaText.{formula_text}
+use Rattle.written_back.specs.FormulaWriting.{unless_long, formula_writing, formula_written, text_left}
+use Rattle.written_back.specs.ReadBack.{RestoresBytes, Restored}
+use Rattle.written_back.proofs.ReadBack.{restores_bytes}
 
 -- The text of the table and the formula in prepared bytes.
 abbrev pub text_in : Table → Formula → Reply (List ℕ)

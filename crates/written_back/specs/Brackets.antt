@@ -7,7 +7,7 @@ use Rattle.actl.specs.Grammar.{Disjunction}
 use Rattle.actl.specs.Grammatical.{Text}
 use Rattle.actl.specs.Base.{Base, typed, BaseText}
 use Rattle.actl.specs.Reading.{on_tree}
-use Rattle.written_back_lem.specs.FormulaText.{formula_text}
+use Rattle.written_back.specs.FormulaText.{formula_text}
 
 -- The bytes c outside square brackets, where the Boolean says whether the text begins inside one: a 91 begins it, the next 93 ends it.
 abbrev pub count_from : ℕ → Bool → List ℕ → ℕ

@@ -7,7 +7,7 @@ use Rattle.actl.specs.Sizes.{longest_text}
 use Rattle.actl.specs.inner.Prepared.{prepared_formula}
 use Rattle.actl.specs.FormulaReading.{with_formula, long_enough}
 use Rattle.lts.specs.Prepared.{with_table}
-use Rattle.written_back_lem.specs.FormulaText.{formula_text}
+use Rattle.written_back.specs.FormulaText.{formula_text}
 
 -- 02: "A text over 512 bytes is not written. Errors: 15 for that text, the needed length returned"
 abbrev pub unless_long : List ℕ → Reply (List ℕ)

@@ -8,7 +8,7 @@ use Rattle.actl.specs.Base.{Base, typed, BaseText}
 use Rattle.actl.specs.Reading.{on_tree}
 use Rattle.actl.specs.FormulaReading.{formula_replied, formula_left}
 use Rattle.actl.specs.InPrepared.{InPrepared}
-use Rattle.written_back_lem.specs.FormulaText.{formula_text}
+use Rattle.written_back.specs.FormulaText.{formula_text}
 
 -- Whatever its length, the text is one of the base notation, and what is read from its tree is the formula.
 pub record Restores (N : List (List ℕ)) (F : Formula) : Type 0 where

@@ -3,7 +3,7 @@ use borrow.Author.Rules.{rules}
 use mathlib.Core.Path.{ap, subst}
 use Rattle.lts.specs.Steps.{labels}
 use Rattle.lts.specs.inner.Prepared.{table_in}
-use Rattle.written_back_lem.specs.FormulaText.{cond_text}
+use Rattle.written_back.specs.FormulaText.{cond_text}
 use Rattle.formulas.specs.inner.Access.{cond_in}
 use Rattle.formula_pieces.specs.inner.Adds.{CondWithin}
 use Rattle.formula_pieces.proofs.Laws.Adds.{adds_same}

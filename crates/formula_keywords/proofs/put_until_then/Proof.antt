@@ -4,7 +4,7 @@ use mathlib.Core.List.{◌∷◌}
 use native.Mathlib.Omega.{arith}
 use lib.ListN.{length-append}
 use Rattle.lts.specs.inner.Prepared.{table_in}
-use Rattle.written_back_lem.specs.FormulaText.{set_text}
+use Rattle.written_back.specs.FormulaText.{set_text}
 use Rattle.formula_pieces.proofs.Laws.Adds.{adds_then, room_after, over_after}
 use Rattle.formula_pieces.proofs.Laws.Masks.{set-short}
 use Rattle.formula_keywords.proofs.put_until_then.Statement.{statement}

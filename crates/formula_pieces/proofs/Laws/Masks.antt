@@ -15,8 +15,8 @@ use Rattle.actl.specs.Actions.{Mask, Action, Cond, silent, labels}
 use Rattle.actl.specs.Prepared.{mask_within}
 use Rattle.actl.specs.Meaning.{labels_of}
 use Rattle.actl.proofs.ReadingMasks.{mask-any}
-use Rattle.written_back_lem.specs.FormulaText.{set_text, cond_text, members, joined}
-use Rattle.written_back_lem.proofs.Laws.Sets.{set-text_by_mask, set-text-short}
+use Rattle.written_back.specs.FormulaText.{set_text, cond_text, members, joined}
+use Rattle.written_back.proofs.Laws.Sets.{set-text_by_mask, set-text-short}
 
 module _ (table : List ℕ) (holds : HoldsTable table) (m : Mask) where
   abbrev N : List (List ℕ)

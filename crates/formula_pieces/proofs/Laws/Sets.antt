@@ -13,8 +13,8 @@ use Rattle.lts.specs.Lists.{bind}
 use Rattle.lts.specs.Names.{is_name}
 use Rattle.lts.proofs.Laws.NameRuns.{name-short}
 use Rattle.actl.specs.Actions.{Mask, in_set}
-use Rattle.written_back_lem.specs.FormulaText.{members, joined}
-use Rattle.written_back_lem.proofs.Laws.Sets.{members-to, members-few, members-of, joined-more, joined-short}
+use Rattle.written_back.specs.FormulaText.{members, joined}
+use Rattle.written_back.proofs.Laws.Sets.{members-to, members-few, members-of, joined-more, joined-short}
 use Rattle.formula_pieces.specs.inner.Adds.{Adds, label_text}
 use Rattle.formula_pieces.proofs.Laws.Adds.{adds_then}
 

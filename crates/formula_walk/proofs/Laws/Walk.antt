@@ -12,8 +12,8 @@ use Rattle.actl.specs.Actions.{Mask, Cond, silent, labels}
 use Rattle.actl.specs.Formulas.{Formula, tru, not, or, ex, ax, eu, eu_then, nodes}
 use Rattle.actl.specs.Prepared.{Slot, slot, next_slot, slot_of}
 use Rattle.actl.specs.inner.Prepared.{slot_at}
-use Rattle.written_back_lem.specs.FormulaText.{set_text, cond_text, as_arm, formula_text}
-use Rattle.written_back_lem.proofs.Laws.Sets.{set-text-short}
+use Rattle.written_back.specs.FormulaText.{set_text, cond_text, as_arm, formula_text}
+use Rattle.written_back.proofs.Laws.Sets.{set-text-short}
 use Rattle.formula_walk.specs.inner.Walk.{keyword, slot_text, drained, rested, opening, closing, written_at, arm_after, pending_after}
 use Rattle.formula_walk.specs.inner.Walk.{walked}
 

@@ -13,7 +13,7 @@ use Rattle.actl.specs.Formulas.{Formula, nodes}
 use Rattle.actl.specs.Prepared.{Slot, slot_of}
 use Rattle.actl.specs.inner.Prepared.{slot_at, prepared_formula}
 use Rattle.actl.proofs.Laws.Prepared.{prepared-of, form-slots}
-use Rattle.written_back_lem.specs.FormulaText.{formula_text}
+use Rattle.written_back.specs.FormulaText.{formula_text}
 use Rattle.formula_walk.specs.declared.Place.{Place}
 use Rattle.formula_pieces.specs.inner.Adds.{Adds}
 use Rattle.formula_walk.specs.inner.Walk.{walked, written_at, arm_after, pending_after, stack_of, Walks}

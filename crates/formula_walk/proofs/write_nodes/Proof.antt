@@ -86,7 +86,7 @@ write-node-requires c κs =
         },
         record { long = l.invariant.long; within = omega (arith, l.invariant.few, before_last) },
       ),
-      ap (slot_within (n (begun turn))) c.before.before.node_at_lem.ensures ∙ slot-within (begun turn) l.k (here turn),
+      ap (slot_within (n (begun turn))) c.before.before.node_at.ensures ∙ slot-within (begun turn) l.k (here turn),
     )
 
 loop-again : tie.Need-loop-preserved invariant-loop decreases-loop
@@ -95,8 +95,8 @@ loop-again c =
     let read = written.before.before.before in
     let turn = read.before in
     let start = begun turn in
-    writing_more _ _ _ _ (short start) start.pre.0.0.in_range.few_labels (most turn) (slot_of_node read.node_at_lem.result) written.write-node.result
-    turn.before.loop.invariant turn.loop-test.true read.node_at_lem.ensures written.write-node.ensures
+    writing_more _ _ _ _ (short start) start.pre.0.0.in_range.few_labels (most turn) (slot_of_node read.node_at.result) written.write-node.result
+    turn.before.loop.invariant turn.loop-test.true read.node_at.ensures written.write-node.ensures
 
 same_length : tie.Need-same-length invariant-loop decreases-loop
 same_length c = c.before.loop.invariant.adds.long

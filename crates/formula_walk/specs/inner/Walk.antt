@@ -6,7 +6,7 @@ use Rattle.lts.specs.inner.Prepared.{table_in}
 use Rattle.actl.specs.Formulas.{Formula}
 use Rattle.actl.specs.Prepared.{Slot}
 use Rattle.actl.specs.inner.Prepared.{prepared_formula}
-use Rattle.written_back_lem.specs.FormulaText.{set_text, in_square, formula_text}
+use Rattle.written_back.specs.FormulaText.{set_text, in_square, formula_text}
 use Rattle.formula_walk.specs.declared.Place.{Place}
 use Rattle.formula_pieces.specs.inner.Adds.{Adds}
 

@@ -12,8 +12,8 @@ use Rattle.lts.specs.Reading.{Header, header_in_range, read_table}
 use Rattle.lts.specs.inner.Reading.{read_labels}
 use Rattle.table_lines.specs.inner.LineReplies.{header, HeaderAnswer}
 use Rattle.table_lines.specs.declared.HeaderLine.TheVariants.{Header as LaidHeader}
-use Rattle.table_text.proofs.read_table_lem.Statement.{statement}
-use Rattle.table_text.proofs.read_table_lem.Tie as tie
+use Rattle.table_text.proofs.read_table.Statement.{statement}
+use Rattle.table_text.proofs.read_table.Tie as tie
 
 -- The lent bytes are long enough.
 module _ (c : tie.Else1) where

@@ -116,7 +116,7 @@ loop-again c =
     let start = counted.before.before in (
       omega (arith, taken),
       λ F p. masks_turn_at p start.args.k start.requires.0.1 armed.other_arm.result armed.other_arm.ensures.1
-          loop.masks loop.l (loop.invariant.1 F p) taken read.node_at_lem.result read.node_at_lem.ensures
+          loop.masks loop.l (loop.invariant.1 F p) taken read.node_at.result read.node_at.ensures
           counted.node-count.result counted.node-count.ensures told.is_true.result told.is_true.ensures
           found.result found.ensures.0 _ c.node-mask.ensures,
     )

@@ -12,8 +12,8 @@ use Rattle.bits.specs.inner.Bits.{bit_at}
 use Rattle.frontier.specs.inner.Reached.{targets_added, targets_of}
 use Rattle.frontier.proofs.Laws.Bits.{BitsFrom, bits_all, bits_some, bits_first, bits_rest}
 use Rattle.frontier.proofs.Laws.Through.{left, left_over, left_skip, left_turn}
-use Rattle.word_reading.proofs.targets_of_lem.Statement.{statement}
-use Rattle.word_reading.proofs.targets_of_lem.Tie as tie
+use Rattle.word_reading.proofs.targets_of.Statement.{statement}
+use Rattle.word_reading.proofs.targets_of.Tie as tie
 
 abbrev invariant-loop : tie.invariant-loop
 invariant-loop masks places label at found₀ rest₀ k₀ found rest k =

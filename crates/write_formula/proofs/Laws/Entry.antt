@@ -13,9 +13,9 @@ use Rattle.formula_check.specs.declared.inputs.Inputs.{Inputs}
 use Rattle.formula_check.specs.declared.inputs.Inputs.TheVariants as inputs
 use Rattle.formula_check.specs.Inputs.{inputs_reply}
 use Rattle.formula_check.proofs.Laws.Inputs.{Both, checked, goes_on, inputs_refused}
-use Rattle.written_back_lem.specs.FormulaWriting.{formula_writing, formula_written, text_left}
-use Rattle.written_back_lem.specs.ReadBack.{Restored}
-use Rattle.written_back_lem.proofs.Written.{text_in, with_room, restored}
+use Rattle.written_back.specs.FormulaWriting.{formula_writing, formula_written, text_left}
+use Rattle.written_back.specs.ReadBack.{Restored}
+use Rattle.written_back.proofs.Written.{text_in, with_room, restored}
 use Rattle.write_formula.specs.Replies.{write_reply}
 use Rattle.write_formula.specs.declared.WriteReply.{WriteReply}
 use Rattle.write_formula.specs.declared.WriteReply.TheVariants.{Refused}

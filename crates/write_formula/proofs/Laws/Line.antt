@@ -13,7 +13,7 @@ use Rattle.lts.specs.inner.Prepared.{table_in}
 use Rattle.actl.specs.Sizes.{longest_text}
 use Rattle.actl.specs.Formulas.{Formula}
 use Rattle.actl.specs.inner.Prepared.{prepared_formula}
-use Rattle.written_back_lem.specs.FormulaText.{formula_text}
+use Rattle.written_back.specs.FormulaText.{formula_text}
 use Rattle.write_formula.specs.declared.WriteReply.TheVariants.{Written, TooLong}
 use Rattle.formula_walk.specs.inner.Walk.{TextAdded}
 use Rattle.write_formula.specs.inner.Line.{line_of, LineWritten}

@@ -6,8 +6,8 @@ use Rattle.lts.specs.Steps.{labels}
 use Rattle.lts.specs.inner.Prepared.{table_in}
 use Rattle.actl.specs.Formulas.{Formula}
 use Rattle.actl.specs.inner.Prepared.{prepared_formula}
-use Rattle.written_back_lem.specs.FormulaText.{formula_text}
-use Rattle.written_back_lem.specs.FormulaWriting.{unless_long}
+use Rattle.written_back.specs.FormulaText.{formula_text}
+use Rattle.written_back.specs.FormulaWriting.{unless_long}
 use Rattle.write_formula.specs.Replies.{write_reply}
 use Rattle.write_formula.specs.declared.WriteReply.{WriteReply}
 

@@ -21,7 +21,7 @@ use Rattle.lts.proofs.Silence.{heard}
 use Rattle.actl.specs.Actions.{Mask, in_set}
 use Rattle.actl.specs.Prepared.{mask_within}
 use Rattle.actl.proofs.Laws.Masks.{within_low}
-use Rattle.written_back_lem.specs.FormulaText.{members_from, members, joined, set_text}
+use Rattle.written_back.specs.FormulaText.{members_from, members, joined, set_text}
 
 -- c of the n labels are in the set whose bits, from the first of these labels on, are the number q.
 record Counted (n c q : ℕ) : Type 0 where

@@ -15,7 +15,7 @@ module _ (c : tie.After-table-answer) where
   abbrev start : tie.Start
   start = table-told.before.before.before.before.before.before
 
-  table-held : c.table-answer.result.number ≡ 0 → TableRead start.args.tabletext.now table-told.read_table_lem.last.1.0
+  table-held : c.table-answer.result.number ≡ 0 → TableRead start.args.tabletext.now table-told.read_table.last.1.0
   table-held zero =
       let told = table-told.read_table_lem in
       let a = start.args in
@@ -36,7 +36,7 @@ module _ (c : tie.Else1) where
   abbrev first : tie.After-table-answer
   first = c.before.before
 
-  held : TableRead (start first).args.tabletext.now (table-told first).read_table_lem.last.1.0
+  held : TableRead (start first).args.tabletext.now (table-told first).read_table.last.1.0
   held = table-held first (omega (arith, c.if1.false))
 
 read-text-over-requires : tie.Need-read-text-over-requires
@@ -61,7 +61,7 @@ returns-2 c =
     let a = begun.args in
     let x = held (accepted answer) in
     both-formula-refused a.tabletext.now a.formulatext.now x.table x.read _ _
-    (formula-refused (table-told (first (accepted answer))).read_table_lem.last.1.0 a.formulatext.now a.formula.now begun.pre.1 x.table x.held
+    (formula-refused (table-told (first (accepted answer))).read_table.last.1.0 a.formulatext.now a.formula.now begun.pre.1 x.table x.held
     told.result _ told.ensures answer.formula-answer.ensures (λ e. omega (arith, c.if2.true))) _ _
 
 returns-3 : tie.Need-returns-3
@@ -71,7 +71,7 @@ returns-3 c =
     let begun = start (first (accepted answer)) in
     let a = begun.args in
     let x = held (accepted answer) in
-    let y = formula-read (table-told (first (accepted answer))).read_table_lem.last.1.0 a.formulatext.now a.formula.now begun.pre.1 x.table x.held
+    let y = formula-read (table-told (first (accepted answer))).read_table.last.1.0 a.formulatext.now a.formula.now begun.pre.1 x.table x.held
     told.result told.last.1.1.0 told.ensures answer.formula-answer.ensures (omega (arith, c.if2.false)) in
     both_read a.tabletext.now a.formulatext.now x.table x.read y.formula y.read _ _ x.bytes y.bytes
 

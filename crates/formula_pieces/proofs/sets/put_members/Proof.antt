@@ -8,7 +8,7 @@ use lib.ListN.{take}
 use Rattle.lts.specs.Steps.{labels}
 use Rattle.lts.specs.inner.Prepared.{table_in}
 use Rattle.lts.proofs.Laws.Contents.{name_in_lem}
-use Rattle.written_back_lem.specs.FormulaText.{members, joined}
+use Rattle.written_back.specs.FormulaText.{members, joined}
 use Rattle.formula_pieces.specs.inner.Adds.{Adds}
 use Rattle.formula_pieces.proofs.Laws.Adds.{adds_none, adds_same}
 use Rattle.formula_pieces.proofs.Laws.Sets.{joining_more, joining_all, joining_short}

@@ -8,8 +8,8 @@ use Rattle.actl.specs.inner.Prepared.{slot_at}
 use Rattle.actl.specs.inner.Shaped.{first_used, second_used}
 use Rattle.actl.proofs.Laws.Slots.{shape_of, slot_by_parts, slot_without_masks, slot_with_first}
 use borrow.Author.Rules.{rules}
-use Rattle.formulas.proofs.node.node_at_lem.Statement.{statement}
-use Rattle.formulas.proofs.node.node_at_lem.Tie as tie
+use Rattle.formulas.proofs.node.node_at.Statement.{statement}
+use Rattle.formulas.proofs.node.node_at.Tie as tie
 
 past-four : (n : ℕ) {k : ℕ} → n ≤ k → (k ≡ n → ⊥) → (k ≡ n + 1 → ⊥) → (k ≡ n + 2 → ⊥) → (k ≡ n + 3 → ⊥) → n + 4 ≤ k
 past-four n h a b c d = omega arith

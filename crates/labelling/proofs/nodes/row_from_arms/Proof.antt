@@ -53,7 +53,7 @@ returns c =
           λ l. right.right_arm.ensures (omega (arith, prepared-few n b e)) ∙ ready.arms_end.arms_end F e (k + 1) l in
           node_row (table_in start.args.table.now) ready.table_held.in_range F (prepared-few n b e) k here _ (ready.rows_behind.rows F e)
           _ _ arm.row_of_lem.ensures _ behind-left c.before.before.row-of2.ensures
-          read.node_at_lem.result (read.node_at_lem.ensures ∙ prepared-slot n b e k here) _ c.label-node.ensures;
+          read.node_at.result (read.node_at.ensures ∙ prepared-slot n b e k here) _ c.label-node.ensures;
     }
 
 pub row-from-arms-spec : {M : Type 1} → statement M

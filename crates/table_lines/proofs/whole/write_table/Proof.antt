@@ -19,7 +19,7 @@ returns c =
     let d = a.table.now in
     c.before.before.write-at3.ensures
     ∙ ap (λ x. pasted x transitions_at a.slots.now) (second.write-at2.ensures
-    ∙ ap (λ x. pasted x 6 a.names.now) (first.write-at.ensures ∙ ap (pasted d 0) made.head_bytes_lem.ensures))
+    ∙ ap (λ x. pasted x 6 a.names.now) (first.write-at.ensures ∙ ap (pasted d 0) made.head_bytes.ensures))
     ∙ table-pasted (head_bytes (header a.counts)) a.names.now a.slots.now d refl start.requires.0.1.0 start.requires.0.1.1
 
 pub write-table-spec : {M : Type 1} → statement M

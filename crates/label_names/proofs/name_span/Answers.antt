@@ -7,12 +7,12 @@ use lib.ListN.{take, drop}
 use Rattle.lts.specs.inner.Sizes.{head_length}
 use Rattle.lts.specs.Sizes.{name_slot_length}
 use Rattle.lts.specs.inner.Prepared.{byte_at}
-use Rattle.label_names.proofs.name_span.Statement.{statement}
-use Rattle.label_names.proofs.name_span.Tie as tie
+use Rattle.label_names.proofs.name_span.Goals as goal
 
-returns : tie.Need-returns
+-- `name_span` meets its contract: the slot's first byte is the name's length.
+pub returns : goal.returns
 returns c =
-    let a = c.before.before.args in
+    let a = c.args in
     let b = a.table.now in
     let at = head_length + 1 + a.k * name_slot_length in
     let size = c.byte.ensures in
@@ -23,9 +23,3 @@ returns c =
       short = omega (arith, size.count, size.fits);
       name = ap (λ n. take n (drop at b)) long;
     }
-
-pub name-span-spec : {M : Type 1} → statement M
-name-span-spec =
-    tie.close
-    (tie.spec (λ c. search rules) (λ c. search rules) (λ c. search rules) (λ c. search rules) (λ c κs. search rules) (λ c. search rules)
-    returns)

@@ -1,0 +1,9 @@
+-- `same_direction` compares the directions' numbers.
+use borrow.Author.Rules.{rules}
+use mathlib.Core.Path.{ap₂}
+use lib.Dec.{eqb}
+use Rattle.label_names.proofs.same_direction.Goals as goal
+
+pub returns : goal.returns
+returns c =
+    ap₂ eqb c.direction_code.ensures c.direction_code-2.ensures
