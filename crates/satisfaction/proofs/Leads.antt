@@ -135,7 +135,7 @@ module _ (t : Table) (a : Mask) (P : ℕ → Type 0) (Q : Step → Type 0) where
   leads_ahead h (now d) = let (p, q) = h _ d in (p, 0, λ k l. absurd (omega arith), q)
   leads_ahead h (later x e u) =
       let (p, i, b, q) = leads_ahead h u in
-      (onto t x p, suc i, λ k. elim k [ zero ↦ λ l. e | suc j ↦ λ l. b j (omega arith) ], q)
+      (onto t x p, suc i, λ k. elim k as (λ n. n < suc i → passes a ((onto t x p).step n).label ≡ true) [ zero ↦ λ l. e | suc j ↦ λ l. b j (omega arith) ], q)
 
   pub ahead_leads : ((v : ℕ) (p : Run t v) → Q (p.step 0) → P v) → (i s : ℕ) (p : Run t s) → ((j : ℕ) → j < i → passes a (p.step j).label ≡ true) → Q (p.step i)
       → Leads t a P s

@@ -40,8 +40,8 @@ module _ (t : Table) where
   onto x p = record {
     step = first x.0 p.step;
     starts = x.1;
-    taken = λ i. elim i [ zero ↦ x.2 | suc j ↦ p.taken j ];
-    follows = λ i. elim i [ zero ↦ p.starts | suc j ↦ p.follows j ];
+    taken = λ i. elim i as (λ k. IsStep t (first x.0 p.step k)) [ zero ↦ x.2 | suc j ↦ p.taken j ];
+    follows = λ i. elim i as (λ k. (first x.0 p.step (suc k)).from ≡ (first x.0 p.step k).to) [ zero ↦ p.starts | suc j ↦ p.follows j ];
   }
 
   -- The first step of a run, and the run after it.
@@ -61,4 +61,4 @@ module _ (t : Table) where
   path_extends d s [] h = (any-run s, λ i l. absurd (omega arith))
   path_extends d s (st ∷ p) h =
       let (r, e) = path_extends d st.to p h.2 in
-      (onto (st, h.0, h.1) r, λ i. elim i [ zero ↦ λ l. refl | suc j ↦ λ l. e j (omega arith) ])
+      (onto (st, h.0, h.1) r, λ i. elim i as (λ k. k < suc (length p) → (onto (st, h.0, h.1) r).step k ≡ get_or (st ∷ p) k d) [ zero ↦ λ l. refl | suc j ↦ λ l. e j (omega arith) ])
