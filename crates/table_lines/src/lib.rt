@@ -23,7 +23,7 @@ enum Pair {
 }
 
 // What line 1 says.
-#[derive(Drop)]
+#[derive(Clone, Copy)]
 pub struct HeaderFields {
     pub states: usize,
     pub labels: usize,

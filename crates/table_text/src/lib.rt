@@ -21,7 +21,7 @@ use table_lines::{
 use tables::lookup::Lookup;
 
 // What `read_table` answers. specs/Replies.antt lists the number and the figure of each case.
-#[derive(Drop)]
+#[derive(Clone, Copy)]
 pub enum TableReply {
     Accepted,
     NotLaidOut(usize),

@@ -10,7 +10,7 @@ ghost use Rattle.lts.specs.inner.Answers.{Counted};
 
 use lts::sizes::{LABELS_AT, TARGETS_AT, TRANSITION, TRANSITIONS_AT};
 
-#[derive(Drop)]
+#[derive(Clone, Copy)]
 pub struct Transition {
     pub from: usize,
     pub label: usize,
