@@ -117,8 +117,8 @@ module _ {P : List ℕ → Type 0} {d : Automaton} (h : IsSmallest P d) where
 abbrev pub Match : Automaton → Automaton → ℕ → ℕ → Type 0
 Match d e i j = (i < count d) × (j < count e) × SameWords (Reads d i) (Reads e j)
 
-match_sym : {d e : Automaton} {i j : ℕ} → Match d e i j → Match e d j i
-match_sym (a, b, s) = (b, a, same-sym s)
+match_sym : (d e : Automaton) {i j : ℕ} → Match d e i j → Match e d j i
+match_sym d e (a, b, s) = (b, a, same-sym s)
 
 module _ {P Q : List ℕ → Type 0} {d e : Automaton} (h : IsSmallest P d) (k : IsSmallest Q e) where
   -- A match goes along an edge, if every state can finish.
@@ -168,13 +168,13 @@ module _ {P Q : List ℕ → Type 0} {d e : Automaton} (h : IsSmallest P d) (k :
       early a (inr v) j = inr (v.0 ∙ sym x, omega (arith, v.1))
 
       side : (a : Edge) → a.target ≡ n → Before a (edge i l m) → (j : ℕ) → IsEdge d (edge a.row a.label j) → Match e d a.target j → Dec (j < n) → ⊥
-      side a z r j s v (yes w) = let y : a.target ≡ j = one_left k h a.target j j v (match_sym (g j w (omega arith))) in omega arith
+      side a z r j s v (yes w) = let y : a.target ≡ j = one_left k h a.target j j v (match_sym _ _ (g j w (omega arith))) in omega arith
       side a z r j s v (no w) = not_early h n f (edge a.row a.label j) c s (omega (arith, w)) (early a r j)
 
       case : (a : Edge) → a.target ≡ n → IsEdge e a → Before a (edge i l m) → ⊥
       case a z s r =
           let w = low a r in
-          let (j, v, y) = along k h fe a.row a.row a.label a.target (match_sym (g a.row w (omega arith))) s in
+          let (j, v, y) = along k h fe a.row a.row a.label a.target (match_sym _ _ (g a.row w (omega arith))) s in
           side a z r j v y (dec_lt j n)
 
   next : (n : ℕ) → 1 ≤ n → Same n → n < count d → Match d e n n
@@ -210,7 +210,7 @@ module _ {P Q : List ℕ → Type 0} {d e : Automaton} (h : IsSmallest P d) (k :
     shared a m =
         let r = h.well_formed.in_range a m in
         let (j, n, t) = along h k fd a.row a.row a.label a.target (match_at a.row r.0) m in
-        let z : j ≡ a.target = one_left k h j a.target a.target (match_sym t) (match_sym (match_at a.target r.1)) in
+        let z : j ≡ a.target = one_left k h j a.target a.target (match_sym _ _ t) (match_sym _ _ (match_at a.target r.1)) in
         subst (λ (y : ℕ). IsEdge e (edge a.row a.label y)) z n
 
 finishing : {P Q : List ℕ → Type 0} {d e : Automaton} (h : IsSmallest P d) (k : IsSmallest Q e) → CanFinish d → CanFinish e → SameWords (Accepts d) (Accepts e) → d ≡ e
