@@ -33,7 +33,7 @@ returns-then-not-header_in_range c =
     let lent : List ℕ = c.args.table.now in
     let fields : Header = header c.in-Header.counts in
     let said : HeaderAnswer (text) (LaidHeader c.in-Header.counts) = subst (HeaderAnswer (text)) c.in-Header.is c.header_line.ensures in
-    let (l, lies, values) = said in let w = refused-replies (text) (lent) c.if-table-lt-TABLE_LENGTH.left
+    let (l, lies, values) = said in let w = refused-replies (text) (lent) c.if-table-lt-TABLE_LENGTH.false
     (header_out_of_range (text) l lies (fields) values (sym c.header_in_range.ensures ∙ c.if-not-header_in_range.true)) in
     record { result_value = w.0; table_after = w.1 }
 
@@ -53,7 +53,7 @@ write_table-requires c =
     let in-range : header_in_range (fields) ≡ true = sym c.header_in_range.ensures ∙ c.if-not-header_in_range.false in
     let bounds : HeaderBounds (fields) = header_bounds (fields) in-range in
     let fits = bounds in
-    let kept = c.read_lines-reply.auto in record { table_length_in_bounds = (c.if-table-lt-TABLE_LENGTH.left, (kept.names, kept.slots)); states_le_most_states = (fits.states, (fits.labels, (fits.transitions, fits.start))) }
+    let kept = c.read_lines-reply.auto in record { table_length_in_bounds = (c.if-table-lt-TABLE_LENGTH.false, (kept.names, kept.slots)); states_le_most_states = (fits.states, (fits.labels, (fits.transitions, fits.start))) }
 
 pub returns-then-is_accepted : goal.returns-then-is_accepted
 returns-then-is_accepted c =
@@ -63,7 +63,7 @@ returns-then-is_accepted c =
     let said : HeaderAnswer (text) (LaidHeader c.in-Header.counts) = subst (HeaderAnswer (text)) c.in-Header.is c.header_line.ensures in
     let in-range : header_in_range (fields) ≡ true = sym c.header_in_range.ensures ∙ c.if-not-header_in_range.false in
     let labels-left : read_table (text) ≡ read_labels (fields) (fields).labels [] (drop 25 (text)) = let (l, lies, values) = said in header-accepted (text) l lies (fields) values in-range in
-    let w = written-replies (text) (lent) c.if-table-lt-TABLE_LENGTH.left (fields) _ _ _
+    let w = written-replies (text) (lent) c.if-table-lt-TABLE_LENGTH.false (fields) _ _ _
     c.read_lines-reply.ensures (labels-left)
     (sym c.is_accepted.ensures ∙ c.if-is_accepted.true) _ c.write_table.ensures in
     record { result_value = w.0; table_after = w.1 }
@@ -76,6 +76,6 @@ returns-else-is_accepted c =
     let said : HeaderAnswer (text) (LaidHeader c.in-Header.counts) = subst (HeaderAnswer (text)) c.in-Header.is c.header_line.ensures in
     let in-range : header_in_range (fields) ≡ true = sym c.header_in_range.ensures ∙ c.if-not-header_in_range.false in
     let labels-left : read_table (text) ≡ read_labels (fields) (fields).labels [] (drop 25 (text)) = let (l, lies, values) = said in header-accepted (text) l lies (fields) values in-range in
-    let w = unwritten_replies (text) (lent) c.if-table-lt-TABLE_LENGTH.left (fields) _ _ _
+    let w = unwritten_replies (text) (lent) c.if-table-lt-TABLE_LENGTH.false (fields) _ _ _
     c.read_lines-reply.ensures (labels-left) (sym c.is_accepted.ensures ∙ c.if-is_accepted.false) in
     record { result_value = w.0; table_after = w.1 }

@@ -14,19 +14,17 @@ use Rattle.table_text.proofs.read_transitions.Goals as goal
 
 pub loop-count-init : goal.loop-count-init
 loop-count-init c =
-    let long : length c.args.slots.now ≡ length c.loop-count.slots = ap length c.requires.from_in_bounds.1 ∙ sym c.loop-count.invariant.long in
     let a = c.args in
     record {
       within = c.requires.from_in_bounds.0;
       few = omega arith;
-      long ap length c.requires.from_in_bounds.1;
+      long = ap length c.requires.from_in_bounds.1;
       so_far = λ names e. steps-start (header a.counts) a.text.now a.from names a.slots.now c.requires.from_in_bounds.1;
     }
 
 pub read_transition-progress-requires : goal.read_transition-progress-requires
 read_transition-progress-requires c =
-    let w = omega (arith, c.loop-count.invariant.within, c.loop-count.invariant.few, c.loop-count.invariant.long) in
-    record {at_in_bounds = w.0; states_le_most_states = w.1}
+    record { at_in_bounds = omega (arith, c.loop-count.invariant.within, c.loop-count.invariant.few, c.loop-count.invariant.long); states_le_most_states = omega (arith, c.loop-count.invariant.within, c.loop-count.invariant.few, c.loop-count.invariant.long) }
 
 pub shape_of-slots-in_default : goal.shape_of-slots-in_default
 shape_of-slots-in_default c =
@@ -65,11 +63,11 @@ loop-count-preserved c =
 
 pub overflow_add-result : goal.overflow_add-result
 overflow_add-result c =
-    omega (arith, (c.requires.from_in_bounds, c.requires.states_le_most_states))
+    omega (arith, c.requires.from_in_bounds, c.requires.states_le_most_states)
 
 pub overflow_add-result-then-at-text : goal.overflow_add-result-then-at-text
 overflow_add-result-then-at-text c =
-    omega (arith, (c.requires.from_in_bounds, c.requires.states_le_most_states))
+    omega (arith, c.requires.from_in_bounds, c.requires.states_le_most_states)
 
 pub returns-then-at-text : goal.returns-then-at-text
 returns-then-at-text c =
