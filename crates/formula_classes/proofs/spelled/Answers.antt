@@ -8,21 +8,10 @@ use Rattle.actl.specs.inner.Walk.{kinds_in, Traversed}
 use Rattle.formula_classes.specs.inner.WalkReplies.{Walks}
 use Rattle.formula_classes.proofs.Laws.Walked.{not-spelled, not-ending, spelled_decided}
 use borrow.Author.Rules.{rules}
-use Rattle.formula_classes.proofs.spelled.Statement.{statement}
-use Rattle.formula_classes.proofs.spelled.Tie as tie
 use Rattle.formula_classes.proofs.spelled.Lts as lts
 use Rattle.formula_classes.proofs.spelled.Reads as reads
 use Rattle.formula_classes.proofs.walk_nodes.Reads as walk-nodes-reads
-
-returns : tie.Need-returns
-returns c =
-    let w = c.before.before.before.before.walk-nodes in
-    let a = c.before.before.before.before.before.before.before.before.args in
-    let broken = subst
-    (Walks (kinds_in a.formula.now a.count) (replicate 40 0) w.new.1.1.0 (replicate 40 0) w.new.1.1.1.0 0)
-    c.enum_told.given.1
-    w.ensures in
-    decided_no (not-spelled a.formula.now a.count broken)
+use Rattle.formula_classes.proofs.spelled.Goals as goal
 
 -- The walk found a formula.
 abbrev Found : Type 0
@@ -45,20 +34,23 @@ module _ (c : Found) where
       c.end.given.1
       walked.walk-nodes.ensures
 
-returns-2 : tie.Need-returns-2
-returns-2 c =
-    let f = c.before.before in
-    let a = (entry f).args in
-    decided_no (not-ending a.formula.now a.count (found f) c.if1.true)
+-- `spelled` meets its contract: the kinds are those of a formula with a class exactly if the walk ends behind the last of them.
+pub returns-in_default : goal.returns-in_default
+returns-in_default c =
+    let w = c.walk_nodes in
+    let a = c.args in
+    let broken = subst
+    (Walks (kinds_in a.formula.now a.count) (replicate 40 0) w.new.ends (replicate 40 0) w.new.classes 0)
+    c.in_default.is
+    w.ensures in
+    decided_no (not-spelled a.formula.now a.count broken)
 
-returns-3 : tie.Need-returns-3
-returns-3 c =
-    let f = c.before.before in
-    let a = (entry f).args in
-    spelled_decided a.formula.now a.count (found f) c.if1.false
+pub returns-then-end-count : goal.returns-then-end-count
+returns-then-end-count c =
+    let a = (entry c).args in
+    decided_no (not-ending a.formula.now a.count (found c) c.if-end-count.true)
 
-pub spelled-spec : {M : Type 1} → statement M
-spelled-spec =
-    tie.close
-    (tie.spec (λ c. search rules) (λ c. search rules) (λ c κs. search rules) (λ c. search rules) (λ c. search rules) returns returns-2
-    returns-3)
+pub returns : goal.returns
+returns c =
+    let a = (entry c).args in
+    spelled_decided a.formula.now a.count (found c) c.if-end-count.false
