@@ -9,4 +9,4 @@ use Rattle.merging.proofs.still.Goals as goal
 pub returns-then-steady : goal.returns-then-steady
 returns-then-steady c =
     let a = c.args in
-    ap (λ b. b && eqb a.block a) (sym c.if-steady.true)
+    ap (λ b. b && eqb a.block a.before) (sym c.if-steady.true)
