@@ -1,8 +1,6 @@
 -- `zeros_from` meets its contract: the test of bytes is the one over each of them.
 use borrow.Author.Rules.{rules}
 use Rattle.actl.specs.Sizes.{formula_length}
-use Rattle.formula_slots.proofs.zeros_from.Statement.{statement}
-use Rattle.formula_slots.proofs.zeros_from.Tie as tie
 use mathlib.Core.Path.{◌≡◌, refl, sym}
 use mathlib.Core.Bool.{Bool, true, false}
 use mathlib.Core.List.{List}
@@ -17,9 +15,7 @@ use Rattle.lts.specs.inner.Lists.{up_from}
 use Rattle.lts.proofs.Lists.{every_of, up_from-to}
 use Rattle.actl.specs.inner.Check.{zeros_from}
 use Rattle.actl.proofs.Laws.Lists.{passed-all}
-
-zeros-requires : tie.Need-zeros-requires
-zeros-requires c κs = search rules
+use Rattle.formula_slots.proofs.zeros_from.Goals as goal
 
 module _ (b : List ℕ) (from : ℕ) (few : from ≤ formula_length) where
   each : zeros_from b from ≡ true → ZerosFrom b from formula_length
@@ -37,8 +33,6 @@ module _ (b : List ℕ) (from : ℕ) (few : from ≤ formula_length) where
       go true e = absurd (d.no refl (each e))
       go false e = refl
 
-returns : tie.Need-returns
-returns c = let d = c.before.before in decided d.args.formula.now d.args.from d.requires.1 c.zeros.result c.zeros.ensures
-
-pub zeros-from-spec : {M : Type 1} → statement M
-zeros-from-spec = tie.close (tie.spec zeros-requires returns)
+pub returns : goal.returns
+returns c =
+    decided c.args.formula.now c.args.from c.requires.1 c.zeros.result c.zeros.ensures
