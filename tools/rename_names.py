@@ -111,7 +111,7 @@ def main(root):
         lines = []
         for line in text.split("\n"):
             if line.strip().startswith(("--", "//")):
-                lines.append(renamed.sub(lambda m: table.get(m[0], m[0]) if "-" not in m[0] else m[0], line))
+                lines.append(renamed.sub(lambda m: table.get(m[0], m[0]) if "-" not in m[0] and table.get(m[0]) != m[0] + "_lem" else m[0], line))
             else:
                 lines.append(renamed.sub(turned, line))
         new = "\n".join(lines)

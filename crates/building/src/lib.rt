@@ -12,7 +12,7 @@ ghost use Rattle.automaton.specs.Build.{build_replied, rows_left, edges_left};
 ghost use Rattle.explanations.specs.Demands.{FromPrepared};
 
 // What `build` answers: the counts of rows and edges, or a refusal. specs/Replies.antt lists the number and the figure of each case.
-#[derive(Drop)]
+#[derive(Clone, Copy)]
 pub enum BuildReply {
     Built(usize, usize),
     RowsShort(usize),

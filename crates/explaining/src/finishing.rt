@@ -8,7 +8,7 @@ ghost use Rattle.explanations.specs.inner.BothTexts.{Read, HoldsBoth, listing_of
 
 use crate::ExplainReply;
 use building::building::built;
-use bytes::copy;
+use byte_copy::copy;
 use formula_classes::shape_of;
 use replies::{build_answer, build_edges};
 

@@ -8,7 +8,7 @@ ghost use Rattle.files.specs.inner.Scan.{scan_start, largest_count, scanned_afte
 ghost use Rattle.files.specs.inner.Files.{length_without_end};
 ghost use Rattle.files.specs.inner.Writing.{refused_line};
 
-use bytes::copy;
+use byte_copy::copy;
 use explanations::sizes::KEPT;
 use listing_text::write_refusal;
 

@@ -10,7 +10,7 @@ use lts::sizes::TABLE_LENGTH;
 use tables::prepared::label_count;
 
 // specs/Inputs.antt lists the number and the figure of each case.
-#[derive(Drop)]
+#[derive(Clone, Copy)]
 pub enum Unprepared {
     TableForeign,
     FormulaForeign,

@@ -1,5 +1,4 @@
 -- Laws that several proofs cite, by topic.
 pub mod Decided
-pub mod Padded
 pub mod Walked
 pub mod Phases

@@ -1,13 +1,13 @@
 // Walking a formula's nodes for numbering and classes: over their kinds in node order, from a node into its arms.
 #![tactic(auto)]
 
-ghost use Rattle.std.specs.Prelude.{◌≡◌, ◌+◌, ◌*◌, ◌<◌, ◌≤◌, length, get_or, set};
+ghost use Rattle.std.specs.Prelude.{◌≡◌, ◌+◌, ◌*◌, ◌<◌, ◌≤◌, length, get_or, set, take};
 ghost use Rattle.std.proofs.Math.Option.{none};
 ghost use Rattle.actl.specs.Sizes.{most_nodes, formula_length};
 ghost use Rattle.actl.specs.Formulas.{class_of_or};
 ghost use Rattle.actl.specs.inner.Walk.{class_from, class_of_arm, kind_at, kinds_in, last_none};
 ghost use Rattle.formula_classes.specs.inner.WalkReplies.{Walks, classless_node, IsHighest, IsShape};
-ghost use Rattle.formula_classes.specs.inner.Phases.{KindsRead, NodeNoted, HasArm, RightWalks};
+ghost use Rattle.formula_classes.specs.inner.Phases.{Room, NodeNoted, HasArm, RightWalks};
 ghost use Rattle.lts.specs.inner.Answers.{Decides};
 ghost use Rattle.actl.specs.inner.Check.{SpelledClassed};
 
@@ -68,15 +68,8 @@ fn class_of_or(left: u8, right: u8) -> u8
 }
 
 // Notes node k, and says what it is as an arm.
-fn note(
-    ends: &mut [u8; NODES],
-    classes: &mut [u8; NODES],
-    k: usize,
-    end: usize,
-    class: u8,
-    arm: u8,
-) -> Walked
-    requires { (k < most_nodes) × (end < 256) }
+fn note(ends: &mut [u8], classes: &mut [u8], k: usize, end: usize, class: u8, arm: u8) -> Walked
+    requires { (k < length ends.old) × (k < length classes.old) × (end < 256) }
     ensures { NodeNoted ends.old ends.new classes.old classes.new k end class arm result }
 {
     ends[k] = end as u8;
@@ -85,8 +78,7 @@ fn note(
 }
 
 // The kind of node k, or 0 if there is no such node or it has no kind.
-fn kind_at(kinds: &[u8; NODES], k: usize) -> u8
-    requires { length kinds.now ≤ most_nodes }
+fn kind_at(kinds: &[u8], k: usize) -> u8
     ensures { result ≡ kind_at kinds.now k }
 {
     if kinds.len() <= k {
@@ -101,8 +93,8 @@ fn kind_at(kinds: &[u8; NODES], k: usize) -> u8
 
 // 01: "a node before its arms, the left arm before the right": the arms of node k have higher numbers, so each call has fewer nodes left.
 #[cycle(walk_walk_arms_walk_right)]
-fn walk(kinds: &[u8; NODES], k: usize, ends: &mut [u8; NODES], classes: &mut [u8; NODES]) -> Walked
-    requires { length kinds.now ≤ most_nodes }
+fn walk(kinds: &[u8], k: usize, ends: &mut [u8], classes: &mut [u8]) -> Walked
+    requires { Room kinds.now ends.old classes.old }
     ensures { Walks kinds.now ends.old ends.new classes.old classes.new k result }
 {
     let kind = kind_at(kinds, k);
@@ -117,14 +109,8 @@ fn walk(kinds: &[u8; NODES], k: usize, ends: &mut [u8; NODES], classes: &mut [u8
 
 // Node k, which has an arm, or two.
 #[cycle(walk_walk_arms_walk_right)]
-fn walk_arms(
-    kinds: &[u8; NODES],
-    k: usize,
-    kind: u8,
-    ends: &mut [u8; NODES],
-    classes: &mut [u8; NODES],
-) -> Walked
-    requires kinds_len_bound { length kinds.now ≤ most_nodes }
+fn walk_arms(kinds: &[u8], k: usize, kind: u8, ends: &mut [u8], classes: &mut [u8]) -> Walked
+    requires room { Room kinds.now ends.old classes.old }
     requires has_arm { HasArm kinds.now k kind }
     ensures { Walks kinds.now ends.old ends.new classes.old classes.new k result }
 {
@@ -141,14 +127,14 @@ fn walk_arms(
 // The right arm of node k, which is `|`, and then the node itself.
 #[cycle(walk_walk_arms_walk_right)]
 fn walk_right(
-    kinds: &[u8; NODES],
+    kinds: &[u8],
     k: usize,
     middle: usize,
     left: u8,
-    ends: &mut [u8; NODES],
-    classes: &mut [u8; NODES],
+    ends: &mut [u8],
+    classes: &mut [u8],
 ) -> Walked
-    requires kinds_len_bound { length kinds.now ≤ most_nodes }
+    requires room { Room kinds.now ends.old classes.old }
     requires k_lt_middle { (k < middle) × (left < 4) }
     ensures { RightWalks kinds.now ends.old ends.new classes.old classes.new k middle left result }
 {
@@ -177,10 +163,10 @@ fn last_none(classes: &[u8]) -> Classless
     Classless::At(found)
 }
 
-// The kinds of a prepared formula's first nodes, and zeros behind them, which are no kinds: a walk over the whole array ends there.
+// The kinds of a prepared formula's first nodes.
 fn kinds_in(formula: &[u8], count: usize) -> [u8; NODES]
     requires { (formula_length ≤ length formula.now) × (count ≤ most_nodes) }
-    ensures { KindsRead formula.now count result }
+    ensures { take count result ≡ kinds_in formula.now count }
 {
     let mut kinds = [0u8; NODES];
     let mut k = 0;
@@ -192,17 +178,13 @@ fn kinds_in(formula: &[u8], count: usize) -> [u8; NODES]
 }
 
 // Walks the first nodes of a prepared formula, from node 0.
-fn walk_nodes(
-    formula: &[u8],
-    count: usize,
-    ends: &mut [u8; NODES],
-    classes: &mut [u8; NODES],
-) -> Walked
-    requires { (formula_length ≤ length formula.now) × (count ≤ most_nodes) }
+fn walk_nodes(formula: &[u8], count: usize, ends: &mut [u8], classes: &mut [u8]) -> Walked
+    requires formula_length_in_bounds { (formula_length ≤ length formula.now) × (count ≤ most_nodes) }
+    requires count_in_bounds { (count ≤ length ends.old) × (count ≤ length classes.old) }
     ensures { Walks (kinds_in formula.now count) ends.old ends.new classes.old classes.new 0 result }
 {
     let kinds = kinds_in(formula, count);
-    walk(&kinds, 0, ends, classes)
+    walk(&kinds[..count], 0, ends, classes)
 }
 
 // 01: "a node without class": "the highest-numbered one". Of a formula, by the slots of its nodes.

@@ -5,7 +5,7 @@ ghost use Rattle.std.specs.Prelude.{◌≤◌, length};
 ghost use Rattle.actl.specs.inner.Cursor.{Skipped};
 ghost use Rattle.formula_cursor.specs.inner.CursorReplies.{MarkAnswer, TokenAnswer, KeywordAnswer, NameAnswer};
 
-#[derive(Drop)]
+#[derive(Clone, Copy)]
 pub struct Cursor {
     pub at: usize,
 }

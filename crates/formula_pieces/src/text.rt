@@ -5,7 +5,7 @@ ghost use Rattle.lts.specs.inner.Prepared.{table_in, name_at};
 ghost use Rattle.formula_pieces.specs.inner.Adds.{Room, Adds, Over};
 
 use actl::sizes::LONGEST_TEXT;
-use bytes::copy;
+use byte_copy::copy;
 use label_names::name_span;
 
 pub fn put(out: &mut [u8], at: usize, b: u8) -> usize

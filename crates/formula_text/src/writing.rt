@@ -7,7 +7,7 @@ ghost use Rattle.formula_text.specs.inner.FormulaAnswers.{FormulaAnsweredWith};
 
 use crate::FormulaReply;
 use actl::sizes::{FORMULA_LENGTH, NODES};
-use bytes::copy;
+use byte_copy::copy;
 use formula_classes::{Classless, highest_classless};
 
 // The node count, then the nodes and the zeros behind them.

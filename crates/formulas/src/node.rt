@@ -13,14 +13,14 @@ use actl::sizes::NODE_SLOT;
 use byte_words::words::word;
 
 // 01: "A step condition is either the silent step or a set of labels." Bit a of a mask is label a.
-#[derive(Drop)]
+#[derive(Clone, Copy)]
 pub enum Condition {
     Silent,
     Labels(u64),
 }
 
 // T, ~, |, EX, AX, EU[A], EU[A;B]. The left (or only) arm of node k is node k + 1.
-#[derive(Drop)]
+#[derive(Clone, Copy)]
 pub enum Node {
     True,
     Not,

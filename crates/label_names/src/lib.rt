@@ -23,7 +23,7 @@ use tables::lookup::Lookup;
 use tables::prepared::{byte, label_count};
 
 // 02: "its direction (none, in, out)"
-#[derive(Drop)]
+#[derive(Clone, Copy)]
 pub enum Direction {
     Neither,
     Received,

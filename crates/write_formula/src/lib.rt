@@ -13,7 +13,7 @@ ghost use Rattle.written_back.specs.ReadBack.{Restored};
 ghost use Rattle.write_formula.specs.Replies.{write_reply};
 
 use actl::sizes::{FORMULA_LENGTH, LONGEST_TEXT};
-use bytes::copy;
+use byte_copy::copy;
 use formula_check::inputs::{Inputs, Unprepared, check_inputs};
 use formula_walk::write_nodes;
 use lts::sizes::TABLE_LENGTH;

@@ -3,7 +3,7 @@ use Rattle.files.proofs.keep.Statement.{statement}
 use Rattle.files.proofs.keep.Tie as tie
 use Rattle.files.proofs.keep.Reads as reads
 use Rattle.files.proofs.keep.Lts as lts
-use Rattle.bytes.proofs.copy.Reads as copy-reads
+use Rattle.byte_copy.proofs.copy.Reads as copy-reads
 use Rattle.files.proofs.least.Reads as least-reads
 use mathlib.Core.Path.{◌∙◌, ap}
 use mathlib.Core.List.{◌++◌}

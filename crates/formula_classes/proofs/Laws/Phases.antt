@@ -1,28 +1,22 @@
 -- What a node noted behind its arms makes of a walk over them: the walk of the node itself.
-use mathlib.Core.Path.{◌≡◌, refl, sym, ap, ◌∙◌, subst}
+use mathlib.Core.Path.{◌≡◌, refl, sym, ◌∙◌, subst}
 use mathlib.Core.List.{List}
 use Prim.Native.Nat.{ℕ, ◌+◌, ◌≤◌, ◌<◌}
 use native.Mathlib.Omega.{arith}
 use lib.ListN.{length, get_or, set}
-use lib.Seq.{length-sets}
-use Rattle.actl.specs.Formulas.{Formula, size, class_of_or}
-use Rattle.actl.specs.inner.Walk.{class_from, class_of_arm, classes_of, Spelled, Traversed}
+use Rattle.actl.specs.Formulas.{class_of_or}
+use Rattle.actl.specs.inner.Walk.{class_from, class_of_arm, Spelled, Traversed}
 use Rattle.actl.proofs.Nodes.{size_pos}
 use Rattle.actl.proofs.Laws.Table.{arm_low}
 use Rattle.actl.proofs.Laws.Unique.{no-right, spelled-fits}
 use Rattle.actl.proofs.Laws.Walks.{traversed_noted, traversed_T, traversed_unary, traversed_or}
 use Rattle.formula_classes.specs.inner.WalkReplies.{Walks}
-use Rattle.formula_classes.specs.inner.Phases.{NodeNoted, HasArm, RightWalks}
+use Rattle.formula_classes.specs.inner.Phases.{Room, NodeNoted, HasArm, RightWalks}
 use Rattle.formula_classes.specs.declared.Walked.{Walked}
 use Rattle.formula_classes.specs.declared.Walked.TheVariants.{Broken, Node}
 
--- The classes are noted in their places, so there are as many as before.
-traversed_kept : {K E E' C C' : List ℕ} {k end arm : ℕ} → Traversed K E E' C C' k end arm → length C' ≡ length C
-traversed_kept {C} {k} h = ap length h.classes_noted ∙ length-sets C k (classes_of h.formula)
-
-pub walks-kept : (K E E' C C' : List ℕ) (k : ℕ) (r : Walked) → Walks K E E' C C' k r → length C' ≡ length C
-walks-kept K E E' C C' k Broken h = h.classes_kept
-walks-kept K E E' C C' k (Node end arm) h = traversed_kept h
+pub room-kept : {K E E' C C' : List ℕ} → Room K E C → length E' ≡ length E → length C' ≡ length C → Room K E' C'
+room-kept r e d = record { ends-fit = omega arith; classes-fit = omega arith; few = r.few }
 
 -- An arm that was walked ends within the nodes, behind the place where it begins, and its class is in the table.
 module _ {K E E' C C' : List ℕ} {k end arm : ℕ} (h : Traversed K E E' C C' k end arm) where
@@ -56,12 +50,7 @@ module _ {K E E1 C C1 : List ℕ} {k kind middle left : ℕ} (node : HasArm K k 
   -- `|`, by its right arm.
   pub walked-or : (E' C' : List ℕ) (r : Walked) → kind ≡ 3 → RightWalks K E1 E' C1 C' k middle left r → Walks K E E' C C' k r
   walked-or E' C' Broken three broken =
-      let there : (g : Formula) → Spelled K (k + 1 + size arm.formula) g → ⊥ = λ g s.
-      broken.none_spelled g (subst (λ x. Spelled K x g) (sym arm.behind) s) in
-      record {
-        classes_kept = broken.classes_kept ∙ traversed_kept arm;
-        none_spelled = no-right K k (node.here ∙ three) arm.formula arm.spelled there;
-      }
+      no-right K k (node.here ∙ three) arm.formula arm.spelled (λ g s. broken g (subst (λ x. Spelled K x g) (sym arm.behind) s))
   walked-or E' C' (Node end class) three h =
       let found = traversed_or K E C k node.inside arm (node.here ∙ three) h.walked in
       let classed = subst (λ x. Traversed K E (set h.ends_behind k end) C (set h.classes_behind k x) k end x) (sym h.by_both) found in

@@ -42,7 +42,7 @@ same_kinds f F rest e =
     sym (e ∙ (ap (λ l. kinds_of f ++ l) (sym z) ∙ append-nil (kinds_of f)))
 
 pub walk_noted : {K E E' C C' : List ℕ} (r : Walked) (F : Formula) → kinds_of F ≡ K → Walks K E E' C C' 0 r → Noted E E' C C' F
-walk_noted Broken F e h = absurd (h.none_spelled F ([], sym e ∙ sym (append-nil (kinds_of F))))
+walk_noted Broken F e h = absurd (h F ([], sym e ∙ sym (append-nil (kinds_of F))))
 walk_noted {E} {C} (Node end arm) F e h =
     let s = same_kinds h.formula F h.spelled.0 (e ∙ h.spelled.1) in
     record {
@@ -83,7 +83,7 @@ end-of-node k (eu a f) (suc j) h = end-of-node (k + 1) f j (omega arith) ∙ (om
 end-of-node k (eu_then a b f) zero h = omega arith
 end-of-node k (eu_then a b f) (suc j) h = end-of-node (k + 1) f j (omega arith) ∙ (omega arith)
 
-pub any_default : {A : Type 0} (l : List A) (i : ℕ) (d e : A) → i < length l → get_or l i d ≡ get_or l i e
+any_default : {A : Type 0} (l : List A) (i : ℕ) (d e : A) → i < length l → get_or l i d ≡ get_or l i e
 any_default [] i d e h = absurd (omega arith)
 any_default (x ∷ l) zero d e h = refl
 any_default (x ∷ l) (suc i) d e h = any_default l i d e (omega arith)

@@ -15,8 +15,8 @@ returns c = λ n F e.
 
 returns-2 : tie.Need-returns-2
 returns-2 c = λ n F e.
-    let w = c.walk-nodes in
-    let counted = c.before.before.before.before in
+    let w = c.before.before.walk-nodes in
+    let counted = c.before.before.before.before.before.before in
     let b = counted.before.before.args.formula.now in
     let count = counted.node-count.ensures in
     let few = prepared-few n b e in
@@ -30,4 +30,4 @@ returns-2 c = λ n F e.
 pub shape-of-spec : {M : Type 1} → statement M
 shape-of-spec =
     tie.close
-    (tie.spec (λ c κs. search rules) returns (λ c κs. search rules) returns-2)
+    (tie.spec (λ c κs. search rules) returns (λ c. search rules) (λ c. search rules) (λ c κs. search rules) returns-2)

@@ -16,14 +16,13 @@ use Rattle.formula_classes.proofs.walk_nodes.Reads as walk-nodes-reads
 
 returns : tie.Need-returns
 returns c =
-    let walked = c.before.before in
-    let w = walked.walk-nodes in
-    let a = walked.before.before.before.before.args in
+    let w = c.before.before.before.before.walk-nodes in
+    let a = c.before.before.before.before.before.before.before.before.args in
     let broken = subst
     (Walks (kinds_in a.formula.now a.count) (replicate 40 0) w.new.1.1.0 (replicate 40 0) w.new.1.1.1.0 0)
     c.enum_told.given.1
     w.ensures in
-    decided_no (not-spelled a.formula.now a.count broken.none_spelled)
+    decided_no (not-spelled a.formula.now a.count broken)
 
 -- The walk found a formula.
 abbrev Found : Type 0
@@ -31,7 +30,7 @@ Found = lts.After-end (walk-nodes-reads.Asked, walk-nodes-reads.Learnt) reads.Pr
 
 module _ (c : Found) where
   abbrev walked : lts.After-walk-nodes (walk-nodes-reads.Asked, walk-nodes-reads.Learnt) reads.Pre reads.Post
-  walked = c.before.before
+  walked = c.before.before.before.before
 
   abbrev entry : lts.Start (walk-nodes-reads.Asked, walk-nodes-reads.Learnt) reads.Pre reads.Post
   entry = walked.before.before.before.before
@@ -61,4 +60,5 @@ returns-3 c =
 pub spelled-spec : {M : Type 1} → statement M
 spelled-spec =
     tie.close
-    (tie.spec (λ c κs. search rules) (λ c. search rules) (λ c. search rules) returns returns-2 returns-3)
+    (tie.spec (λ c. search rules) (λ c. search rules) (λ c κs. search rules) (λ c. search rules) (λ c. search rules) returns returns-2
+    returns-3)

@@ -1,17 +1,15 @@
--- What the phases of the walk hand each other: the kinds that it goes over, a node that is noted, a node with an arm, the right arm of `|`.
-use Rattle.std.specs.Prelude.{◌≡◌, List, ℕ, ◌≤◌, ◌<◌, length, get_or, set, take}
-use Rattle.actl.specs.Sizes.{most_nodes}
-use Rattle.actl.specs.Formulas.{class_of_or}
-use Rattle.actl.specs.inner.Walk.{class_of_arm, kinds_in, Traversed}
-use Rattle.formula_classes.specs.inner.WalkReplies.{NoFormula}
+-- What the phases of the walk hand each other: a node that is noted, a node with an arm, the right arm of `|`.
+use Rattle.std.specs.Prelude.{◌≡◌, List, ℕ, ◌≤◌, ◌<◌, length, get_or, set}
+use Rattle.actl.specs.Formulas.{Formula, class_of_or}
+use Rattle.actl.specs.inner.Walk.{class_of_arm, Spelled, Traversed}
 use Rattle.formula_classes.specs.declared.Walked.{Walked}
 use Rattle.formula_classes.specs.declared.Walked.TheVariants.{Broken, Node}
 
--- The kinds of a formula's first nodes, in an array; behind them are zeros, which are no kinds.
-pub record KindsRead (formula : List ℕ) (count : ℕ) (kinds : List ℕ) : Type 0 where
-  pub first : take count kinds ≡ kinds_in formula count
-  pub zeros : (k : ℕ) → count ≤ k → get_or kinds k 0 ≡ 0
-  pub few : length kinds ≤ most_nodes
+-- The lent places hold every node, and a byte holds every number of a node.
+pub record Room (kinds ends classes : List ℕ) : Type 0 where
+  pub ends-fit : length kinds ≤ length ends
+  pub classes-fit : length kinds ≤ length classes
+  pub few : length kinds < 256
 
 -- Node k noted: where its arms end, and its class; what it is as an arm is told.
 pub record NodeNoted (ends endsAfter classes classesAfter : List ℕ) (k end class arm : ℕ) (r : Walked) : Type 0 where
@@ -36,6 +34,6 @@ pub record RightTraversed (kinds ends endsAfter classes classesAfter : List ℕ)
   pub by_both : class ≡ class_of_or (class_of_arm left) (class_of_arm right)
 
 abbrev pub RightWalks : List ℕ → List ℕ → List ℕ → List ℕ → List ℕ → ℕ → ℕ → ℕ → Walked → Type 0
-RightWalks kinds ends endsAfter classes classesAfter k middle left Broken = NoFormula kinds classes classesAfter middle
+RightWalks kinds ends endsAfter classes classesAfter k middle left Broken = (f : Formula) → Spelled kinds middle f → ⊥
 RightWalks kinds ends endsAfter classes classesAfter k middle left (Node end class) =
     RightTraversed kinds ends endsAfter classes classesAfter k middle left end class

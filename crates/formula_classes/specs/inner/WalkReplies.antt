@@ -1,5 +1,5 @@
 -- What the walk over a formula's nodes answers.
-use Rattle.std.specs.Prelude.{◌≡◌, List, ℕ, ◌+◌, ◌<◌, length, get_or}
+use Rattle.std.specs.Prelude.{◌≡◌, List, ℕ, ◌+◌, ◌<◌, get_or}
 use Rattle.std.proofs.Math.Option.{Option, none, some}
 use Rattle.actl.specs.Formulas.{Formula, tru, size, nodes, class_of, highest_without_class}
 use Rattle.actl.specs.inner.Prepared.{prepared_formula}
@@ -10,13 +10,8 @@ use Rattle.formula_classes.specs.declared.Classless.TheVariants.{Nowhere, At}
 use Rattle.formula_classes.specs.declared.Shape.{Shape}
 use Rattle.actl.specs.inner.Walk.{kinds_of, Spelled, Traversed}
 
--- No formula stands at node k; as many classes are left as there were.
-pub record NoFormula (kinds classes classesAfter : List ℕ) (k : ℕ) : Type 0 where
-  pub classes_kept : length classesAfter ≡ length classes
-  pub none_spelled : (f : Formula) → Spelled kinds k f → ⊥
-
 abbrev pub Walks : List ℕ → List ℕ → List ℕ → List ℕ → List ℕ → ℕ → Walked → Type 0
-Walks kinds ends endsAfter classes classesAfter k Broken = NoFormula kinds classes classesAfter k
+Walks kinds ends endsAfter classes classesAfter k Broken = (f : Formula) → Spelled kinds k f → ⊥
 Walks kinds ends endsAfter classes classesAfter k (Node end arm) = Traversed kinds ends endsAfter classes classesAfter k end arm
 
 -- 01: "a node without class": "the highest-numbered one"
