@@ -1,4 +1,4 @@
--- `steps_of` meets its contract: the steps of the states below s stand in the array. In the first loop a transitions leave one of these
+-- `fill_steps` meets its contract: the steps of the states below s stand in the array. In the first loop a transitions leave one of these
 use mathlib.Core.Path.{◌≡◌, refl, sym, ap, ◌∙◌, subst}
 use Prim.Native.Nat.{ℕ, suc, ◌+◌, ◌-◌, ◌≤◌, ◌<◌}
 use native.Mathlib.Numerals.{add-one}
@@ -9,9 +9,9 @@ use Rattle.lts.specs.inner.Prepared.{table_in}
 use Rattle.table_steps.specs.inner.StepArray.{exits_below}
 use Rattle.table_steps.proofs.Laws.Exits.{exits_none, exits_grow, exits_all}
 use Rattle.table_steps.proofs.Laws.StepArray.{BelowDone, below_none, below-fits, below_more, below_all}
-use Rattle.table_steps.proofs.steps_of.Given as goal
+use Rattle.table_steps.proofs.fill_steps.Given as goal
 
--- `steps_of` meets its contract: the steps of the states below s stand in the array. In the first loop a transitions leave one of these
+-- `fill_steps` meets its contract: the steps of the states below s stand in the array. In the first loop a transitions leave one of these
 -- states, in the second all do.
 abbrev pub invariant-loop-s : goal.invariant-loop-s
 invariant-loop-s l = (l.s ≤ l.states) × (l.a ≡ exits_below (table_in l.table).transitions l.s) × BelowDone (table_in l.table) l.s l.at l.steps l.firsts

@@ -1,4 +1,4 @@
--- `steps_of` meets its contract: the steps of the states below s stand in the array. In the first loop a transitions leave one of these
+-- `fill_steps` meets its contract: the steps of the states below s stand in the array. In the first loop a transitions leave one of these
 use mathlib.Core.Path.{◌≡◌, refl, sym, ap, ◌∙◌, subst}
 use Prim.Native.Nat.{ℕ, suc, ◌+◌, ◌-◌, ◌≤◌, ◌<◌}
 use native.Mathlib.Numerals.{add-one}
@@ -9,7 +9,7 @@ use Rattle.lts.specs.inner.Prepared.{table_in}
 use Rattle.table_steps.specs.inner.StepArray.{exits_below}
 use Rattle.table_steps.proofs.Laws.Exits.{exits_none, exits_grow, exits_all}
 use Rattle.table_steps.proofs.Laws.StepArray.{BelowDone, below_none, below-fits, below_more, below_all}
-use Rattle.table_steps.proofs.steps_of.Goals as goal
+use Rattle.table_steps.proofs.fill_steps.Goals as goal
 
 pub transition_count-n-requires : goal.transition_count-n-requires
 transition_count-n-requires c =
