@@ -1,4 +1,4 @@
--- `reading::targets_of_lem` meets its contract: what the places from k on add is left.
+-- `reading::targets_of` meets its contract: what the places from k on add is left.
 use mathlib.Core.Path.{◌≡◌, sym, ap, ◌∙◌}
 use mathlib.Core.Bool.{true, false, cond}
 use mathlib.Core.List.{List}
