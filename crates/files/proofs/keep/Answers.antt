@@ -1,8 +1,3 @@
-use borrow.Author.Rules.{rules}
-use Rattle.files.proofs.keep.Reads as reads
-use Rattle.files.proofs.keep.Lts as lts
-use Rattle.byte_copy.proofs.copy.Reads as copy-reads
-use Rattle.files.proofs.least.Reads as least-reads
 use mathlib.Core.Path.{◌∙◌, ap}
 use mathlib.Core.List.{◌++◌}
 use Prim.Native.Nat.{◌-◌}

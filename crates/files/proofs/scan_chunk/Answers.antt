@@ -1,8 +1,3 @@
-use borrow.Author.Rules.{rules}
-use Rattle.files.proofs.scan_chunk.Reads as reads
-use Rattle.files.proofs.scan_chunk.Lts as lts
-use Rattle.files.proofs.add.Reads as add_reads
-use Rattle.files.proofs.keep.Reads as keep-reads
 use Prim.Native.Nat.{◌-◌}
 use native.Mathlib.Omega.{arith}
 use lib.ListN.{length}

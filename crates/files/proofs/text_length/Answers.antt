@@ -1,6 +1,3 @@
-use borrow.Author.Rules.{rules}
-use Rattle.files.proofs.text_length.Reads as reads
-use Rattle.files.proofs.text_length.Lts as lts
 use Rattle.files.proofs.Scanning.{none-length, ended-length, unended-length}
 use Rattle.files.proofs.text_length.Goals as goal
 

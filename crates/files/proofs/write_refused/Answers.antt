@@ -1,5 +1,4 @@
 -- `write_refused` meets its contract: the line of the number and its figure, by the test of the number.
-use borrow.Author.Rules.{rules}
 use mathlib.Core.Path.{◌≡◌, sym, subst}
 use mathlib.Core.Bool.{Bool, cond}
 use mathlib.Core.List.{List}
