@@ -10,7 +10,6 @@ use Rattle.explanations.specs.Printed.{refusal_line}
 use Rattle.explanations.specs.inner.Printed.{TextWritten}
 use Rattle.files.proofs.write_refused.Goals as goal
 
--- `write_refused` meets its contract: the line of the number and its figure, by the test of the number.
 by_number : (k g n : ℕ) {b : Bool} {before out : List ℕ} {end : ℕ} → eqb k 5 ≡ b → TextWritten (refusal_line k (cond b n g)) before out end
     → TextWritten (refused_line n k g) before out end
 by_number k g n {before} {out} {end} d w = subst (λ (b : Bool). TextWritten (refusal_line k (cond b n g)) before out end) (sym d) w

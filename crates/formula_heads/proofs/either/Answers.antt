@@ -3,7 +3,6 @@ use mathlib.Core.Path.{subst}
 use Rattle.formula_cursor.specs.inner.CursorReplies.{KeywordAnswer}
 use Rattle.formula_heads.proofs.either.Goals as goal
 
--- `either` takes one of two keywords.
 pub returns-in-Past : goal.returns-in-Past
 returns-in-Past c =
     let a = c.args in

@@ -8,7 +8,6 @@ use Rattle.formula_sets.proofs.ReadingSets.{token-behind}
 use Rattle.formula_heads.proofs.ReadingBrackets.{until-read, until_open, then-read, then_fails}
 use Rattle.formula_heads.proofs.first_set.Goals as goal
 
--- `first_set` reads what stands behind the first set of EU.
 pub returns-in_default-mark : goal.returns-in_default-mark
 returns-in_default-mark c =
     let a = c.args in

@@ -8,7 +8,6 @@ use Rattle.formula_heads.specs.inner.Brackets.{ChoiceAnswer}
 use Rattle.formula_heads.proofs.ReadingHeads.{head-next, head-until}
 use Rattle.formula_heads.proofs.head.Goals as goal
 
--- `head` reads a keyword and its bracket.
 pub square_bracket-requires : goal.square_bracket-requires
 square_bracket-requires c =
     let a = c.args in

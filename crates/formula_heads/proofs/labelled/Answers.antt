@@ -10,7 +10,6 @@ use Rattle.formula_heads.proofs.ReadingHeads.{dual_read}
 use Rattle.formula_heads.proofs.ReadingBrackets.{labelled-set, labelled_fails}
 use Rattle.formula_heads.proofs.labelled.Goals as goal
 
--- `labelled` reads a set and the end of the bracket.
 pub returns-in-Refused : goal.returns-in-Refused
 returns-in-Refused c =
     let a = c.args in

@@ -7,7 +7,6 @@ use Rattle.formula_heads.specs.declared.Quantifier.TheVariants.{Existential, Uni
 use Rattle.formula_heads.proofs.ReadingHeads.{head-letters, no-head}
 use Rattle.formula_heads.proofs.labelled_form.Goals as goal
 
--- `labelled_form` reads DIA or BOX.
 pub letters-requires : goal.letters-requires
 letters-requires c =
     let a = c.args in

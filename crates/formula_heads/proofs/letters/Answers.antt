@@ -8,7 +8,6 @@ use Rattle.formula_cursor.specs.inner.CursorReplies.{MarkAnswer}
 use Rattle.formula_heads.proofs.ReadingHeads.{no_second, no_third, letters-read}
 use Rattle.formula_heads.proofs.letters.Goals as goal
 
--- `letters` reads the second and the third letter of DIA or BOX, and the bracket.
 pub returns-in_default : goal.returns-in_default
 returns-in_default c =
     let a = c.args in

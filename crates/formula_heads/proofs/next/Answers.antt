@@ -6,7 +6,6 @@ use Rattle.formula_sets.specs.inner.SetReplies.{EnclosedAnswer}
 use Rattle.formula_heads.proofs.ReadingBrackets.{next-silent, next-silent_open, next-set, next-set_fails}
 use Rattle.formula_heads.proofs.next.Goals as goal
 
--- `next` reads a dot or a set, and the end of the bracket.
 pub returns-in_default-mark : goal.returns-in_default-mark
 returns-in_default-mark c =
     let a = c.args in

@@ -4,7 +4,6 @@ use mathlib.Core.Logic.{inl, inr}
 use Rattle.formula_cursor.specs.inner.CursorReplies.{MarkAnswer}
 use Rattle.formula_heads.proofs.no_keyword.Goals as goal
 
--- `no_keyword` goes past an E or an A.
 pub returns-in-Past : goal.returns-in-Past
 returns-in-Past c =
     let a = c.args in

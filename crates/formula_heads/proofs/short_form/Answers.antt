@@ -7,7 +7,6 @@ use Rattle.formula_heads.specs.inner.Brackets.{ChoiceAnswer}
 use Rattle.formula_heads.proofs.ReadingHeads.{head-reach}
 use Rattle.formula_heads.proofs.short_form.Goals as goal
 
--- `short_form` reads EF or AG, and else DIA or BOX.
 pub returns-in-Past : goal.returns-in-Past
 returns-in-Past c =
     let a = c.args in

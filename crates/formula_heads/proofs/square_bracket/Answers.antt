@@ -12,7 +12,6 @@ use Rattle.formula_heads.specs.declared.Heading.{Heading}
 use Rattle.formula_heads.proofs.ReadingHeads.{unopened, opened}
 use Rattle.formula_heads.proofs.square_bracket.Goals as goal
 
--- `square_bracket` opens the bracket behind a keyword, and reads what stands in it.
 pub returns-in_default : goal.returns-in_default
 returns-in_default c =
     let a = c.args in

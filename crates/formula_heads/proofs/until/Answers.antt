@@ -8,7 +8,6 @@ use Rattle.formula_heads.proofs.ReadingHeads.{behind}
 use Rattle.formula_heads.proofs.ReadingBrackets.{until_fails, first-set-moves}
 use Rattle.formula_heads.proofs.until.Goals as goal
 
--- `until` reads the first set, and hands over to `first_set`.
 pub returns-in-Refused : goal.returns-in-Refused
 returns-in-Refused c =
     let a = c.args in

@@ -9,7 +9,6 @@ use Rattle.formula_pieces.specs.inner.Adds.{CondWithin}
 use Rattle.formula_pieces.proofs.Laws.Adds.{adds_same}
 use Rattle.formula_keywords.proofs.put_condition.Goals as goal
 
--- `put_condition` puts `.` for the silent step, and else the set.
 pub put_set-requires : goal.put_set-requires
 put_set-requires c =
     (c.requires.0, subst (λ k. CondWithin (labels (table_in c.args.table.now)) (cond_in k)) c.in-Labels.is c.requires.1)

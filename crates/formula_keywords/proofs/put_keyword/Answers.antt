@@ -6,7 +6,6 @@ use Rattle.formula_pieces.proofs.Laws.Adds.{adds_then, room_after, over_after}
 use Rattle.formula_pieces.proofs.Laws.Masks.{cond_short}
 use Rattle.formula_keywords.proofs.put_keyword.Goals as goal
 
--- `put_keyword` puts the letters with `[`, the step condition, and `]` with its blank.
 pub put_condition-behind-requires : goal.put_condition-behind-requires
 put_condition-behind-requires c =
     (over_after c.requires.0 c.open-inside.ensures 562 (omega arith), c.requires.1)

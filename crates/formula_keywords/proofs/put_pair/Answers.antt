@@ -5,7 +5,6 @@ use Rattle.formula_pieces.proofs.Laws.Adds.{adds_then, room_after, over_after}
 use Rattle.formula_pieces.proofs.Laws.Masks.{set-short}
 use Rattle.formula_keywords.proofs.put_pair.Goals as goal
 
--- `put_pair` puts a set, `;` and a set.
 pub put-other-requires : goal.put-other-requires
 put-other-requires c =
     let short = set-short c.args.table.now c.requires.0.holds c.args.first in

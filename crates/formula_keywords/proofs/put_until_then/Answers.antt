@@ -9,7 +9,6 @@ use Rattle.formula_pieces.proofs.Laws.Adds.{adds_then, room_after, over_after}
 use Rattle.formula_pieces.proofs.Laws.Masks.{set-short}
 use Rattle.formula_keywords.proofs.put_until_then.Goals as goal
 
--- `put_until_then` puts EU and its two sets.
 pub put_pair-behind-requires : goal.put_pair-behind-requires
 put_pair-behind-requires c =
     (over_after c.requires.0 c.open-inside.ensures 1125 (omega arith), c.requires.1, c.requires.2)

@@ -3,7 +3,6 @@ use borrow.Author.Rules.{rules}
 use Rattle.formula_pieces.proofs.Laws.Adds.{adds_then}
 use Rattle.formula_keywords.proofs.shut.Goals as goal
 
--- `shut` puts its two bytes one behind the other.
 pub returns : goal.returns
 returns c =
     adds_then c.put-end.ensures c.put.ensures

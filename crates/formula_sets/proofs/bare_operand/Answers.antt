@@ -6,7 +6,6 @@ use Rattle.formula_sets.specs.inner.SetReplies.{WildcardAnswer}
 use Rattle.formula_sets.proofs.ReadingSets.{operand-stops}
 use Rattle.formula_sets.proofs.bare_operand.Goals as goal
 
--- `bare_operand` reads a mark or a name, or is refused where neither stands.
 pub returns-in-Past : goal.returns-in-Past
 returns-in-Past c =
     let a = c.args in

@@ -5,7 +5,6 @@ use Rattle.formula_cursor.specs.inner.CursorReplies.{MarkAnswer}
 use Rattle.formula_sets.specs.inner.SetReplies.{SetAnswer}
 use Rattle.formula_sets.proofs.closed.Goals as goal
 
--- `closed` takes the mark behind a set, and is refused where another stands.
 pub returns-in_default : goal.returns-in_default
 returns-in_default c =
     let a = c.args in

@@ -9,7 +9,6 @@ use Rattle.formula_sets.specs.inner.OperandPhases.{MaskWithin, complemented}
 use Rattle.formula_sets.specs.declared.Labels.TheVariants as labels
 use Rattle.formula_sets.proofs.complement.Goals as goal
 
--- `complement` takes a mask from all labels, and hands a refusal on.
 pub overflow_sub-result : goal.overflow_sub-result
 overflow_sub-result c =
     omega (arith, c.all_labels.ensures, subst (MaskWithin (labels_of (names_in c.args.table.now) Action.any)) c.in-Read.is c.requires.1)

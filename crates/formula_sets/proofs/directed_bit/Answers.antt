@@ -9,7 +9,6 @@ use Rattle.label_names.specs.inner.Names.{direction_in}
 use Rattle.actl.proofs.ReadingLabels.{shifted_two}
 use Rattle.formula_sets.proofs.directed_bit.Goals as goal
 
--- `directed_bit` gives a label its bit if it has the direction.
 pub overflow_shl-result : goal.overflow_shl-result
 overflow_shl-result c =
     omega (arith, c.requires.1, c.requires.0.in_range.few_labels)

@@ -7,7 +7,6 @@ use Rattle.actl.specs.inner.Readers.{names_in}
 use Rattle.label_names.specs.inner.Names.{direction_in}
 use Rattle.formula_sets.proofs.directed_labels.Given as goal
 
--- `directed_labels` has the bits of the labels of a direction: the invariant is their mask so far.
 abbrev pub invariant-loop-k : goal.invariant-loop-k
 invariant-loop-k l = (l.k ≤ l.count) × (l.mask ≡ mask_of (label_direction (names_in l.table)) l.k (Action.directed (direction_in l.wanted)))
 

@@ -3,7 +3,6 @@ use mathlib.Core.Path.{subst}
 use Rattle.formula_cursor.specs.inner.CursorReplies.{MarkAnswer}
 use Rattle.formula_sets.proofs.directed_wildcard.Goals as goal
 
--- `directed_wildcard` reads a mark and answers the labels of its direction.
 pub returns-in_default : goal.returns-in_default
 returns-in_default c =
     let a = c.args in

@@ -2,7 +2,6 @@
 use Rattle.actl.specs.inner.Readers.{names_in}
 use Rattle.formula_sets.proofs.enclosed.Goals as goal
 
--- `enclosed` reads a set and the mark that ends its bracket.
 pub returns : goal.returns
 returns c =
     let a = c.args in

@@ -4,7 +4,6 @@ use lib.ListN.{length}
 use Rattle.formula_sets.specs.inner.OperandPhases.{SignsPassed}
 use Rattle.formula_sets.proofs.past_signs.Given as goal
 
--- `past_signs` goes over `~` and blanks: each turn of its loop takes one `~` with the blanks behind it.
 abbrev pub invariant-loop-e : goal.invariant-loop-e
 invariant-loop-e l = SignsPassed l.text l.initial.d.at l.d.at l.odd
 

@@ -8,7 +8,6 @@ use Rattle.formula_cursor.specs.inner.CursorReplies.{MarkAnswer}
 use Rattle.formula_terms.proofs.ReadingTerms.{atom-there, no-atom-there}
 use Rattle.formula_terms.proofs.at_atom.Goals as goal
 
--- `at_atom` looks for the two marks in turn.
 pub returns-in-Past : goal.returns-in-Past
 returns-in-Past c =
     let a = c.args in

@@ -4,7 +4,6 @@ use Rattle.formula_cursor.specs.inner.CursorReplies.{TokenAnswer}
 use Rattle.formula_terms.proofs.ReadingTerms.{prefix_not}
 use Rattle.formula_terms.proofs.prefix.Goals as goal
 
--- `prefix` reads `~` or a keyword, and puts its nodes down.
 pub returns-in-Past : goal.returns-in-Past
 returns-in-Past c =
     let a = c.args in

@@ -6,7 +6,6 @@ use Rattle.formula_terms.specs.declared.Nodes.{Nodes}
 use Rattle.formula_terms.proofs.ReadingTerms.{passed_none, passed-one, passed_fails, no-atom}
 use Rattle.formula_terms.proofs.prefixes.Goals as goal
 
--- `prefixes` reads none, or one and those behind it.
 pub returns-then-at_atom : goal.returns-then-at_atom
 returns-then-at_atom c =
     let none = passed_none (names_in c.args.table.now) c.args.text.now c.args.c.at c.args.n c.args.lost c.args.nodes.now c.requires.0.token c.requires.1 in

@@ -10,7 +10,6 @@ use Rattle.formula_terms.specs.declared.Chain.{Chain}
 use Rattle.formula_cursor.proofs.ReadingTexts.{text_blank, text-token, text_fails, text-whole, text-rest}
 use Rattle.formula_terms.proofs.read_text.Goals as goal
 
--- `read_text` reads a whole text, or refuses it at the place where the reader does.
 pub returns-in-Past : goal.returns-in-Past
 returns-in-Past c =
     let s = c.args.text.now in

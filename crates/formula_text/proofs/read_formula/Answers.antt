@@ -15,7 +15,6 @@ use Rattle.formula_text.proofs.ReadingEntry.{short-table, short-formula, foreign
 use Rattle.lts.proofs.Laws.Prepared.{found-holds}
 use Rattle.formula_text.proofs.read_formula.Goals as goal
 
--- `read_formula` meets its contract: each answer is the one that the definitions give, and so is every byte of the lent buffer.
 -- The reply and the bytes, by the definitions and by the grammar.
 both : {b s e : List ℕ} {r : FormulaReply} {x : List ℕ} → FormulaAnswered (formula_reading b s e) e r x
     → (formula_reply r ≡ formula_replied b s e) × ((x ≡ formula_left b s e) × FormulaByGrammar b s e (formula_reply r) x)

@@ -10,7 +10,6 @@ use Rattle.formula_terms.specs.declared.Reading.{Reading}
 use Rattle.formula_text.proofs.ReadingEntry.{long-text, refused-text, whole-text}
 use Rattle.formula_text.proofs.read_text_over.Goals as goal
 
--- `read_text_over` answers and leaves what reading the text over the table's names gives.
 pub returns-then-text-gt-LONGEST_TEXT : goal.returns-then-text-gt-LONGEST_TEXT
 returns-then-text-gt-LONGEST_TEXT c =
     let a = c.args in

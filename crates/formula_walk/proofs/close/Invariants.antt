@@ -6,7 +6,6 @@ use Rattle.formula_pieces.proofs.Laws.Adds.{room_after}
 use Rattle.formula_walk.proofs.Laws.Closing.{Closing, closing-start, closing-more, closing_bar, closing_end}
 use Rattle.formula_walk.proofs.close.Given as goal
 
--- `close` writes what is pending, byte by byte, up to a `|`.
 abbrev pub invariant-loop-left : goal.invariant-loop-left
 invariant-loop-left l = Closing l.pending l.top l.at l.initial.out l.out l.end l.left
 

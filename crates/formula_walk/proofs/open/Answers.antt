@@ -5,7 +5,6 @@ use lib.ListN.{length-set}
 use Rattle.formula_walk.proofs.Laws.Opening.{opened_arm, opened_left}
 use Rattle.formula_walk.proofs.open.Goals as goal
 
--- `open` makes a `|` pending, and where it is an arm also a `)`, behind a `(`.
 pub bounds-pending-top-then-arm : goal.bounds-pending-top-then-arm
 bounds-pending-top-then-arm c =
     omega (arith, c.requires.0.long, c.requires.0.within, length-set c.args.pending.now c.args.top 41)

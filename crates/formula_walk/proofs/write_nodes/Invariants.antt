@@ -20,7 +20,6 @@ use Rattle.formulas.specs.inner.Access.{slot_of_node}
 use Rattle.formula_walk.proofs.Laws.Writing.{Writing, Short, writing_start, writing_more, writing_end}
 use Rattle.formula_walk.proofs.write_nodes.Given as goal
 
--- `write_nodes` writes node by node, and all of them give the formula's text.
 abbrev pub invariant-loop-k : goal.invariant-loop-k
 invariant-loop-k l = Writing (table_in l.table).names l.formula l.initial.out l.count l.out l.pending l.at l.top l.arm l.k
 

@@ -16,7 +16,6 @@ use Rattle.labelling.specs.declared.VerdictReply.{VerdictReply}
 use Rattle.labelling.specs.declared.VerdictReply.TheVariants.{Holds, Fails, Refused}
 use Rattle.labelling.proofs.verdict.Goals as goal
 
--- `verdict` meets its contract: a refusal of the inputs, and else what holds at the start.
 abbrev answer : Table → Formula → Reply ℕ
 answer t F = accepted (verdict t F)
 

@@ -11,7 +11,6 @@ use Rattle.table_steps.proofs.Laws.Exits.{exits_none, exits_grow, exits_all}
 use Rattle.table_steps.proofs.Laws.StepArray.{BelowDone, below_none, below-fits, below_more, below_all}
 use Rattle.table_steps.proofs.fill_steps.Given as goal
 
--- `fill_steps` meets its contract: the steps of the states below s stand in the array. In the first loop a transitions leave one of these
 -- states, in the second all do.
 abbrev pub invariant-loop-s : goal.invariant-loop-s
 invariant-loop-s l = (l.s ≤ l.states) × (l.a ≡ exits_below (table_in l.table).transitions l.s) × BelowDone (table_in l.table) l.s l.at l.steps l.firsts

@@ -9,7 +9,6 @@ use Rattle.target_masks.specs.inner.Masks.{Spells, MasksFit, MasksOf}
 use Rattle.target_masks.proofs.Laws.Places.{masks_from, masks_next, masks_end}
 use Rattle.target_masks.proofs.fill_masks.Given as goal
 
--- `fill_masks` meets its contract: the masks from place k on are right.
 abbrev pub invariant-loop-k : goal.invariant-loop-k
 invariant-loop-k l = (l.k ≤ get_or l.formula 0 0) × (length l.masks ≡ masks_length) × MasksFit l.masks × ((F : Formula) → Spells l.formula l.ends F → MasksOf F l.k l.masks)
 

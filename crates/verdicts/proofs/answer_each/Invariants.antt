@@ -16,7 +16,6 @@ use Rattle.verdicts.proofs.Laws.Answering.{AnsweredBelow, answered-none, answere
 use Rattle.verdicts.proofs.Laws.Answering.{bits_verdicts, bits_joint}
 use Rattle.verdicts.proofs.answer_each.Given as goal
 
--- `answer_each` meets its contract: the answers below i are written, each from the flags of one labelling.
 abbrev pub invariant-loop-i : goal.invariant-loop-i
 invariant-loop-i l = (l.i ≤ length l.starts) × AnsweredBelow l.flags l.starts l.initial.answers l.i l.answers l.joint
 

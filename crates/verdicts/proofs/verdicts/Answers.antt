@@ -5,7 +5,6 @@ use Rattle.formula_check.specs.declared.inputs.Unprepared.TheVariants.{BufferSho
 use Rattle.verdicts.proofs.Laws.Entry.{refused, short-table, short-formula, short-answers, foreign, answered}
 use Rattle.verdicts.proofs.verdicts.Goals as goal
 
--- `verdicts` meets its contract: 14 for each buffer, then 10, then the list.
 pub returns-then-table-lt-TABLE_LENGTH : goal.returns-then-table-lt-TABLE_LENGTH
 returns-then-table-lt-TABLE_LENGTH c =
     let w = refused _ _ _ _ (BufferShort _) (short-table _ _ _ _ c.if-table-lt-TABLE_LENGTH.true) in

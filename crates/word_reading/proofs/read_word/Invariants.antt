@@ -10,7 +10,6 @@ use Rattle.frontier.specs.inner.Reached.{word_read, root_reached}
 use Rattle.frontier.proofs.Laws.Left.{word_turn, word_turns, word_over}
 use Rattle.word_reading.proofs.read_word.Given as goal
 
--- `reading::read_word` meets its contract: the letters below i are read.
 abbrev pub invariant-loop-i : goal.invariant-loop-i
 invariant-loop-i l = (l.i ≤ length l.word) × (word_read (steps_in l.steps l.firsts) l.masks l.word (root_reached l.start) nowhere ≡ word_read (steps_in l.steps l.firsts) l.masks (drop l.i l.word) l.reached l.next)
 

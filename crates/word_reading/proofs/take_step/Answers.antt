@@ -6,7 +6,6 @@ use Rattle.frontier.specs.inner.Frontier.{brought}
 use Rattle.frontier.proofs.Laws.Left.{step-taken, step-not-taken}
 use Rattle.word_reading.proofs.take_step.Goals as goal
 
--- `reading::take_step` meets its contract, by whether the step has the label.
 pub returns-then-label_of-label : goal.returns-then-label_of-label
 returns-then-label_of-label c =
     let label = c.label_of.ensures in

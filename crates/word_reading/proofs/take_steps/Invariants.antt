@@ -9,7 +9,6 @@ use Rattle.frontier.specs.inner.Reached.{steps_taken}
 use Rattle.frontier.proofs.Laws.Left.{steps_next, steps_over}
 use Rattle.word_reading.proofs.take_steps.Given as goal
 
--- `reading::take_steps` meets its contract: the steps below k are taken.
 abbrev pub invariant-loop-k : goal.invariant-loop-k
 invariant-loop-k l = (l.end ≡ (span_of l.firsts l.s).to)
     × (steps_taken l.label l.places (steps_in l.steps l.firsts l.s) l.initial.next ≡ steps_taken l.label l.places (steps_between l.steps l.s l.k l.end) l.next)

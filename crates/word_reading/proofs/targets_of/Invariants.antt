@@ -14,7 +14,6 @@ use Rattle.frontier.proofs.Laws.Bits.{BitsFrom, bits_all, bits_some, bits_first,
 use Rattle.frontier.proofs.Laws.Through.{left, left_over, left_skip, left_turn}
 use Rattle.word_reading.proofs.targets_of.Given as goal
 
--- `reading::targets_of` meets its contract: what the places from k on add is left.
 abbrev pub invariant-loop-k : goal.invariant-loop-k
 invariant-loop-k l = BitsFrom l.places l.k l.rest × (l.k < 64 → bit_at l.places l.k ≡ true) × (targets_of l.masks l.places l.label ≡ left (targets_added l.masks l.places l.label) place_count l.k l.found)
 

@@ -15,7 +15,6 @@ use Rattle.words.specs.declared.WordReply.{WordReply}
 use Rattle.words.specs.declared.WordReply.TheVariants.{Refused}
 use Rattle.words.proofs.accepts.Goals as goal
 
--- `accepts` meets its contract: a refusal of the inputs, then 13, and else whether the word is accepted.
 abbrev answered : List ℕ → Table → Formula → Reply ℕ
 answered w t F = word_answer t F w
 

@@ -4,7 +4,6 @@ use Rattle.lts.specs.Reply.{accepted}
 use Rattle.automaton.specs.Bytes.{bit_of}
 use Rattle.words.proofs.answer_of.Goals as goal
 
--- `answer_of` meets its contract: 1 or 0.
 pub returns-then-found : goal.returns-then-found
 returns-then-found c =
     sym (ap (λ b. accepted (bit_of b)) c.if-found.true)

@@ -5,7 +5,6 @@ use Rattle.formula_check.specs.declared.inputs.Unprepared.TheVariants.{BufferSho
 use Rattle.write_formula.proofs.Laws.Entry.{refused, short-table, short-formula, short-text, foreign, written}
 use Rattle.write_formula.proofs.write_formula.Goals as goal
 
--- `write_formula` meets its contract: 14 for each buffer, then 10, then the line.
 pub returns-then-table-lt-TABLE_LENGTH : goal.returns-then-table-lt-TABLE_LENGTH
 returns-then-table-lt-TABLE_LENGTH c =
     let w = refused _ _ _ (BufferShort _) (short-table _ _ _ c.if-table-lt-TABLE_LENGTH.true) in

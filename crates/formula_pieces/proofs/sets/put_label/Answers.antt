@@ -9,7 +9,6 @@ use Rattle.formula_pieces.proofs.Laws.Adds.{adds_none}
 use Rattle.formula_pieces.proofs.Laws.Sets.{label-put}
 use Rattle.formula_pieces.proofs.sets.put_label.Goals as goal
 
--- `put_label` puts a label's name if the set has the label.
 pub in_set-requires : goal.in_set-requires
 in_set-requires c =
     inl (omega (arith, c.requires.1, c.requires.0.holds.in_range.few_labels))

@@ -9,7 +9,6 @@ use Rattle.formula_pieces.specs.inner.Adds.{Adds}
 use Rattle.formula_pieces.proofs.Laws.Adds.{adds_then, over_after}
 use Rattle.formula_pieces.proofs.sets.put_member.Goals as goal
 
--- `put_member` puts a `|` before every name but the first.
 separated : (name : List ℕ) {at to : ℕ} {e x : List ℕ} (first b : Bool) → first ≡ b → Adds (cond b [] (124 ∷ []) ++ name) at e x to
     → Adds (cond first [] (124 ∷ []) ++ name) at e x to
 separated name {at} {to} {e} {x} first b d h = subst (λ t. Adds (cond t [] (124 ∷ []) ++ name) at e x to) (sym d) h

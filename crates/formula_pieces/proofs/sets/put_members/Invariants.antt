@@ -14,7 +14,6 @@ use Rattle.formula_pieces.proofs.Laws.Adds.{adds_none, adds_same}
 use Rattle.formula_pieces.proofs.Laws.Sets.{joining_more, joining_all, joining_short}
 use Rattle.formula_pieces.proofs.sets.put_members.Given as goal
 
--- `put_members` joins the names of the set's labels, label by label.
 abbrev pub invariant-loop-left : goal.invariant-loop-left
 invariant-loop-left l = Adds (joined (members (take (l.count - l.left) (table_in l.table).names) l.set)) l.at l.initial.out l.out l.end × (l.left ≤ l.count)
 

@@ -5,7 +5,6 @@ use Rattle.formula_pieces.proofs.Laws.Adds.{adds_then, adds_same}
 use Rattle.formula_pieces.proofs.Laws.Masks.{set_all, set-none, set-some}
 use Rattle.formula_pieces.proofs.sets.put_set.Goals as goal
 
--- `put_set` tells all labels and none apart from the others by the mask.
 pub returns-then-set-all_labels : goal.returns-then-set-all_labels
 returns-then-set-all_labels c =
     adds_same (set_all _ c.requires.0.holds _ c.requires.1 (c.if-set-all_labels.true ∙ c.all_labels.ensures)) c.put.ensures

@@ -4,7 +4,6 @@ use Rattle.formula_classes.specs.inner.WalkReplies.{classless_node}
 use Rattle.formula_text.proofs.ReadingAnswers.{kinds_are, answer_unknown, answer-many, answer_classless, answer-accepted}
 use Rattle.formula_text.proofs.writing.answer.Goals as goal
 
--- `answer` refuses 7, 8 and 9 in this order, and else leaves the prepared bytes.
 pub returns-then-lost-ne0 : goal.returns-then-lost-ne0
 returns-then-lost-ne0 c =
     let a = c.args in

@@ -6,7 +6,6 @@ use lib.ListN.{length-set}
 use Rattle.kept_sets.proofs.Laws.Words.{word_set, word_put}
 use Rattle.kept_sets.proofs.words.put_word.Goals as goal
 
--- `words::put_word` meets its contract: eight bytes are written one behind the other.
 pub bounds-bytes-at-2 : goal.bounds-bytes-at-2
 bounds-bytes-at-2 c =
     simp length-set (omega arith)

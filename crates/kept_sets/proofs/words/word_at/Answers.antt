@@ -4,7 +4,6 @@ use mathlib.Core.Path.{refl}
 use Rattle.kept_sets.proofs.Laws.Words.{word_parts}
 use Rattle.kept_sets.proofs.words.word_at.Goals as goal
 
--- `words::word_at` meets its contract: eight bytes are two fours.
 pub returns : goal.returns
 returns c =
     let a = c.args in

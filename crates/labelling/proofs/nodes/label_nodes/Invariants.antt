@@ -9,7 +9,6 @@ use Rattle.labelling.proofs.Laws.Prepared.{rows_none, rows_all}
 use Rattle.labelling.proofs.Laws.Nodes.{rows_on}
 use Rattle.labelling.proofs.nodes.label_nodes.Given as goal
 
--- `label_nodes` meets its contract: the rows of the nodes from k on are labelled.
 abbrev pub invariant-loop-k : goal.invariant-loop-k
 invariant-loop-k l = (l.k ≤ get_or l.formula 0 0) × RowsFrom l.table l.formula l.k l.flags
 

@@ -5,7 +5,6 @@ use Rattle.lts.specs.Sizes.{most_states}
 use Rattle.labelling.proofs.Laws.Rows.{RowPutBelow, row-put-none, row-put-on, row-put-all}
 use Rattle.labelling.proofs.nodes.put_row.Given as goal
 
--- `put_row` meets its contract: the flags of the states below s are put in.
 abbrev pub invariant-loop-s : goal.invariant-loop-s
 invariant-loop-s l = (l.s ≤ most_states) × RowPutBelow l.k l.s l.found l.initial.flags l.flags
 

@@ -16,7 +16,6 @@ use Rattle.labelling.specs.inner.Rows.{row_at}
 use Rattle.until_search.proofs.Laws.Flags.{some-found, some-later, some-none}
 use Rattle.labelling.proofs.steps.some_step.Given as goal
 
--- `some_step` meets its contract: the steps from k on are searched, and none before k comes out as wanted.
 abbrev pub invariant-loop-k : goal.invariant-loop-k
 invariant-loop-k l = ((span_of l.firsts l.s).from ≤ l.k) × (l.end ≡ (span_of l.firsts l.s).to)
     × (some_step l.wanted (cond_in l.condition) (row_at l.flags l.arm) (steps_in l.steps l.firsts l.s)

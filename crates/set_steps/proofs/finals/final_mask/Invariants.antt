@@ -13,7 +13,6 @@ use Rattle.set_steps.proofs.Laws.Masks.{meets-more, meets_empty}
 use Rattle.set_steps.proofs.Laws.Tests.{any_upto}
 use Rattle.set_steps.proofs.finals.final_mask.Given as goal
 
--- `final_mask` meets its contract: the mask has the final places below k.
 abbrev pub invariant-loop-k : goal.invariant-loop-k
 invariant-loop-k l = (l.k ≤ place_count) × ((p : ℕ) → any_of (final_place l.finals p) (up_from 0 l.k) ≡ meets l.mask p)
 

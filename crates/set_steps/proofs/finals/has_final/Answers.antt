@@ -13,7 +13,6 @@ use Rattle.set_steps.proofs.Laws.Masks.{some-zero, some_more, meets-none}
 use Rattle.set_steps.proofs.Laws.Tests.{any_same, any_here, any-later, any_empty}
 use Rattle.set_steps.proofs.finals.has_final.Goals as goal
 
--- `has_final` meets its contract: what the states from s on have is left.
 -- The final places are those of the mask.
 as-final : (finals : List Bool) (mask : ℕ) (set : List ℕ) → FinalMask finals mask → any_of (meets mask) set ≡ has_final finals set
 unfolding has_final

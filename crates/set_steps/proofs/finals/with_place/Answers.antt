@@ -9,7 +9,6 @@ use borrow.Author.Rules.{rules}
 use Rattle.target_masks.specs.inner.Masks.{bit_if}
 use Rattle.set_steps.proofs.finals.with_place.Goals as goal
 
--- `with_place` meets its contract: the shifted bit fits.
 pub returns-then-wanted : goal.returns-then-wanted
 returns-then-wanted c =
     let a = c.args in

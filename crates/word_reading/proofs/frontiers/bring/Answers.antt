@@ -8,7 +8,6 @@ use Rattle.frontier.specs.inner.Frontier.{marks_at, places_at, brought}
 use borrow.Author.Rules.{rules}
 use Rattle.word_reading.proofs.frontiers.bring.Goals as goal
 
--- `frontiers::bring` meets its contract: both masks are as they are brought.
 pub returns : goal.returns
 unfolding brought
 returns c =

@@ -7,7 +7,6 @@ use Rattle.frontier.specs.inner.Frontier.{has_state}
 use Rattle.frontier.proofs.Laws.Frontiers.{state-found, state-later}
 use Rattle.word_reading.proofs.frontiers.next_state.Given as goal
 
--- `frontiers::next_state` meets its contract: no state from s to before v has places.
 abbrev pub invariant-loop-v : goal.invariant-loop-v
 invariant-loop-v l = (l.s ≤ l.v) × (l.v ≤ 256) × ((j : ℕ) → l.s ≤ j → j < l.v → has_state l.frontier j ≡ false)
 
