@@ -1,6 +1,6 @@
 -- The reader reads every text of the grammar, and gives its tree.
-use mathlib.Core.Path.{◌≡◌, refl, sym, ap, ◌∙◌, subst}
-use mathlib.Core.Bool.{Bool, true, false, cond, Bool-set, true≢false, ◌&&◌, ◌||◌}
+use mathlib.Core.Path.{◌≡◌, refl, sym, ap, ◌∙◌}
+use mathlib.Core.Bool.{Bool, true, false, cond, Bool-set, true≢false}
 use mathlib.Core.HLevel.{is_prop→PathP}
 use mathlib.Core.List.{List, [], ◌∷◌, ◌++◌, append_assoc, append-nil}
 use Prim.Native.Nat.{ℕ, zero, suc, ◌+◌}
@@ -16,10 +16,10 @@ use Rattle.actl.specs.Grammar.{Name, Set, operand, union, Operand, name, any, re
 use Rattle.actl.specs.Grammar.{universal, Head, next, until, until_then, reach, labelled, Disjunction, conjunction, or, Conjunction, term, and, Term, tru, not}
 use Rattle.actl.specs.Grammar.{modal, paren}
 use Rattle.actl.specs.inner.Show.{gap, show_s, show_o, show_c, show_q, show_l, show_h, show_f, show_a, show_t}
-use Rattle.actl.specs.inner.Reader.{InDisjunction, f_top, f_paren, InTerm, t_first, t_or, t_and, t_not, t_modal, InSet, s_paren, s_next, s_until, s_then, s_labelled, InOperand}
-use Rattle.actl.specs.inner.Reader.{o_first, o_or, o_not, State, term_at, after_e, after_a, after_labelled, after_next, after_until, bracket_at, operand_at, after_dot, naming}
-use Rattle.actl.specs.inner.Reader.{after_set, after_disjunction, ReaderStep, go, stop, on, plug_t, plug_o, named, leave_o, read_byte, finish, finish_disjunction}
-use Rattle.actl.specs.inner.Reader.{proceed, run, start, read, Result, whole, refused}
+use Rattle.actl.specs.inner.Reader.{InDisjunction, f_paren, InTerm, t_first, t_or, t_and, t_not, t_modal, InSet, s_paren, s_next, s_until, s_then, s_labelled, InOperand}
+use Rattle.actl.specs.inner.Reader.{o_first, o_or, o_not, State, term_at, after_labelled, after_next, after_until, bracket_at, operand_at, after_dot, naming}
+use Rattle.actl.specs.inner.Reader.{after_set, after_disjunction, ReaderStep, go, on, plug_t, plug_o, named, leave_o, read_byte, finish}
+use Rattle.actl.specs.inner.Reader.{proceed, run, refused}
 use Rattle.actl.proofs.Sound.{leave_step}
 
 -- Blanks, where they count up.

@@ -1,8 +1,7 @@
 -- Worked examples: the definitions of formulas, run over the label names of 01's table M.
 use mathlib.Core.Path.{◌≡◌, refl}
-use mathlib.Core.List.{List, [], ◌∷◌, ◌++◌}
+use mathlib.Core.List.{[], ◌∷◌}
 use mathlib.Core.Option.{some}
-use Prim.Native.Nat.{ℕ}
 use Prim.Native.String.{String}
 use lib.ListN.{length}
 use Rattle.actl.specs.Sizes.{formula_length}
@@ -10,7 +9,7 @@ use Rattle.columns.specs.Ascii.{ascii}
 use Rattle.lts.specs.Names.{find_from}
 use Rattle.lts.specs.Reply.{Reply, accepted, refusal}
 use Rattle.actl.specs.Actions.{mask_of, labels}
-use Rattle.actl.specs.Formulas.{Formula, tru, not, or, ax, eu_then, class_of, highest_without_class}
+use Rattle.actl.specs.Formulas.{Formula, tru, or, ax, eu_then, class_of, highest_without_class}
 use Rattle.actl.specs.inner.Reading.{read_formula}
 use Rattle.actl.specs.Prepared.{formula_bytes}
 use Rattle.actl.specs.inner.Prepared.{push, prepared_formula}

@@ -1,6 +1,6 @@
 -- Worked examples of 02's `&` and short forms: the definitions, run over the label names of 01's table M.
 use mathlib.Core.Path.{◌≡◌, refl}
-use mathlib.Core.List.{List, [], ◌∷◌, ◌++◌}
+use mathlib.Core.List.{List, [], ◌∷◌}
 use Prim.Native.Nat.{ℕ, zero, suc}
 use Prim.Native.String.{String}
 use Rattle.columns.specs.Ascii.{ascii}

@@ -7,15 +7,14 @@ use lib.Dec.{eqb}
 use borrow.Author.Tests.{eqb-true}
 use Rattle.lts.specs.Names.{is_name}
 use Rattle.lts.specs.Directions.{Plain}
-use Rattle.actl.specs.Grammar.{Name, Set, operand, union, Operand, name, any, received, sent, except, group, Condition, dot, set, Quantifier, existential}
-use Rattle.actl.specs.Grammar.{universal, Head, next, until, until_then, reach, labelled, Disjunction, conjunction, or, Conjunction, term, and, Term, tru, not}
+use Rattle.actl.specs.Grammar.{Set, operand, union, Operand, name, any, received, sent, except, group, dot, set, Quantifier, existential}
+use Rattle.actl.specs.Grammar.{universal, Head, next, until, until_then, labelled, Disjunction, conjunction, or, term, Term, tru, not}
 use Rattle.actl.specs.Grammar.{modal, paren}
 use Rattle.actl.specs.inner.Show.{gap, show_s, show_o, show_q, show_l, show_h, show_f, show_t}
 use Rattle.actl.specs.inner.Reader.{InDisjunction, f_top, f_paren, InTerm, t_first, t_or, t_and, t_not, t_modal, InSet, s_paren, s_next, s_until, s_then, s_labelled, InOperand}
 use Rattle.actl.specs.inner.Reader.{o_first, o_or, o_not, State, term_at, after_e, after_a, after_first, after_second, after_labelled, after_next, after_until, bracket_at}
 use Rattle.actl.specs.inner.Reader.{operand_at, after_dot, naming, after_set, after_disjunction, ReaderStep, go, stop, on, and_last, plug_t, plug_o, blank_f, blank_t}
-use Rattle.actl.specs.inner.Reader.{blank_s, blank_o, term_step, named, operand_step, close_step, set_step, leave_o, paren_step, second, third, read_byte, finish}
-use Rattle.actl.specs.inner.Reader.{finish_disjunction, proceed, run, start, read, Result, whole, refused}
+use Rattle.actl.specs.inner.Reader.{blank_s, blank_o, term_step, named, operand_step, close_step, set_step, leave_o, paren_step, second, third, read_byte}
 
 abbrev mutual
   pub pre_f : InDisjunction → List ℕ → List ℕ

@@ -1,5 +1,5 @@
 -- Definition 2 of document 000: action formulas; sets of labels as masks; step conditions. d gives the direction of each label.
-use Rattle.std.specs.Prelude.{Bool, true, false, cond, not as negate, ◌&&◌, ◌||◌, ℕ, zero, suc, ◌+◌, ◌/◌, ◌%◌, ◌^◌, eqb}
+use Rattle.std.specs.Prelude.{Bool, true, cond, not as negate, ◌&&◌, ◌||◌, ℕ, zero, suc, ◌+◌, ◌/◌, ◌%◌, ◌^◌, eqb}
 use Rattle.lts.specs.Steps.{silent as isSilent}
 use Rattle.lts.specs.Directions.{Direction, same_direction}
 

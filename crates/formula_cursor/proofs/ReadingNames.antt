@@ -12,7 +12,7 @@ use lib.ListN.{length, get_or, drop, length-append, drop_of_length-le}
 use lib.Seq.{drop-cons}
 use Rattle.lts.specs.Names.{is_lower, is_name_byte, is_name}
 use Rattle.lts.specs.Marks.{is_mark}
-use Rattle.lts.specs.inner.NameEnds.{stem_run, stem_length, stem_end, mark_length, name_length, name_end}
+use Rattle.lts.specs.inner.NameEnds.{stem_run, stem_length, stem_end, mark_length, name_end}
 use Rattle.lts.proofs.Booleans.{and-true-of, and-true-to}
 use Rattle.lts.proofs.Laws.Stems.{is_stem}
 use Rattle.lts.proofs.Laws.NameBytes.{stem-grows, name-ends, name-full, mark-ends}

@@ -4,7 +4,7 @@ use mathlib.Core.List.{List, [], ◌∷◌, ◌++◌, map}
 use mathlib.Core.Option.{none, some}
 use Prim.Native.Nat.{ℕ}
 use Prim.Native.String.{String}
-use lib.ListN.{length, take}
+use lib.ListN.{length}
 use Rattle.lts.specs.Sizes.{table_length}
 use Rattle.columns.specs.Ascii.{ascii}
 use Rattle.columns.specs.Columns.{column, digits_within}
@@ -16,7 +16,6 @@ use Rattle.lts.specs.inner.Steps.{steps_from, alphabet}
 use Rattle.lts.specs.TableText.{table_text}
 use Rattle.lts.specs.Text.{ended}
 use Rattle.lts.specs.Reading.{read_table, read_table_with, read_labels_with, read_transitions}
-use Rattle.lts.specs.inner.Reading.{read_labels}
 use Rattle.lts.specs.Prepared.{table_bytes}
 use Rattle.lts.specs.inner.Prepared.{table_in, prepared_table}
 

@@ -1,5 +1,5 @@
 -- Every accepted reading leaves the one form: at most 40 nodes, each with a class, sets within the table's labels.
-use mathlib.Core.Path.{◌≡◌, refl, sym, ap, ◌∙◌, subst}
+use mathlib.Core.Path.{◌≡◌, refl, ap, ◌∙◌, subst}
 use mathlib.Core.Logic.{◌⊎◌, inl, inr}
 use mathlib.Core.Bool.{Bool, true, false}
 use mathlib.Core.List.Memᴰ
@@ -7,15 +7,15 @@ use mathlib.Core.List.{List, [], ◌∷◌, ◌++◌, Memᴰ}
 use mathlib.Core.Option.{Option, none, some}
 use Prim.Native.Nat.{ℕ, suc, ◌^◌, ◌≤◌}
 use native.Mathlib.Omega.{arith}
-use lib.Dec.{leb, eqb, ltb}
+use lib.Dec.{leb}
 use lib.ListN.{length}
 use lib.Pow.{pow_pos}
 use borrow.Author.Tests.{leb-true, lt-ltb}
 use Rattle.actl.specs.Sizes.{most_nodes, longest_text}
 use Rattle.lts.specs.Directions.{label_direction}
-use Rattle.lts.specs.Reply.{Reply, accepted, refusal, unless}
+use Rattle.lts.specs.Reply.{Reply, accepted, unless}
 use Rattle.lts.proofs.Booleans.{and-true-to}
-use Rattle.actl.specs.Actions.{Mask, Cond, silent, labels, mask_of}
+use Rattle.actl.specs.Actions.{silent, labels}
 use Rattle.actl.specs.Formulas.{Formula, size, nodes, highest_without_class}
 use Rattle.actl.specs.Grammar.{Set, Condition, dot, set, Quantifier, existential, universal}
 use Rattle.actl.specs.Base.{BaseHead, next, until, until_then, Base, term, or, BaseTerm, tru, not, modal, paren}

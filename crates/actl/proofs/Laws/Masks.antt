@@ -1,6 +1,6 @@
 -- Masks: the mask of an action formula over labels 1 to n has the bit of exactly the labels that satisfy it, and none above n.
 use mathlib.Core.Path.{◌≡◌, refl, sym, ap, ◌∙◌}
-use mathlib.Core.Bool.{Bool, true, false, cond, ◌&&◌, ◌||◌, not}
+use mathlib.Core.Bool.{Bool, true, false, cond, ◌||◌}
 use Prim.Native.Nat.{ℕ, zero, suc, ◌+◌, ◌-◌, ◌*◌, ◌/◌, ◌%◌, ◌^◌, ◌≤◌, ◌<◌}
 use native.Mathlib.Nat.{add-zero, pow-succ', two-pow-succ, add-mul-div_right, div-eq_of_lt, add-div_right, lt_of_lt_of_le}
 use lib.Pow.{pow-add, pow_pos, pow_mono}

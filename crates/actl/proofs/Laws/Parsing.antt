@@ -2,17 +2,17 @@
 use mathlib.Core.Path.{◌≡◌, refl, sym, ap, ◌∙◌, subst}
 use mathlib.Core.Bool.{Bool, true, false, cond}
 use mathlib.Core.List.{List, [], ◌∷◌, ◌++◌, map, append_assoc, append-nil, Memᴰ}
-use mathlib.Core.Option.{Option, none, some}
+use mathlib.Core.Option.{some}
 use Prim.Native.Nat.{ℕ}
 use native.Mathlib.Omega.{arith}
 use Rattle.lts.proofs.Lists.{map_append}
-use Rattle.actl.specs.Actions.{Mask, Cond, silent, labels}
+use Rattle.actl.specs.Actions.{Mask, silent, labels}
 use Rattle.actl.specs.Formulas.{Formula, tru, not, or, ex, ax, eu, eu_then, nodes}
 use Rattle.actl.specs.Prepared.{Slot, slot, slot_of}
 use Rattle.actl.specs.inner.Prepared.{push, push_on, trees_in}
 use Rattle.actl.specs.inner.Shaped.{shaped, first_used, second_used}
 use Rattle.actl.specs.inner.Walk.{kind_of, kinds_of}
-use Rattle.actl.proofs.Laws.Slots.{Shape, shape_of}
+use Rattle.actl.proofs.Laws.Slots.{shape_of}
 use Rattle.actl.proofs.Laws.Polish.{clean, trees_of}
 
 abbrev kinds_in : List Slot → List ℕ

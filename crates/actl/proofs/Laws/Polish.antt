@@ -11,7 +11,7 @@ use lib.Dec.{eqb}
 use borrow.Author.Tests.{eqb-true}
 use Rattle.lts.specs.Lists.{bind}
 use Rattle.lts.proofs.Lists.{map_append}
-use Rattle.actl.specs.Actions.{Mask, Cond, silent, labels}
+use Rattle.actl.specs.Actions.{Mask, silent, labels}
 use Rattle.actl.specs.Formulas.{Formula, tru, not, or, ex, ax, eu, eu_then, nodes}
 use Rattle.actl.specs.Prepared.{Slot, slot, slot_of}
 use Rattle.actl.specs.inner.Prepared.{push, push_on, trees_in, one, two, chosen}

@@ -1,15 +1,14 @@
 -- A formula without its masks is given by its kinds, and has the same ends and classes.
 use mathlib.Core.Path.{◌≡◌, refl, sym, ap, ◌∙◌}
-use mathlib.Core.Bool.{Bool}
-use mathlib.Core.List.{List, [], ◌∷◌, ◌++◌, map}
-use mathlib.Core.Option.{Option, none, some}
-use Prim.Native.Nat.{ℕ, zero, suc, ◌+◌}
+use mathlib.Core.List.{[], ◌∷◌, ◌++◌, map}
+use mathlib.Core.Option.{some}
+use Prim.Native.Nat.{ℕ, suc, ◌+◌}
 use Rattle.lts.proofs.Lists.{map_append}
-use Rattle.actl.specs.Actions.{Mask, Cond, silent, labels}
+use Rattle.actl.specs.Actions.{Cond, silent, labels}
 use Rattle.actl.specs.Formulas.{Formula, tru, not, or, ex, ax, eu, eu_then, size, nodes, is_t, class_of, class_of_not, class_of_or, class_of_some, class_of_all}
 use Rattle.actl.specs.Prepared.{Slot, slot, slot_of}
 use Rattle.actl.specs.inner.Prepared.{trees_in}
-use Rattle.actl.specs.inner.Walk.{kind_of, kinds_of, arm_of, ends_from, classes_of}
+use Rattle.actl.specs.inner.Walk.{kind_of, kinds_of, ends_from, classes_of}
 use Rattle.actl.proofs.Laws.Polish.{tree-of-slots}
 
 abbrev skeleton_cond : Cond → Cond

@@ -1,12 +1,11 @@
 -- Slots that some node has: equal by their parts, and zero in the masks that their kind does not have.
 use mathlib.Core.Path.{◌≡◌, refl, sym, ap, ◌∙◌}
-use mathlib.Core.Bool.{Bool, true, false, false≢true, ◌&&◌, ◌||◌}
-use Prim.Native.Nat.{ℕ, ◌≤◌, ◌<◌}
-use native.Mathlib.Omega.{arith}
+use mathlib.Core.Bool.{Bool, true, false, false≢true, ◌||◌}
+use Prim.Native.Nat.{ℕ, ◌≤◌}
 use lib.Dec.{leb, eqb}
 use borrow.Author.Tests.{leb-true, eqb-true}
 use Rattle.lts.proofs.Booleans.{and-true-of}
-use Rattle.actl.specs.Actions.{Mask, Cond, silent, labels}
+use Rattle.actl.specs.Actions.{Mask, silent, labels}
 use Rattle.actl.specs.Formulas.{Formula, tru, not, or, ex, ax, eu, eu_then}
 use Rattle.actl.specs.Prepared.{Slot, slot, slot_of}
 use Rattle.actl.specs.inner.Shaped.{shaped, first_used, second_used}

@@ -1,6 +1,6 @@
 -- Polish notation reads in one way: where a formula's kinds end, and at which node no formula stands.
-use mathlib.Core.Path.{◌≡◌, refl, sym, ap, ◌∙◌, subst}
-use mathlib.Core.Bool.{Bool, true, false, cond}
+use mathlib.Core.Path.{◌≡◌, refl, sym, ap, ◌∙◌}
+use mathlib.Core.Bool.{cond}
 use mathlib.Core.List.{List, [], ◌∷◌, ◌++◌, map, append_assoc, append-nil}
 use mathlib.Core.Option.{Option, none, some}
 use Prim.Native.Nat.{ℕ, zero, suc, ◌+◌, ◌≤◌, ◌<◌}
@@ -10,13 +10,10 @@ use lib.ListN.{length, get_or, drop, length-append, length-drop}
 use lib.Seq.{get_or-drop}
 use borrow.Author.Tests.{le-leb}
 use Rattle.lts.proofs.Lists.{map_append}
-use Rattle.actl.specs.Actions.{Mask, Cond, silent, labels}
-use Rattle.actl.specs.Formulas.{Formula, tru, not, or, ex, ax, eu, eu_then, size, nodes, is_t, class_of}
-use Rattle.actl.specs.Prepared.{Slot, slot, slot_of}
-use Rattle.actl.specs.inner.Prepared.{trees_in}
-use Rattle.actl.specs.inner.Walk.{kind_of, kinds_of, kind_at, arm_of, ends_from, classes_of, Spelled, Traversed}
+use Rattle.actl.specs.Actions.{silent, labels}
+use Rattle.actl.specs.Formulas.{Formula, tru, not, or, ex, ax, eu, eu_then, size, nodes}
+use Rattle.actl.specs.inner.Walk.{kind_of, kinds_of, kind_at, Spelled}
 use Rattle.actl.proofs.Nodes.{size_pos}
-use Rattle.actl.proofs.Laws.Polish.{tree-of-slots}
 use Rattle.actl.proofs.Laws.Walks.{kind-here, drop_part, length_kinds}
 
 -- The list behind n formulas, by the number of arms of each kind.

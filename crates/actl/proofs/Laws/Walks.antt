@@ -1,9 +1,8 @@
 -- A walk over kinds, node by node: what it finds at a node follows from what it finds at the arms.
 use mathlib.Core.Path.{◌≡◌, refl, sym, ap, ◌∙◌, subst}
-use mathlib.Core.Bool.{Bool, true, false, cond}
-use mathlib.Core.List.{List, [], ◌∷◌, ◌++◌, map, append_assoc}
-use mathlib.Core.Option.{Option, none, some}
-use Prim.Native.Nat.{ℕ, zero, suc, ◌+◌, ◌*◌, ◌≤◌, ◌<◌}
+use mathlib.Core.Bool.{cond}
+use mathlib.Core.List.{List, ◌∷◌, ◌++◌, map, append_assoc}
+use Prim.Native.Nat.{ℕ, zero, suc, ◌+◌, ◌≤◌, ◌<◌}
 use native.Mathlib.Numerals.{add-one}
 use native.Mathlib.Omega.{arith}
 use native.Mathlib.Decide.{dec_lt, dec_le}
@@ -12,9 +11,9 @@ use lib.ListN.{length, get_or, drop, set, length-map, length-append, get_or-eq_d
 use borrow.Author.Tests.{le-leb, lt-leb}
 use lib.Seq.{sets, drop-cons, drop-append_seam, drop-drop}
 use Rattle.lts.proofs.Lists.{map_append}
-use Rattle.actl.specs.Actions.{Mask, Cond, silent, labels}
-use Rattle.actl.specs.Formulas.{Formula, tru, not, or, ex, ax, eu, eu_then, size, nodes, is_t, class_of, class_of_or}
-use Rattle.actl.specs.inner.Walk.{kind_of, kinds_of, kind_at, arm_of, class_of_arm, class_from, ends_from, classes_of, Spelled, Traversed}
+use Rattle.actl.specs.Actions.{silent, labels}
+use Rattle.actl.specs.Formulas.{Formula, tru, not, or, ex, ax, eu, eu_then, size, nodes, class_of, class_of_or}
+use Rattle.actl.specs.inner.Walk.{kind_of, kinds_of, kind_at, arm_of, class_of_arm, class_from, ends_from, classes_of, Traversed}
 use Rattle.actl.proofs.Nodes.{length-nodes}
 use Rattle.actl.proofs.Laws.Sets.{set_before, sets_append}
 use Rattle.actl.proofs.Laws.Table.{class-of-not, class-of-ex, class-of-ax, class-of-eu, class-of-eu_then, class-of-or}

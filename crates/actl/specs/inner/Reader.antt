@@ -1,9 +1,9 @@
 -- The executable twin of `Text` (../Grammatical.antt), a byte at a time: `read-text` (proofs/Grammar.antt) says that it accepts exactly the grammatical
 -- texts. A context is what was read before a place, inside out; its last number is the blanks read since the last token.
-use Rattle.std.specs.Prelude.{◌≡◌, refl, Bool, true, false, cond, List, [], ◌∷◌, ◌++◌, ℕ, zero, suc, ◌-◌, eqb, length}
+use Rattle.std.specs.Prelude.{◌≡◌, refl, Bool, true, false, cond, List, [], ◌∷◌, ◌++◌, ℕ, zero, suc, eqb}
 use Rattle.lts.specs.Names.{is_name}
 use Rattle.actl.specs.Grammar.{Name, Set, operand, union, Operand, name, any, received, sent, except, group, dot, set, Quantifier, existential, universal, Head}
-use Rattle.actl.specs.Grammar.{next, until, until_then, reach, labelled, Disjunction, conjunction, or, Conjunction, term, and, Term, tru, not, modal, paren}
+use Rattle.actl.specs.Grammar.{next, until, until_then, reach, labelled, Disjunction, conjunction, or, term, and, Term, tru, not, modal, paren}
 
 mutual
   pub data InDisjunction : Type 0 where

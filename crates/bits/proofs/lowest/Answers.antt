@@ -1,5 +1,4 @@
 -- `lowest` meets its contract.
-use borrow.Author.Rules.{rules}
 use native.Mathlib.Omega.{arith}
 use lib.Count.{trailing_le}
 use Rattle.bits.proofs.lowest.Goals as goal

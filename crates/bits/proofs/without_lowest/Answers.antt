@@ -1,5 +1,4 @@
 -- `without_lowest` meets its contract: `m & (m - 1)` has every place of m but the lowest.
-use borrow.Author.Rules.{rules}
 use Rattle.bits.proofs.Laws.Lowest.{cleared}
 use Rattle.bits.proofs.without_lowest.Goals as goal
 

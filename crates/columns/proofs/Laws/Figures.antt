@@ -1,15 +1,14 @@
 -- Laws of writing a number's digits from the last to the first.
-use mathlib.Core.Path.{◌≡◌, refl, sym, ap, ◌∙◌, subst}
+use mathlib.Core.Path.{◌≡◌, refl, sym, ap, ◌∙◌}
 use mathlib.Core.Bool.{Bool, true, false, cond}
 use mathlib.Core.List.{List, [], ◌∷◌, ◌++◌, append_assoc}
-use Prim.Native.Nat.{ℕ, zero, suc, ◌+◌, ◌-◌, ◌*◌, ◌/◌, ◌%◌, ◌^◌, ◌≤◌, ◌<◌}
+use Prim.Native.Nat.{ℕ, zero, suc, ◌+◌, ◌-◌, ◌/◌, ◌%◌, ◌^◌, ◌≤◌, ◌<◌}
 use native.Mathlib.Nat.{pow-suc}
-use native.Mathlib.Numerals.{add-one}
 use native.Mathlib.Omega.{arith}
 use lib.Dec.{ltb}
-use lib.ListN.{length, replicate, take, drop, set, length-append, length-replicate, length-drop, length-set, take-append-drop}
-use lib.Seq.{drop-cons, set_split, take-set-le, drop_at, length-take-le}
-use borrow.Author.Tests.{ltb-true, ltb-false, lt-ltb, le-ltb}
+use lib.ListN.{length, replicate, take, drop, set, length-drop, length-set, take-append-drop}
+use lib.Seq.{set_split, take-set-le, drop_at, length-take-le}
+use borrow.Author.Tests.{ltb-false, lt-ltb, le-ltb}
 use Rattle.columns.specs.Columns.{digits_within, decimal, column}
 
 -- More room than digits makes no difference.

@@ -2,7 +2,6 @@
 use native.Mathlib.Omega.{arith}
 use mathlib.Core.Path.{◌≡◌, sym, subst, ◌∙◌}
 use Prim.Native.Nat.{ℕ, suc, ◌+◌, ◌-◌, ◌<◌}
-use borrow.Author.Rules.{rules}
 use Rattle.columns.proofs.Laws.Scan.{Compared, last_differs, compare_starts, compare_differs, compare_goes_on, compare_ends}
 use Rattle.columns.proofs.is_column.Goals as goal
 

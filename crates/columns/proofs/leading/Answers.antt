@@ -1,5 +1,4 @@
 -- `leading` gives the byte `lead`.
-use borrow.Author.Rules.{rules}
 use borrow.Author.Tests.{eq-eqb, ne_eqb}
 use Rattle.columns.proofs.leading.Goals as goal
 

@@ -1,8 +1,6 @@
 -- `value_at` gives the value of the six bytes: the invariant is `Valued`, what is left of the value.
-use Prim.Native.Nat.{◌-◌}
 use native.Mathlib.Omega.{arith}
-use borrow.Author.Rules.{rules}
-use Rattle.columns.proofs.Laws.Scan.{Valued, value-starts, value-fits, value_goes_on, value-ends}
+use Rattle.columns.proofs.Laws.Scan.{value-starts, value-fits, value_goes_on, value-ends}
 use Rattle.columns.proofs.value_at.Goals as goal
 
 pub loop-i-init : goal.loop-i-init

@@ -15,11 +15,11 @@ use Rattle.lts.specs.Steps.{Table, labels}
 use Rattle.lts.specs.inner.Prepared.{table_in, prepared_table}
 use Rattle.lts.specs.inner.HoldsTable.{HoldsTable}
 use Rattle.lts.specs.inner.Answers.{is_some}
-use Rattle.lts.proofs.Laws.Prepared.{is-some-of, prepared_in, prepared-of, prepared-holds}
+use Rattle.lts.proofs.Laws.Prepared.{prepared_in, prepared-of, prepared-holds}
 use Rattle.actl.specs.Formulas.{Formula}
 use Rattle.actl.specs.inner.Prepared.{prepared_formula}
 use Rattle.actl.specs.inner.HoldsFormula.{HoldsFormula}
-use Rattle.actl.specs.FormulaReading.{with_formula, long_enough, on_prepared}
+use Rattle.actl.specs.FormulaReading.{with_formula, on_prepared}
 use Rattle.lts.specs.Prepared.{with_table}
 use Rattle.formula_check.specs.Inputs.{unprepared, inputs_reply}
 use Rattle.formula_check.specs.declared.inputs.Unprepared.{Unprepared}

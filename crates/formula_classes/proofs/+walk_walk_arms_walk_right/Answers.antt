@@ -1,12 +1,11 @@
 -- The walk over a formula's nodes meets its contract: a node, its arms and the right arm of `|` call each other, and the nodes left fall.
 use mathlib.Core.Path.{sym, ◌∙◌, subst}
-use Prim.Native.Nat.{ℕ, ◌+◌}
+use Prim.Native.Nat.{◌+◌}
 use native.Mathlib.Omega.{arith}
 use Rattle.actl.specs.inner.Walk.{Traversed}
 use Rattle.actl.proofs.Laws.Unique.{no_kind, no_arm}
-use Rattle.actl.proofs.Laws.Walks.{Known, known-kind}
+use Rattle.actl.proofs.Laws.Walks.{known-kind}
 use Rattle.formula_classes.specs.inner.WalkReplies.{Walks}
-use Rattle.formula_classes.specs.inner.Phases.{Room, HasArm}
 use Rattle.formula_classes.proofs.Laws.Phases.{room-kept, walked_on, walked-within, arm_in_table, walked_unary, walked-or, walked_T, right-walked}
 use Rattle.formula_classes.proofs.+walk_walk_arms_walk_right.Goals as goal
 

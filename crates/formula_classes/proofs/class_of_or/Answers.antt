@@ -2,7 +2,6 @@
 use mathlib.Core.Path.{sym, ◌∙◌}
 use Rattle.actl.specs.inner.Walk.{class_from, class_of_arm}
 use Rattle.actl.proofs.Laws.Table.{or-none, or-second}
-use borrow.Author.Rules.{rules}
 use Rattle.formula_classes.proofs.class_of_or.Goals as goal
 
 pub returns-then-class_from-eq0 : goal.returns-then-class_from-eq0

@@ -9,7 +9,6 @@ use Rattle.actl.specs.inner.Walk.{classes_of, last_none}
 use Rattle.actl.proofs.Laws.Classed.{highest_none}
 use Rattle.actl.proofs.Laws.Walks.{length_kinds}
 use Rattle.formula_classes.proofs.Laws.Walked.{walk_noted, noted-classes, length_kinds_in}
-use borrow.Author.Rules.{rules}
 use Rattle.formula_classes.proofs.highest_classless.Goals as goal
 
 pub slice_bounds-last_none-end : goal.slice_bounds-last_none-end

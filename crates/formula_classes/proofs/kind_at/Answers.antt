@@ -1,7 +1,6 @@
 -- `kind_at` meets its contract: past the end and above 9 there is no kind.
 use mathlib.Core.Path.{sym}
 use Rattle.actl.proofs.Laws.Walks.{kind-outside, kind_foreign, kind-known}
-use borrow.Author.Rules.{rules}
 use Rattle.formula_classes.proofs.kind_at.Goals as goal
 
 pub returns-then-kinds-k : goal.returns-then-kinds-k

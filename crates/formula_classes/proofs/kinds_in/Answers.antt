@@ -1,8 +1,8 @@
 -- `kinds_in` meets its contract: the loop fills the array from the front.
 use mathlib.Core.Path.{◌≡◌, refl, ◌∙◌, subst}
-use Prim.Native.Nat.{ℕ, ◌+◌, ◌-◌, ◌*◌, ◌≤◌}
+use Prim.Native.Nat.{ℕ, ◌+◌, ◌*◌}
 use native.Mathlib.Omega.{arith}
-use lib.ListN.{length, get_or, take, length-set}
+use lib.ListN.{get_or, take, length-set}
 use Rattle.actl.specs.Sizes.{node_slot_length}
 use Rattle.actl.specs.inner.Walk.{kinds_in}
 use Rattle.actl.proofs.Laws.Lists.{filled_more}

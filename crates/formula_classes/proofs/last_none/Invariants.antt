@@ -1,13 +1,7 @@
 -- `last_none` meets its contract: the classes that are left, with the last none so far, give what the whole list gives.
-use mathlib.Core.Path.{sym, ap, ◌∙◌, subst}
-use mathlib.Core.Bool.{cond}
-use mathlib.Core.Logic.{⊎_elim}
-use mathlib.Core.Option.{none, some}
-use Prim.Native.Nat.{◌+◌, ◌-◌, ◌≤◌}
-use native.Mathlib.Omega.{arith}
+use Prim.Native.Nat.{◌-◌, ◌≤◌}
 use lib.ListN.{length}
-use borrow.Author.Tests.{eq-eqb, ne_eqb}
-use Rattle.actl.proofs.Laws.Classed.{Remains, remains_all, remains_none, remains_some, remains_end}
+use Rattle.actl.proofs.Laws.Classed.{Remains}
 use Rattle.formula_classes.proofs.last_none.Given as goal
 
 abbrev pub invariant-loop-k : goal.invariant-loop-k

@@ -4,7 +4,6 @@ use native.Mathlib.Omega.{arith}
 use Rattle.actl.specs.inner.Walk.{kinds_in}
 use Rattle.actl.proofs.Laws.Prepared.{prepared-count, prepared-few}
 use Rattle.formula_classes.proofs.Laws.Walked.{shape_noted, noted-end, noted-class}
-use borrow.Author.Rules.{rules}
 use Rattle.formula_classes.proofs.shape_of.Goals as goal
 
 pub returns-then-count-gt-NODES : goal.returns-then-count-gt-NODES

@@ -7,7 +7,6 @@ use Rattle.lts.proofs.Laws.Decides.{decided_no}
 use Rattle.actl.specs.inner.Walk.{kinds_in, Traversed}
 use Rattle.formula_classes.specs.inner.WalkReplies.{Walks}
 use Rattle.formula_classes.proofs.Laws.Walked.{not-spelled, not-ending, spelled_decided}
-use borrow.Author.Rules.{rules}
 use Rattle.formula_classes.proofs.spelled.Goals as goal
 
 pub returns-in_default : goal.returns-in_default

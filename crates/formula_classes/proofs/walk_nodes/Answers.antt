@@ -4,7 +4,6 @@ use native.Mathlib.Omega.{arith}
 use lib.ListN.{length}
 use Rattle.formula_classes.specs.inner.WalkReplies.{Walks}
 use Rattle.formula_classes.proofs.Laws.Walked.{length_kinds_in}
-use borrow.Author.Rules.{rules}
 use Rattle.formula_classes.proofs.walk_nodes.Goals as goal
 
 pub slice_bounds-walk-end : goal.slice_bounds-walk-end

@@ -1,5 +1,4 @@
 -- Three nodes are written before the moved ones, and one behind them.
-use borrow.Author.Rules.{rules}
 use mathlib.Core.Path.{◌≡◌}
 use Prim.Native.Nat.{◌+◌}
 use native.Mathlib.Omega.{arith}

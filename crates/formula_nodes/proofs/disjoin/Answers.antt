@@ -1,5 +1,4 @@
 -- The nodes move up by one, and nothing is written behind them.
-use borrow.Author.Rules.{rules}
 use mathlib.Core.Path.{◌∙◌}
 use Prim.Native.Nat.{◌+◌}
 use Rattle.actl.proofs.ReadingNodes.{written_none}

@@ -1,11 +1,8 @@
 -- Nodes move up from the last byte on. The loop's invariant: the bytes from i on have moved.
-use mathlib.Core.Path.{◌≡◌, refl, ap, ◌∙◌}
+use mathlib.Core.Path.{◌≡◌}
 use Prim.Native.Nat.{◌+◌, ◌*◌, ◌≤◌}
-use native.Mathlib.Omega.{arith}
-use lib.ListN.{length}
-use Rattle.columns.specs.inner.Write.{pasted}
 use Rattle.actl.specs.Sizes.{node_slot_length}
-use Rattle.actl.proofs.ReadingNodes.{moved, moved_none, moved_step, length_moved, moved_all}
+use Rattle.actl.proofs.ReadingNodes.{moved}
 use Rattle.formula_nodes.proofs.move_up.Given as goal
 
 abbrev pub invariant-loop-i : goal.invariant-loop-i

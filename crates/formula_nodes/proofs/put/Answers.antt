@@ -1,5 +1,4 @@
 -- A node behind the 40 is counted alone.
-use borrow.Author.Rules.{rules}
 use mathlib.Core.Path.{refl}
 use native.Mathlib.Omega.{arith}
 use Rattle.formula_nodes.proofs.put.Goals as goal

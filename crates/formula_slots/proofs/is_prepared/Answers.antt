@@ -12,7 +12,6 @@ use Rattle.actl.specs.Prepared.{FormOfSome}
 use Rattle.actl.specs.inner.Check.{is_prepared, slots_fit, zeros_from, SpelledClassed}
 use Rattle.actl.proofs.Laws.Prepared.{form_tested}
 use Rattle.formula_classes.proofs.Laws.Decided.{short-bytes, many-nodes, slots_foreign, not_zeros, decided}
-use borrow.Author.Rules.{rules}
 use mathlib.Core.Bool.{not}
 use Rattle.formula_slots.proofs.is_prepared.Goals as goal
 

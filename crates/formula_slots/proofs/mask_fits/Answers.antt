@@ -4,7 +4,6 @@ use mathlib.Core.Bool.{◌&&◌, ◌||◌}
 use lib.Dec.{eqb}
 use Rattle.actl.specs.Prepared.{mask_within}
 use Rattle.actl.proofs.Laws.Checked.{unused_fits}
-use borrow.Author.Rules.{rules}
 use Rattle.formula_slots.proofs.mask_fits.Goals as goal
 
 pub returns-then-used : goal.returns-then-used

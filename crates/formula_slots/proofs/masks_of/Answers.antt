@@ -1,6 +1,5 @@
 -- `masks_of` meets its contract: the constant is the table.
 use Rattle.actl.proofs.Laws.Checked.{first-mask, second-mask}
-use borrow.Author.Rules.{rules}
 use Rattle.formula_slots.proofs.masks_of.Goals as goal
 
 pub returns : goal.returns

@@ -8,7 +8,6 @@ use Rattle.actl.specs.Prepared.{Slot, mask_within}
 use Rattle.actl.specs.inner.Prepared.{slot_at}
 use Rattle.actl.specs.inner.Check.{slot_fits}
 use Rattle.actl.proofs.Laws.Checked.{kind-low, kind-high, masks_fit}
-use borrow.Author.Rules.{rules}
 use Rattle.formula_slots.proofs.slot_fits.Goals as goal
 
 pub returns-then-kind-eq0 : goal.returns-then-kind-eq0

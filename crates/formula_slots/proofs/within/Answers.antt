@@ -1,7 +1,6 @@
 -- `within` meets its contract: an even mask with no bit above the labels.
 use mathlib.Core.Path.{sym}
 use Rattle.actl.proofs.Laws.Checked.{odd_outside, all-within, shifted_within}
-use borrow.Author.Rules.{rules}
 use Rattle.formula_slots.proofs.within.Goals as goal
 
 pub returns-then-set-ne0 : goal.returns-then-set-ne0

@@ -1,5 +1,4 @@
 -- `zeros_from` meets its contract: the test of bytes is the one over each of them.
-use borrow.Author.Rules.{rules}
 use Rattle.actl.specs.Sizes.{formula_length}
 use mathlib.Core.Path.{◌≡◌, refl, sym}
 use mathlib.Core.Bool.{Bool, true, false}

@@ -1,8 +1,6 @@
 -- `find` answers `lookup` over the slots: the invariant is `SoughtFrom`, the slots that are left.
-use mathlib.Core.Path.{sym, ◌∙◌}
 use Prim.Native.Nat.{◌-◌}
-use native.Mathlib.Omega.{arith}
-use Rattle.lts.proofs.Laws.Names.{SoughtFrom, sought_starts, sought_found, sought_goes_on, sought_ends}
+use Rattle.lts.proofs.Laws.Names.{SoughtFrom}
 use Rattle.label_names.proofs.find.Given as goal
 
 abbrev pub invariant-loop-k : goal.invariant-loop-k

@@ -3,7 +3,6 @@ use mathlib.Core.Path.{◌∙◌}
 use Prim.Native.Nat.{◌≤◌}
 use native.Mathlib.Omega.{arith}
 use Rattle.lts.proofs.Laws.SlotNames.{table-lookup}
-use borrow.Author.Rules.{rules}
 use Rattle.label_names.proofs.find_label.Goals as goal
 
 pub returns : goal.returns

@@ -1,7 +1,5 @@
 -- `read_name` reads the stem, and the mark behind it.
-use borrow.Author.Rules.{rules}
 use mathlib.Core.Path.{refl}
-use native.Mathlib.Omega.{arith}
 use Rattle.lts.proofs.Laws.NameDirections.{nothing_read, bare-read, mark-read}
 use Rattle.lts.proofs.Laws.NameRuns.{no-mark-at-end, no-mark-here}
 use Rattle.label_names.proofs.read_name.Goals as goal

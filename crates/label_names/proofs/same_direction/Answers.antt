@@ -1,5 +1,4 @@
 -- `same_direction` compares the directions' numbers.
-use borrow.Author.Rules.{rules}
 use mathlib.Core.Path.{ap₂}
 use lib.Dec.{eqb}
 use Rattle.label_names.proofs.same_direction.Goals as goal

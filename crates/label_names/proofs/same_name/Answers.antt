@@ -2,7 +2,6 @@
 use mathlib.Core.Path.{refl, ap, ◌∙◌}
 use Prim.Native.Nat.{ℕ, ◌+◌, ◌*◌}
 use native.Mathlib.Omega.{arith}
-use borrow.Author.Rules.{rules}
 use Rattle.lts.specs.Sizes.{name_slot_length}
 use Rattle.lts.proofs.Laws.Names.{stored_differs, stored_part}
 use Rattle.label_names.proofs.same_name.Goals as goal

@@ -1,10 +1,6 @@
 -- `stem_end` answers `stem_end`: the invariant is `StemSoFar`, what is left of the run.
-use borrow.Author.Tests.{not-true, not-false}
-use mathlib.Core.Path.{sym, ◌∙◌}
-use Prim.Native.Nat.{◌+◌, ◌-◌}
-use borrow.Author.Rules.{rules}
-use native.Mathlib.Omega.{arith}
-use Rattle.lts.proofs.Laws.Stems.{StemSoFar, no_text, no_letter, run-starts, run-at-end, run-stops, run_goes_on, run-full}
+use Prim.Native.Nat.{◌-◌}
+use Rattle.lts.proofs.Laws.Stems.{StemSoFar}
 use Rattle.label_names.proofs.stem_end.Given as goal
 
 abbrev pub invariant-loop-n : goal.invariant-loop-n

@@ -1,12 +1,12 @@
 -- A table's text has at most 20,321 bytes, so a reader need not hold more than 20,322 of a longer text: they get the same answer.
-use mathlib.Core.Path.{◌≡◌, refl, sym, ap, ◌∙◌, subst}
+use mathlib.Core.Path.{◌≡◌, refl, sym, ap, ◌∙◌}
 use mathlib.Core.Logic.{◌⊎◌, inl, inr}
-use mathlib.Core.Bool.{Bool, true, false, cond, not, true≢false, ◌&&◌}
+use mathlib.Core.Bool.{Bool, true, false, cond, not}
 use mathlib.Core.List.{List, [], ◌∷◌, ◌++◌, append-nil}
-use Prim.Native.Nat.{ℕ, zero, suc, ◌+◌, ◌-◌, ◌*◌, ◌≤◌, ◌<◌}
+use Prim.Native.Nat.{ℕ, zero, suc, ◌+◌, ◌-◌, ◌*◌, ◌≤◌}
 use native.Mathlib.Omega.{arith}
 use lib.Dec.{eqb}
-use lib.ListN.{length, take, drop, length-append, length-drop}
+use lib.ListN.{length, take, drop, length-append}
 use lib.Seq.{drop-drop}
 use Rattle.lts.specs.Sizes.{most_transitions}
 use Rattle.lts.specs.inner.Sizes.{enough_table_text}
@@ -14,7 +14,7 @@ use Rattle.columns.specs.Columns.{column, value_at}
 use Rattle.columns.specs.Bytes.{same_bytes}
 use Rattle.columns.proofs.Laws.Bytes.{same_of}
 use Rattle.columns.proofs.Laws.Columns.{column-length}
-use Rattle.lts.specs.Reply.{Reply, accepted, refusal, unless}
+use Rattle.lts.specs.Reply.{Reply, refusal, unless}
 use Rattle.lts.specs.Steps.{Step, Table}
 use Rattle.lts.specs.Names.{is_name}
 use Rattle.lts.specs.Text.{header_line, label_line, transition_line}

@@ -1,5 +1,5 @@
 -- The tests of reading as facts: names, ranges, order, uses of a name.
-use mathlib.Core.Path.{◌≡◌, refl, sym, ap, ◌∙◌, subst}
+use mathlib.Core.Path.{◌≡◌, refl, sym, ◌∙◌, subst}
 use mathlib.Core.Logic.{◌⊎◌, inl, inr}
 use mathlib.Core.Bool.{Bool, true, false, true≢false, false≢true, not, ◌&&◌, ◌||◌}
 use mathlib.Core.List.Memᴰ
@@ -15,7 +15,7 @@ use Rattle.columns.proofs.Laws.Bytes.{same_of, same-to}
 use Rattle.lts.specs.Lists.{Rising}
 use Rattle.lts.specs.Names.{is_lower, is_name_byte, at_most, is_name}
 use Rattle.lts.specs.Marks.{marked, is_mark, is_last_mark}
-use Rattle.lts.specs.Steps.{Step, labels}
+use Rattle.lts.specs.Steps.{Step}
 use Rattle.lts.specs.inner.Range.{Below, Differ}
 use Rattle.lts.specs.Reading.{Header, header_in_range, used, step_in_range, step_below, above}
 use Rattle.lts.proofs.Booleans.{and-true-of, and-true-to, or-true-of, or-true-left, or_true_right, not-false}

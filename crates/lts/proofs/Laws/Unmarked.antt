@@ -10,14 +10,14 @@ use lib.ListN.{length, take, drop}
 use Rattle.columns.specs.Bytes.{same_bytes}
 use Rattle.columns.specs.Columns.{value_at}
 use Rattle.lts.specs.Lists.{every}
-use Rattle.lts.specs.Reply.{Reply, refusal, unless}
+use Rattle.lts.specs.Reply.{Reply, unless}
 use Rattle.lts.specs.Steps.{Table}
-use Rattle.lts.specs.Marks.{Marks, unmarked, marked, is_mark}
+use Rattle.lts.specs.Marks.{unmarked, marked, is_mark}
 use Rattle.lts.specs.Names.{is_name_with, is_name}
 use Rattle.lts.specs.Directions.{Plain}
 use Rattle.lts.specs.Text.{label_line}
 use Rattle.lts.specs.Reading.{Line, missing, line, longer, first_line, on_line, Header, header_of, header_laid_out, header_in_range, label_laid_out_with, used}
-use Rattle.lts.specs.Reading.{read_transitions, read_labels_with, read_table_with}
+use Rattle.lts.specs.Reading.{read_labels_with, read_table_with}
 use Rattle.lts.proofs.Booleans.{and-true-of, and-true-to, not-false}
 use Rattle.lts.proofs.Laws.NameRuns.{IsStem, MarkedBy, name_parts, stem-named}
 

@@ -1,6 +1,5 @@
 -- `counts_held` meets its contract: each test is one of the ranges.
 use native.Mathlib.Omega.{arith}
-use borrow.Author.Rules.{rules}
 use Rattle.lts.proofs.Laws.Decides.{decided_yes, decided_no}
 use Rattle.table_check.proofs.counts_held.Goals as goal
 

@@ -4,8 +4,6 @@ use mathlib.Core.Bool.{Bool, true, false}
 use mathlib.Core.List.{List}
 use Prim.Native.Nat.{ℕ}
 use native.Mathlib.Omega.{arith}
-use borrow.Author.Rules.{rules}
-use borrow.Author.Tests.{not-true, not-false}
 use Rattle.lts.specs.inner.Prepared.{table_in, prepared_table}
 use Rattle.lts.specs.inner.Answers.{is_some, Decides}
 use Rattle.lts.specs.inner.Check.{CountsHeld, WellFormed}

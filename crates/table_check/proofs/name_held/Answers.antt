@@ -3,7 +3,6 @@ use mathlib.Core.Path.{◌≡◌, sym, ap, ◌∙◌, subst}
 use mathlib.Core.List.{List}
 use Prim.Native.Nat.{ℕ, ◌+◌, ◌*◌}
 use native.Mathlib.Omega.{arith}
-use borrow.Author.Rules.{rules}
 use Rattle.lts.specs.inner.Sizes.{head_length}
 use Rattle.lts.specs.Sizes.{name_slot_length}
 use Rattle.lts.specs.inner.NameEnds.{name_end}

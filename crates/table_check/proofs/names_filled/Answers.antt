@@ -1,5 +1,4 @@
 -- `names_filled` meets its contract: both tests are parts of it.
-use borrow.Author.Rules.{rules}
 use Prim.Native.Nat.{◌+◌, ◌*◌}
 use Rattle.lts.specs.inner.Sizes.{head_length, transitions_at}
 use Rattle.lts.specs.Sizes.{name_slot_length}

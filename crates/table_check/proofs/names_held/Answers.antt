@@ -1,12 +1,8 @@
 -- `names_held` meets its contract: the slots below k hold names, each a new one.
-use mathlib.Core.Path.{◌≡◌}
-use Prim.Native.Nat.{ℕ, ◌-◌, ◌≤◌, ◌<◌}
+use Prim.Native.Nat.{◌<◌}
 use native.Mathlib.Omega.{arith}
 use borrow.Author.Count.{below_more}
-use borrow.Author.Tests.{not-true, not-false}
 use Rattle.lts.specs.Sizes.{most_labels}
-use Rattle.lts.specs.Steps.{labels}
-use Rattle.lts.specs.inner.Prepared.{table_in}
 use Rattle.lts.specs.inner.Check.{NameHeld, NewName}
 use Rattle.lts.proofs.Laws.Decides.{decided_yes, decided_no}
 use Rattle.table_check.proofs.names_held.Goals as goal

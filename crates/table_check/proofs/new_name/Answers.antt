@@ -1,5 +1,4 @@
 -- `new_name` meets its contract: the names before slot j are others than the one in slot k.
-use Prim.Native.Nat.{ℕ, ◌-◌, ◌≤◌, ◌<◌}
 use native.Mathlib.Omega.{arith}
 use borrow.Author.Count.{below_more}
 use Rattle.lts.specs.inner.Prepared.{name_at}

@@ -1,10 +1,7 @@
 -- `new_name` meets its contract: the names before slot j are others than the one in slot k.
 use Prim.Native.Nat.{ℕ, ◌-◌, ◌≤◌, ◌<◌}
-use native.Mathlib.Omega.{arith}
-use borrow.Author.Count.{below_more}
 use Rattle.lts.specs.inner.Prepared.{name_at}
 use Rattle.lts.specs.inner.Range.{Differ}
-use Rattle.lts.proofs.Laws.Decides.{decided_yes, decided_no}
 use Rattle.table_check.proofs.new_name.Given as goal
 
 abbrev pub invariant-loop-j : goal.invariant-loop-j

@@ -1,7 +1,6 @@
 -- `step_key` meets its contract: the key of three bytes has three bytes.
 use mathlib.Core.Path.{ap}
 use native.Mathlib.Omega.{arith}
-use borrow.Author.Rules.{rules}
 use Rattle.table_check.specs.inner.Keys.{step_key}
 use Rattle.table_check.proofs.step_key.Goals as goal
 

@@ -1,5 +1,4 @@
 -- `transitions_filled` meets its contract, as `names_filled` does.
-use borrow.Author.Rules.{rules}
 use Prim.Native.Nat.{◌+◌, ◌*◌}
 use Rattle.lts.specs.Sizes.{transition_length, table_length}
 use Rattle.lts.specs.inner.Sizes.{transitions_at}

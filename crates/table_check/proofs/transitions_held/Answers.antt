@@ -1,18 +1,14 @@
 -- `transitions_held` meets its contract: the slots below k are passed, and `least` is above the key of the last of them.
-use mathlib.Core.Path.{◌≡◌, refl, sym, subst₂}
-use mathlib.Core.List.{List}
-use Prim.Native.Nat.{ℕ, ◌+◌, ◌-◌, ◌*◌, ◌≤◌, ◌<◌}
+use mathlib.Core.Path.{refl, sym, subst₂}
+use Prim.Native.Nat.{ℕ, ◌+◌, ◌*◌, ◌<◌}
 use native.Mathlib.Omega.{arith}
 use lib.Dec.{leb}
-use lib.ListN.{length}
 use borrow.Author.Count.{below_more}
-use borrow.Author.Tests.{not-true, not-false, leb-true, le-leb}
-use Rattle.lts.specs.Steps.{labels}
-use Rattle.lts.specs.inner.Prepared.{byte_at, table_in}
+use borrow.Author.Tests.{leb-true, le-leb}
+use Rattle.lts.specs.inner.Prepared.{byte_at}
 use Rattle.lts.specs.inner.Check.{TransitionHeld}
 use Rattle.lts.proofs.Laws.Decides.{decided_no, decided_test}
-use Rattle.table_check.proofs.Laws.Keys.{Least, Passed, least_next, passed-more, slot-passed, passed-held, held-slot, held-last}
-use Rattle.table_check.proofs.transitions_held.Invariants.{Held}
+use Rattle.table_check.proofs.Laws.Keys.{Passed, least_next, passed-more, slot-passed, passed-held, held-slot, held-last}
 use Rattle.table_check.proofs.transitions_held.Goals as goal
 
 pub transition_count-n-requires : goal.transition_count-n-requires

@@ -1,9 +1,7 @@
 -- `zeros` meets its contract: the bytes before i, taken together, are zero exactly if each of them is.
 use mathlib.Core.Path.{◌≡◌, refl}
-use Prim.Native.Nat.{◌-◌, ◌≤◌, ◌<◌}
 use native.Mathlib.Omega.{arith}
 use Rattle.lts.specs.inner.Prepared.{byte_at}
-use Rattle.lts.specs.inner.Check.{ZerosFrom}
 use Rattle.lts.proofs.Laws.Decides.{decided_zero, together, from_more}
 use Rattle.table_check.proofs.zeros.Goals as goal
 

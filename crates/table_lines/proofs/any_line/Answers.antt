@@ -1,5 +1,4 @@
 -- `any_line` says what line of a transition stands at a place, or that none does.
-use borrow.Author.Rules.{rules}
 use mathlib.Core.Path.{sym, ◌∙◌}
 use Prim.Native.Nat.{◌+◌}
 use Rattle.lts.proofs.Laws.Layout.{no_transition}

@@ -1,5 +1,4 @@
 -- `read_pair` answers `pair_at`.
-use borrow.Author.Rules.{rules}
 use mathlib.Core.Path.{◌≡◌, sym, ap, ap₂, ◌∙◌}
 use Prim.Native.Nat.{◌+◌}
 use Rattle.columns.specs.inner.Read.{column_at}

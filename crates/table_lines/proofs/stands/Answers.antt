@@ -1,5 +1,4 @@
 -- `stands` tells whether a byte stands at a place; past the text none does.
-use borrow.Author.Rules.{rules}
 use borrow.Author.Tests.{ne_eqb}
 use mathlib.Core.Path.{sym, ap, ◌∙◌}
 use lib.Dec.{eqb}

@@ -1,5 +1,4 @@
 -- `transition_line` says what line of a transition stands at a place: three small numbers, or what `any_line` says.
-use borrow.Author.Rules.{rules}
 use mathlib.Core.Path.{sym}
 use native.Mathlib.Omega.{arith}
 use Rattle.table_lines.proofs.Laws.Numbers.{numbers-read}

@@ -1,7 +1,7 @@
 -- The array of all steps: numbers put behind its first ones, state by state; and the steps of one state, taken from it one by one.
 use mathlib.Core.Path.{◌≡◌, refl, sym, ap, ◌∙◌, subst}
 use mathlib.Core.List.{List, [], ◌∷◌, ◌++◌, map, append-nil, append_assoc}
-use Prim.Native.Nat.{ℕ, zero, suc, ◌+◌, ◌-◌, ◌*◌, ◌/◌, ◌%◌, ◌≤◌, ◌<◌}
+use Prim.Native.Nat.{ℕ, zero, suc, ◌+◌, ◌-◌, ◌/◌, ◌%◌, ◌≤◌, ◌<◌}
 use native.Mathlib.Nat.{add-zero, add-suc, suc-add, zero-add}
 use native.Mathlib.Numerals.{add-one}
 use native.Mathlib.Decide.{dec_lt, ℕ_discrete}
@@ -15,7 +15,7 @@ use Rattle.lts.specs.Lists.{bind}
 use Rattle.lts.specs.Steps.{Step, Table}
 use Rattle.lts.specs.inner.Steps.{Carried, idle_at, steps_from}
 use Rattle.lts.specs.inner.Range.{InRange}
-use Rattle.table_steps.specs.inner.StepArray.{step_code, step_at, steps_between, steps_in, exits_below, PutBehind, StepsFit, StepsOf}
+use Rattle.table_steps.specs.inner.StepArray.{step_code, step_at, steps_between, steps_in, exits_below, PutBehind, StepsOf}
 use Rattle.lts.proofs.Lists.{up_from_snoc, bind_append, map_append, get_d_mem}
 use Rattle.lts.proofs.StepsFrom.{steps_are, step-below, step-carried}
 use Rattle.lts.proofs.Laws.Contents.{map_at}

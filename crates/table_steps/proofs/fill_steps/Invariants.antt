@@ -1,14 +1,10 @@
 -- `fill_steps` meets its contract: the steps of the states below s stand in the array. In the first loop a transitions leave one of these
-use mathlib.Core.Path.{◌≡◌, refl, sym, ap, ◌∙◌, subst}
-use Prim.Native.Nat.{ℕ, suc, ◌+◌, ◌-◌, ◌≤◌, ◌<◌}
-use native.Mathlib.Numerals.{add-one}
-use native.Mathlib.Omega.{arith}
+use mathlib.Core.Path.{◌≡◌}
+use Prim.Native.Nat.{◌-◌, ◌≤◌}
 use Rattle.lts.specs.Sizes.{most_states}
-use Rattle.lts.specs.inner.Sizes.{most_steps}
 use Rattle.lts.specs.inner.Prepared.{table_in}
 use Rattle.table_steps.specs.inner.StepArray.{exits_below}
-use Rattle.table_steps.proofs.Laws.Exits.{exits_none, exits_grow, exits_all}
-use Rattle.table_steps.proofs.Laws.StepArray.{BelowDone, below_none, below-fits, below_more, below_all}
+use Rattle.table_steps.proofs.Laws.StepArray.{BelowDone}
 use Rattle.table_steps.proofs.fill_steps.Given as goal
 
 -- states, in the second all do.

@@ -1,7 +1,6 @@
 -- `leaves_below` meets its contract.
 use mathlib.Core.Path.{ap}
 use lib.Dec.{ltb}
-use borrow.Author.Rules.{rules}
 use borrow.Author.Tests.{lt-ltb, le-ltb}
 use Rattle.lts.specs.Steps.{Step}
 use Rattle.table_steps.proofs.leaves_below.Goals as goal

@@ -1,5 +1,4 @@
 -- `leaving` meets its contract: the two numbers that `firsts` has.
-use borrow.Author.Rules.{rules}
 use Rattle.table_steps.proofs.leaving.Goals as goal
 
 pub returns : goal.returns

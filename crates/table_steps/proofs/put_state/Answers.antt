@@ -1,14 +1,12 @@
 -- `put_state` meets its contract: the transitions that leave a state stand together.
-use mathlib.Core.Path.{◌≡◌, refl, sym, ap, ◌∙◌}
+use mathlib.Core.Path.{◌≡◌, sym, ap, ◌∙◌}
 use mathlib.Core.List.{[], ◌∷◌, map}
-use Prim.Native.Nat.{suc, ◌+◌, ◌≤◌, ◌<◌}
+use Prim.Native.Nat.{suc, ◌+◌, ◌<◌}
 use native.Mathlib.Numerals.{add-one}
 use native.Mathlib.Omega.{arith}
 use lib.ListN.{length}
 use lib.Seq.{slice}
-use borrow.Author.Rules.{rules}
 use Rattle.lts.specs.inner.Sizes.{most_steps}
-use Rattle.lts.specs.inner.Steps.{idle_at}
 use Rattle.lts.specs.inner.Prepared.{table_in}
 use Rattle.table_steps.specs.inner.StepArray.{step_code, exits_below}
 use Rattle.table_steps.proofs.Laws.Exits.{exits_at-most}

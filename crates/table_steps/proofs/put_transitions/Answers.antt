@@ -1,16 +1,15 @@
 -- `put_transitions` meets its contract: what is left of the part is put behind what is there.
-use mathlib.Core.Path.{◌≡◌, refl, sym, ap, ◌∙◌, subst}
+use mathlib.Core.Path.{sym, ap, ◌∙◌}
 use mathlib.Core.List.{◌∷◌, map}
-use Prim.Native.Nat.{◌+◌, ◌-◌, ◌≤◌, ◌<◌}
+use Prim.Native.Nat.{◌+◌, ◌<◌}
 use native.Mathlib.Omega.{arith}
 use lib.ListN.{length, length-set}
 use lib.Seq.{slice}
-use Rattle.lts.specs.inner.Sizes.{most_steps}
 use Rattle.lts.specs.inner.Prepared.{table_in}
 use Rattle.tables.specs.inner.Access.{step_in}
 use Rattle.table_steps.specs.inner.StepArray.{step_code}
 use Rattle.lts.proofs.Laws.Contents.{transition_in}
-use Rattle.table_steps.proofs.Laws.StepArray.{PutSoFar, put-start, put-more, put_rest, put_done, codes-next, codes_over}
+use Rattle.table_steps.proofs.Laws.StepArray.{put-start, put-more, put_rest, put_done, codes-next, codes_over}
 use Rattle.table_steps.proofs.put_transitions.Goals as goal
 
 pub loop-j-init : goal.loop-j-init

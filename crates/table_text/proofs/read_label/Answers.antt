@@ -1,5 +1,4 @@
 -- `read_label` says what one more line of a label makes of the reading, and keeps its name.
-use borrow.Author.Rules.{rules}
 use mathlib.Core.Path.{◌≡◌, sym, ap, ap₂, ◌∙◌, subst}
 use mathlib.Core.Bool.{Bool, true, false}
 use mathlib.Core.List.{List}

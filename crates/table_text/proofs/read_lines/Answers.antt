@@ -1,7 +1,6 @@
 -- `read_lines` answers what reading the lines behind the first gives, and keeps it in the slots.
-use borrow.Author.Rules.{rules}
 use Prim.Native.Nat.{ℕ}
-use mathlib.Core.Path.{refl, ap₂, ◌∙◌, subst}
+use mathlib.Core.Path.{ap₂, ◌∙◌, subst}
 use mathlib.Core.List.{List, ◌++◌}
 use Rattle.table_text.proofs.Laws.Tables.{lines-refused, lines-accepted}
 use Rattle.lts.proofs.Laws.TableBytes.{table_bytes_lem}

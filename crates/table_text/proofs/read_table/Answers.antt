@@ -1,8 +1,6 @@
 -- `read_table` answers `table_replied` and leaves `table_left`.
-use borrow.Author.Rules.{rules}
 use Prim.Native.Nat.{ℕ}
 use mathlib.Core.Path.{◌≡◌, refl, sym, ◌∙◌, subst}
-use borrow.Author.Tests.{not-true, not-false}
 use mathlib.Core.Bool.{true}
 use lib.ListN.{drop}
 use mathlib.Core.List.{List, []}

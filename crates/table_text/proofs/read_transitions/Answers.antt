@@ -3,9 +3,8 @@ use mathlib.Core.Path.{◌≡◌, refl, sym, ap, ◌∙◌, subst}
 use mathlib.Core.List.{List}
 use Prim.Native.Nat.{ℕ, ◌+◌, ◌-◌}
 use lib.ListN.{length}
-use borrow.Author.Rules.{rules}
 use native.Mathlib.Omega.{arith}
-use Rattle.table_text.proofs.Laws.Readings.{steps-start, steps-refused, text-follows, steps-end, TransitionsSoFar, line_taken}
+use Rattle.table_text.proofs.Laws.Readings.{steps-start, steps-refused, text-follows, steps-end, line_taken}
 use Rattle.table_lines.specs.inner.LineReplies.{header}
 use Rattle.table_lines.specs.declared.HeaderFields.{HeaderFields}
 use Rattle.table_text.specs.declared.Progress.{Progress}

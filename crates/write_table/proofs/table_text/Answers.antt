@@ -1,5 +1,4 @@
 -- `table_text` meets its contract: 14 for each buffer, then 10, then the text.
-use borrow.Author.Rules.{rules}
 use mathlib.Core.Path.{◌≡◌, sym, ◌∙◌}
 use mathlib.Core.Bool.{true}
 use borrow.Author.Tests.{not-true, not-false}

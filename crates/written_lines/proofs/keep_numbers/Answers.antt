@@ -1,5 +1,4 @@
 -- `keep_numbers` meets its contract: as many columns are kept as the larger of both counts asks for.
-use borrow.Author.Rules.{rules}
 use Prim.Native.Nat.{◌+◌}
 use native.Mathlib.Omega.{arith}
 use Rattle.lts.specs.inner.Prepared.{table_in}

@@ -1,5 +1,4 @@
 -- `write_header` leaves line 1 `pasted`: four columns and the LF.
-use borrow.Author.Rules.{rules}
 use mathlib.Core.Path.{◌∙◌}
 use native.Mathlib.Omega.{arith}
 use lib.ListN.{length-set}

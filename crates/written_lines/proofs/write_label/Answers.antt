@@ -1,5 +1,4 @@
 -- `write_label` leaves a label's line `pasted`: its number, a blank, its name, the LF.
-use borrow.Author.Rules.{rules}
 use mathlib.Core.Path.{◌≡◌, ◌∙◌}
 use Prim.Native.Nat.{◌+◌}
 use native.Mathlib.Omega.{arith}

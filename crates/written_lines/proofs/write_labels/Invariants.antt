@@ -1,14 +1,7 @@
 -- `write_labels` meets its contract: one line more stands there each turn.
-use borrow.Author.Rules.{rules}
-use mathlib.Core.Path.{◌≡◌}
-use Prim.Native.Nat.{◌+◌, ◌*◌, ◌-◌, ◌≤◌, ◌<◌}
-use native.Mathlib.Omega.{arith}
-use lib.ListN.{length}
-use Rattle.columns.proofs.Laws.Pasting.{pasting_none, pasting_length}
-use Rattle.lts.specs.Steps.{labels}
-use Rattle.lts.specs.inner.Prepared.{table_in}
+use Prim.Native.Nat.{◌+◌, ◌*◌, ◌-◌, ◌≤◌}
 use Rattle.written_lines.specs.inner.Lines.{label_width}
-use Rattle.written_lines.proofs.Laws.Growing.{LabelsBelow, label-on, labels-all}
+use Rattle.written_lines.proofs.Laws.Growing.{LabelsBelow}
 use Rattle.written_lines.proofs.write_labels.Given as goal
 
 abbrev pub invariant-loop-k : goal.invariant-loop-k

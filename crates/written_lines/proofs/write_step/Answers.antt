@@ -1,5 +1,4 @@
 -- `write_step` leaves a transition's line `pasted`: three columns and the LF.
-use borrow.Author.Rules.{rules}
 use mathlib.Core.Path.{◌≡◌, ap, ◌∙◌}
 use Prim.Native.Nat.{◌+◌}
 use native.Mathlib.Omega.{arith}

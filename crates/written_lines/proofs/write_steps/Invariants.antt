@@ -1,13 +1,8 @@
 -- `write_steps` meets its contract: one line more stands there each turn.
-use borrow.Author.Rules.{rules}
 use mathlib.Core.Path.{◌≡◌}
-use Prim.Native.Nat.{◌+◌, ◌*◌, ◌-◌, ◌≤◌, ◌<◌}
-use native.Mathlib.Omega.{arith}
-use lib.ListN.{length}
-use Rattle.columns.proofs.Laws.Pasting.{pasting_none, pasting_length}
-use Rattle.lts.specs.inner.Prepared.{table_in}
+use Prim.Native.Nat.{◌+◌, ◌*◌, ◌-◌, ◌≤◌}
 use Rattle.written_lines.specs.inner.Lines.{step_width}
-use Rattle.written_lines.proofs.Laws.Growing.{StepsBelow, step-on, steps_all}
+use Rattle.written_lines.proofs.Laws.Growing.{StepsBelow}
 use Rattle.written_lines.proofs.write_steps.Given as goal
 
 abbrev pub invariant-loop-k : goal.invariant-loop-k

@@ -1,9 +1,8 @@
 -- `same_bytes` meets its contract: the bytes before place i are the same.
 use mathlib.Core.Path.{◌≡◌}
-use Prim.Native.Nat.{ℕ, ◌-◌, ◌<◌}
 use native.Mathlib.Omega.{arith}
 use borrow.Author.Count.{below_more}
-use lib.ListN.{length, get_or}
+use lib.ListN.{get_or}
 use Rattle.byte_words.proofs.Laws.Ends.{byte_differs, bytes_same}
 use Rattle.byte_words.proofs.same.same_bytes.Goals as goal
 

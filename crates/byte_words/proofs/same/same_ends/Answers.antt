@@ -2,7 +2,6 @@
 use mathlib.Core.List.{List}
 use Prim.Native.Nat.{ℕ, ◌<◌}
 use native.Mathlib.Omega.{arith}
-use borrow.Author.Rules.{rules}
 use lib.ListN.{get_or}
 use Rattle.byte_words.proofs.Laws.Ends.{last_differs, first_decides}
 use Rattle.byte_words.proofs.same.same_ends.Goals as goal

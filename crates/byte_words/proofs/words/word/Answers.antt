@@ -1,6 +1,5 @@
 -- `word` meets its contract: eight bytes are two fours.
 use native.Mathlib.Omega.{arith}
-use borrow.Author.Rules.{rules}
 use Rattle.byte_words.proofs.Laws.Words.{eight-bytes}
 use Rattle.byte_words.proofs.words.word.Goals as goal
 

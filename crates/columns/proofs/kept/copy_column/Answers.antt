@@ -1,5 +1,4 @@
 -- `copy_column` leaves the column of its number `pasted`: the six bytes that are kept of it.
-use borrow.Author.Rules.{rules}
 use mathlib.Core.Path.{sym, ap, ◌∙◌}
 use Prim.Native.Nat.{◌*◌}
 use native.Mathlib.Omega.{arith}

@@ -1,8 +1,8 @@
 -- `keep_columns` meets its contract: one column more is kept each turn.
-use Prim.Native.Nat.{◌*◌, ◌+◌, ◌-◌, ◌≤◌}
+use Prim.Native.Nat.{◌*◌, ◌+◌, ◌≤◌}
 use native.Mathlib.Omega.{arith}
 use lib.ListN.{length}
-use Rattle.columns.proofs.Laws.Kept.{KeptBelow, kept_more, kept-all}
+use Rattle.columns.proofs.Laws.Kept.{kept_more, kept-all}
 use Rattle.columns.proofs.Laws.Pasting.{pasting_none, pasting_length}
 use Rattle.columns.proofs.kept.keep_columns.Goals as goal
 

@@ -1,9 +1,6 @@
 -- `keep_columns` meets its contract: one column more is kept each turn.
-use Prim.Native.Nat.{◌*◌, ◌+◌, ◌-◌, ◌≤◌}
-use native.Mathlib.Omega.{arith}
-use lib.ListN.{length}
-use Rattle.columns.proofs.Laws.Kept.{KeptBelow, kept_more, kept-all}
-use Rattle.columns.proofs.Laws.Pasting.{pasting_none, pasting_length}
+use Prim.Native.Nat.{◌-◌, ◌≤◌}
+use Rattle.columns.proofs.Laws.Kept.{KeptBelow}
 use Rattle.columns.proofs.kept.keep_columns.Given as goal
 
 abbrev pub invariant-loop-n : goal.invariant-loop-n

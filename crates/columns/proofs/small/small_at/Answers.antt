@@ -1,5 +1,4 @@
 -- `small_at` answers the number whose column begins with two blanks and ends with the last four bytes.
-use borrow.Author.Rules.{rules}
 use mathlib.Core.Path.{sym, ◌∙◌}
 use native.Mathlib.Omega.{arith}
 use Rattle.columns.proofs.Laws.SmallRead.{small-there}

@@ -1,5 +1,4 @@
 -- `small_value` answers the number whose digits stand above the zeros.
-use borrow.Author.Rules.{rules}
 use Prim.Native.Nat.{◌-◌, ◌/◌, ◌%◌}
 use native.Mathlib.Omega.{arith}
 use Rattle.columns.proofs.small.small_value.Goals as goal

@@ -1,5 +1,4 @@
 -- `lead_byte` answers `lead`.
-use borrow.Author.Rules.{rules}
 use mathlib.Core.Path.{sym}
 use borrow.Author.Tests.{eq-eqb, ne_eqb}
 use Rattle.columns.proofs.write.lead_byte.Goals as goal

@@ -1,12 +1,10 @@
 -- `write_column` leaves the column of its number `pasted`: the invariant is `Copying`, the bytes that are copied so far.
-use mathlib.Core.Path.{◌≡◌, sym, ap, ◌∙◌, subst}
+use mathlib.Core.Path.{◌≡◌, sym, ap, ◌∙◌}
 use Prim.Native.Nat.{◌-◌, ◌+◌}
-use borrow.Author.Rules.{rules}
 use native.Mathlib.Omega.{arith}
 use lib.ListN.{length, length-drop}
-use Rattle.columns.specs.Columns.{column}
 use Rattle.columns.specs.inner.Write.{pasted}
-use Rattle.columns.proofs.Laws.Copying.{Copying, copying_none, copying_more, copying_length, copied}
+use Rattle.columns.proofs.Laws.Copying.{copying_none, copying_more, copying_length, copied}
 use Rattle.columns.proofs.write.write_column.Goals as goal
 
 pub loop-i-init : goal.loop-i-init

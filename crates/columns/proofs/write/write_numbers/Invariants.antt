@@ -1,15 +1,7 @@
 -- `write_numbers` leaves the line of its numbers `pasted`: the invariant is that the columns of the first i are.
-use mathlib.Core.Path.{◌≡◌, refl, sym, ap, ◌∙◌, subst}
-use mathlib.Core.List.{◌∷◌, []}
-use Prim.Native.Nat.{◌+◌, ◌*◌, ◌-◌, ◌≤◌, ◌<◌}
-use borrow.Author.Rules.{rules}
-use native.Mathlib.Omega.{arith}
-use lib.ListN.{length, get_or, take, set, length-set}
-use Rattle.columns.specs.Columns.{column}
-use Rattle.columns.specs.Lines.{numbers_line}
-use Rattle.columns.specs.inner.Write.{pasted}
-use Rattle.columns.proofs.Laws.Pasting.{Pasting, pasting_none, pasting_more, pasting_length, columns, columns_more, columns_line}
-use Rattle.columns.proofs.Laws.Pasted.{set-pasted}
+use Prim.Native.Nat.{◌+◌, ◌*◌, ◌-◌, ◌≤◌}
+use lib.ListN.{take}
+use Rattle.columns.proofs.Laws.Pasting.{Pasting, columns}
 use Rattle.columns.proofs.write.write_numbers.Given as goal
 
 abbrev pub invariant-loop-i : goal.invariant-loop-i

@@ -1,5 +1,4 @@
 -- `write_small` leaves the column of its number `pasted`: two blanks, three figures, the last digit.
-use borrow.Author.Rules.{rules}
 use mathlib.Core.Path.{sym, ap, ◌∙◌}
 use mathlib.Core.List.{[], ◌∷◌}
 use Prim.Native.Nat.{◌+◌, ◌%◌}

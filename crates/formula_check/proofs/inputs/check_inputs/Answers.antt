@@ -1,10 +1,8 @@
 -- `check_inputs` meets its contract: 14 for each buffer, then 10 for the table and for the formula.
-use borrow.Author.Rules.{rules}
 use mathlib.Core.Path.{◌≡◌, sym, ap, ◌∙◌}
 use mathlib.Core.Bool.{Bool, true}
 use mathlib.Core.List.{List}
 use Prim.Native.Nat.{ℕ}
-use borrow.Author.Tests.{not-true, not-false}
 use Rattle.lts.specs.Reply.{Reply, accepted}
 use Rattle.lts.specs.Steps.{Table, labels}
 use Rattle.lts.specs.inner.Prepared.{table_in, prepared_table}

@@ -1,5 +1,4 @@
 -- `keyword` takes two bytes, one after the other.
-use borrow.Author.Rules.{rules}
 use mathlib.Core.Path.{subst}
 use lib.ListN.{get_or}
 use Rattle.formula_cursor.specs.inner.CursorReplies.{MarkAnswer}

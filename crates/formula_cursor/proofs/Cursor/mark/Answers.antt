@@ -1,5 +1,4 @@
 -- `mark` takes a byte of the text: 256, which stands for the end, is none.
-use borrow.Author.Rules.{rules}
 use mathlib.Core.Path.{refl, ◌∙◌}
 use native.Mathlib.Omega.{arith}
 use Rattle.formula_cursor.proofs.ReadingPlaces.{get_d_any, none-at-end, other_byte}

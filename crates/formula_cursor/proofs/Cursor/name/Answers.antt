@@ -1,5 +1,4 @@
 -- `name` takes the longest name that stands at the cursor.
-use borrow.Author.Rules.{rules}
 use Rattle.formula_cursor.proofs.ReadingNames.{name-stands, no_name}
 use Rattle.formula_cursor.proofs.Cursor.name.Goals as goal
 

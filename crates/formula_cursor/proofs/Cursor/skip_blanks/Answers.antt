@@ -1,9 +1,5 @@
 -- `skip_blanks` passes blanks only, and stops at none.
-use mathlib.Core.Path.{◌≡◌}
-use Prim.Native.Nat.{◌-◌, ◌≤◌}
 use native.Mathlib.Omega.{arith}
-use lib.ListN.{length, drop}
-use Rattle.actl.specs.inner.Show.{gap}
 use Rattle.formula_cursor.proofs.ReadingPlaces.{no_gap, more-gap, skipped, none-at-end, other_byte}
 use Rattle.formula_cursor.proofs.Cursor.skip_blanks.Goals as goal
 

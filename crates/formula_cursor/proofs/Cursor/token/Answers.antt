@@ -1,5 +1,4 @@
 -- `token` takes a mark and the blanks behind it.
-use borrow.Author.Rules.{rules}
 use mathlib.Core.Path.{subst}
 use native.Mathlib.Omega.{arith}
 use Rattle.actl.specs.inner.Cursor.{Marked}

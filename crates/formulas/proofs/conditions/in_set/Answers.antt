@@ -1,6 +1,5 @@
 -- `in_set` meets its contract: the shifted mask is odd exactly if the label's bit is set.
 use mathlib.Core.Path.{sym, ◌∙◌}
-use borrow.Author.Rules.{rules}
 use native.Mathlib.Omega.{arith}
 use Rattle.lts.proofs.Silence.{carried_heard}
 use Rattle.actl.specs.Actions.{in_set}

@@ -1,5 +1,4 @@
 -- `meets` meets its contract, by the cases of a step condition.
-use borrow.Author.Rules.{rules}
 use mathlib.Core.Path.{sym, ap, ◌∙◌}
 use Rattle.actl.specs.Actions.{meets}
 use Rattle.formulas.specs.inner.Access.{cond_in}

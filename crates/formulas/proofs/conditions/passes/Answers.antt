@@ -1,6 +1,5 @@
 -- `passes` meets its contract: a silent step passes, and so does one with a label of the set.
 use mathlib.Core.Path.{sym, ◌∙◌}
-use borrow.Author.Rules.{rules}
 use Rattle.actl.specs.Actions.{passes}
 use Rattle.formulas.proofs.conditions.passes.Goals as goal
 

@@ -3,7 +3,6 @@ use mathlib.Core.Path.{sym, ap, ◌∙◌}
 use native.Mathlib.Numerals.{add-one}
 use Rattle.actl.specs.Prepared.{slot, next_slot}
 use Rattle.formulas.specs.inner.Access.{cond_in}
-use borrow.Author.Rules.{rules}
 use Rattle.formulas.proofs.node.next_slot.Goals as goal
 
 pub returns-in-Silent : goal.returns-in-Silent

@@ -1,11 +1,8 @@
 -- `node_at` reads a node's slot: at each kind the slot has that kind, the masks that were read, and zero for those that it does not have.
 use native.Mathlib.Omega.{arith}
-use mathlib.Core.Path.{◌≡◌, refl, sym}
-use mathlib.Core.Bool.{false}
-use Prim.Native.Nat.{ℕ, ◌+◌, ◌≤◌}
-use Rattle.actl.specs.Prepared.{Slot, slot}
+use mathlib.Core.Path.{refl, sym}
+use Rattle.actl.specs.Prepared.{Slot}
 use Rattle.actl.specs.inner.Prepared.{slot_at}
-use Rattle.actl.specs.inner.Shaped.{first_used, second_used}
 use Rattle.actl.proofs.Laws.Slots.{shape_of, slot_by_parts, slot_without_masks, slot_with_first}
 use Rattle.formulas.proofs.node.node_at.Goals as goal
 

@@ -1,6 +1,5 @@
 -- `node_count` meets its contract: a byte fits.
 use native.Mathlib.Omega.{arith}
-use borrow.Author.Rules.{rules}
 use Rattle.formulas.proofs.node.node_count.Goals as goal
 
 pub overflow_cast-result : goal.overflow_cast-result

@@ -1,7 +1,6 @@
 -- `put_mask` writes eight bytes. The loop's invariant: the bytes so far, and those of what is left, are the mask's.
-use Prim.Native.Nat.{◌-◌}
 use native.Mathlib.Omega.{arith}
-use Rattle.actl.proofs.ReadingBytes.{Masked, masked_none, masked_length, masked_more, masked_all}
+use Rattle.actl.proofs.ReadingBytes.{masked_none, masked_length, masked_more, masked_all}
 use Rattle.formulas.proofs.node.put_mask.Goals as goal
 
 pub loop-i-init : goal.loop-i-init

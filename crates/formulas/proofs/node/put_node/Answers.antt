@@ -7,7 +7,6 @@ use Rattle.columns.specs.inner.Write.{pasted}
 use Rattle.actl.specs.Sizes.{node_slot_length}
 use Rattle.actl.specs.Prepared.{slot_bytes}
 use Rattle.actl.proofs.ReadingBytes.{slot-pasted}
-use borrow.Author.Rules.{rules}
 use Rattle.formulas.proofs.node.put_node.Goals as goal
 
 pub put_mask-requires : goal.put_mask-requires

@@ -1,7 +1,6 @@
 -- `slot_of` gives each node the slot that it stands for.
 use mathlib.Core.Path.{sym, ap, ◌∙◌}
 use Rattle.formulas.specs.inner.Access.{slot_of_node}
-use borrow.Author.Rules.{rules}
 use Rattle.formulas.proofs.node.slot_of.Goals as goal
 
 pub returns-in-True : goal.returns-in-True

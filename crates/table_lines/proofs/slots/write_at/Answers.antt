@@ -1,6 +1,6 @@
 -- `write_at` leaves `pasted`: the invariant is that the first i bytes are.
 use mathlib.Core.Path.{◌≡◌, refl, sym, ap, ◌∙◌}
-use Prim.Native.Nat.{◌+◌, ◌-◌, ◌≤◌}
+use Prim.Native.Nat.{◌+◌}
 use native.Mathlib.Numerals.{add-one}
 use mathlib.Core.List.{◌++◌, append_assoc}
 use lib.ListN.{length, get_or, take, drop, set, length-set}

@@ -1,11 +1,8 @@
 -- `write_at` leaves `pasted`: the invariant is that the first i bytes are.
-use mathlib.Core.Path.{◌≡◌, refl, sym, ap, ◌∙◌}
-use Prim.Native.Nat.{◌+◌, ◌-◌, ◌≤◌}
-use native.Mathlib.Numerals.{add-one}
-use mathlib.Core.List.{◌++◌, append_assoc}
-use lib.ListN.{length, get_or, take, drop, set, length-set}
-use lib.Seq.{paste, paste-zero, paste-suc, take-length}
-use native.Mathlib.Omega.{arith}
+use mathlib.Core.Path.{◌≡◌}
+use Prim.Native.Nat.{◌-◌, ◌≤◌}
+use lib.ListN.{length}
+use lib.Seq.{paste}
 use Rattle.table_lines.proofs.slots.write_at.Given as goal
 
 abbrev pub invariant-loop-i : goal.invariant-loop-i

@@ -1,5 +1,4 @@
 -- `write_name` leaves a name with its length `pasted`.
-use borrow.Author.Rules.{rules}
 use mathlib.Core.Path.{◌∙◌}
 use Prim.Native.Nat.{◌*◌}
 use lib.ListN.{length-set}

@@ -1,5 +1,4 @@
 -- `write_transition` leaves the slot of its transition `pasted`.
-use borrow.Author.Rules.{rules}
 use mathlib.Core.Path.{◌≡◌, ◌∙◌}
 use Prim.Native.Nat.{suc, ◌+◌, ◌*◌}
 use mathlib.Core.List.{[], ◌∷◌, append_assoc}

@@ -1,5 +1,4 @@
 -- `whole::write_table` leaves the head, the names and the transitions, one behind the other.
-use borrow.Author.Rules.{rules}
 use mathlib.Core.Path.{refl, ap, ◌∙◌}
 use Rattle.lts.specs.inner.Sizes.{transitions_at}
 use Rattle.lts.proofs.Laws.Pasted.{table-pasted}

@@ -1,7 +1,6 @@
 -- `byte` meets its contract: a byte is below 256.
 use mathlib.Core.Path.{refl}
 use native.Mathlib.Omega.{arith}
-use borrow.Author.Rules.{rules}
 use Rattle.tables.proofs.prepared.byte.Goals as goal
 
 pub overflow_cast-result : goal.overflow_cast-result

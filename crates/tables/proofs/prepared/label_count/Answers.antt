@@ -1,7 +1,6 @@
 -- `label_count` meets its contract: one name for each label.
 use mathlib.Core.Path.{sym, ◌∙◌}
 use Rattle.lts.proofs.Laws.Contents.{labels_in}
-use borrow.Author.Rules.{rules}
 use Rattle.tables.proofs.prepared.label_count.Goals as goal
 
 pub returns : goal.returns

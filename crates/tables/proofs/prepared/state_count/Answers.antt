@@ -1,6 +1,5 @@
 -- `state_count` meets its contract.
 use Rattle.lts.specs.inner.Prepared.{table_in}
-use borrow.Author.Rules.{rules}
 use Rattle.tables.proofs.prepared.state_count.Goals as goal
 
 pub returns : goal.returns

@@ -1,5 +1,4 @@
 -- `transition_at` meets its contract: the three bytes of the slot.
-use borrow.Author.Rules.{rules}
 use Rattle.tables.proofs.prepared.transition_at.Goals as goal
 
 pub returns : goal.returns

@@ -1,7 +1,6 @@
 -- `transition_count` meets its contract: as many transitions as the two bytes say.
 use native.Mathlib.Omega.{arith}
 use Rattle.lts.proofs.Laws.Contents.{transitions_in}
-use borrow.Author.Rules.{rules}
 use Rattle.tables.proofs.prepared.transition_count.Goals as goal
 
 pub returns : goal.returns
