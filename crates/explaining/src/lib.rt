@@ -23,7 +23,7 @@ const TABLE_FIGURE: u64 = TABLE_LENGTH as u64;
 const FORMULA_FIGURE: u64 = FORMULA_LENGTH as u64;
 
 // What `explain` answers: verdict, class, rows and edges, or the number and the figure of a refusal.
-#[derive(Drop)]
+#[derive(Clone, Copy)]
 pub enum ExplainReply {
     Explained(u64, u64, u64, u64),
     Refused(u32, u64),

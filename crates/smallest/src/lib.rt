@@ -17,7 +17,7 @@ ghost use Rattle.smallest.specs.Replies.{smallest_reply};
 ghost use Rattle.smallest.specs.inner.Answered.{Answered};
 
 // What `smallest` answers: the counts of rows and edges, or a refusal. specs/Replies.antt lists the number and the figure of each case.
-#[derive(Drop)]
+#[derive(Clone, Copy)]
 pub enum SmallestReply {
     Built(usize, usize),
     RowsShort(usize),

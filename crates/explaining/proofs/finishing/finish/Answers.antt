@@ -1,0 +1,45 @@
+-- `finish` meets its contract: a refusal of building leaves the prepared bytes where they are; else they are copied.
+use borrow.Author.Rules.{rules}
+use mathlib.Core.Path.{◌≡◌, refl}
+use native.Mathlib.Omega.{arith}
+use Rattle.explaining.proofs.Ending.{both_hold, refused_said, row-there, explained_said, copied}
+use Rattle.explaining.proofs.finishing.finish.Goals as goal
+
+-- `finish` meets its contract: a refusal of building leaves the prepared bytes where they are; else they are copied.
+pub built-reply-requires : goal.built-reply-requires
+built-reply-requires c =
+    let (x, held) = c.requires.holds_both in let w = both_hold c.args.t.now c.args.f.now x held in
+    record { holds_table = w.0; holds_formula = w.1 }
+
+pub returns-then-counted-ne0 : goal.returns-then-counted-ne0
+returns-then-counted-ne0 c =
+    λ x held.
+    let built = c.built-reply in
+    let a = c.args in
+    refused_said a.t.now a.f.now x held a.rows.now a.edges.now _ _ built.result built.ensures c.build_answer-counted.ensures
+    (λ e. omega (arith, c.if-counted-ne0.true)) _ _
+
+pub bounds-rows-2 : goal.bounds-rows-2
+bounds-rows-2 c =
+    let accepted : c.build_answer-counted.result.number ≡ 0 = omega (arith, c.if-counted-ne0.false) in
+    let built = c.built-reply in
+    let a = c.args in
+    let (x, held) = c.requires.holds_both in
+    let row = row-there a.t.now a.f.now x held a.rows.now a.edges.now _ _ built.result built.ensures c.build_answer-counted.ensures (accepted) in
+    omega (arith, row, built.auto.rows)
+
+pub copy-requires-2 : goal.copy-requires-2
+copy-requires-2 c =
+    omega (arith, c.requires.t_len.1, c.requires.table_length_in_bounds.1)
+
+pub returns : goal.returns
+returns c =
+    let accepted : c.build_answer-counted.result.number ≡ 0 = omega (arith, c.if-counted-ne0.false) in
+    λ x held.
+    let built = c.built-reply in
+    let a = c.args in
+    let count = c.build_edges-count in
+    explained_said a.t.now a.f.now x held a.rows.now a.edges.now _ _ built.result built.ensures c.build_answer-counted.ensures (accepted)
+    _ c.class_of-class.result count.result c.verdict_told-holds.result refl c.class_of-class.ensures count.ensures c.verdict_told-holds.ensures
+    a.table.now _ a.formula.now _
+    (copied a.t.now a.table.now _ c.copy.ensures.after) (copied a.f.now a.formula.now _ c.copy-2.ensures.after)
