@@ -16,7 +16,7 @@ use Rattle.formula_classes.specs.declared.Walked.{Walked}
 use Rattle.formula_classes.specs.declared.Walked.TheVariants.{Broken, Node}
 
 pub room-kept : {K E E' C C' : List ℕ} → Room K E C → length E' ≡ length E → length C' ≡ length C → Room K E' C'
-room-kept r e d = record { ends-fit = omega arith; classes-fit = omega arith; few = r.few }
+room-kept r e d = record { ends_fit = omega arith; classes_fit = omega arith; few = r.few }
 
 -- An arm that was walked ends within the nodes, behind the place where it begins, and its class is in the table.
 module _ {K E E' C C' : List ℕ} {k end arm : ℕ} (h : Traversed K E E' C C' k end arm) where

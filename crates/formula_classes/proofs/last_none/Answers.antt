@@ -9,6 +9,7 @@ use lib.ListN.{length}
 use borrow.Author.Tests.{eq-eqb, ne_eqb}
 use Rattle.actl.proofs.Laws.Classed.{Remains, remains_all, remains_none, remains_some, remains_end}
 use Rattle.formula_classes.proofs.last_none.Goals as goal
+use Rattle.formula_classes.proofs.last_none.Goals.{then-classes-k-eq0, else-classes-k-eq0}
 
 pub loop-k-init : goal.loop-k-init
 loop-k-init c =
@@ -22,10 +23,10 @@ loop-k-preserved c =
     let h = c.loop-k-test.true in
     let inv = c.loop-k.invariant.1 in (
       omega arith,
-      ⊎_elim
-          (λ w. subst (λ x. Remains classes x (k + 1)) (sym w.1) (remains_none classes found k h w.0.taken inv))
-          (λ w. subst (λ x. Remains classes x (k + 1)) (sym w.1) (remains_some classes found k h w.0.left inv))
-          c.if-classes-k-eq0.branch,
+      elim c.if-classes-k-eq0.branch [
+        | then-classes-k-eq0 w ↦ subst (λ x. Remains classes x (k + 1)) (sym w.found-is) (remains_none classes found k h w.if-classes-k-eq0.true inv)
+        | else-classes-k-eq0 w ↦ subst (λ x. Remains classes x (k + 1)) (sym w.found-is) (remains_some classes found k h w.if-classes-k-eq0.false inv)
+      ],
     )
 
 pub returns-then-found-classes : goal.returns-then-found-classes

@@ -23,7 +23,7 @@ returns c =
     let few = prepared-few n b e in
     let noted = shape_noted n b e w.result (ap (kinds_in b) count) w.ensures in
     record {
-      c = count ∙ prepared-count n b e;
+      counted = count ∙ prepared-count n b e;
       ends = λ k l. noted-end F noted k l few;
       classes = λ k l. noted-class F noted k l few;
     }

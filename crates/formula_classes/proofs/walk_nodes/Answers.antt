@@ -17,8 +17,8 @@ pub walk-requires : goal.walk-requires
 walk-requires c =
     let long = ap length c.kinds_in-kinds.ensures ∙ length_kinds_in c.args.formula.now c.args.count in
     record {
-      ends-fit = omega (arith, long, c.requires.formula_length_in_bounds, c.requires.count_in_bounds);
-      classes-fit = omega (arith, long, c.requires.formula_length_in_bounds, c.requires.count_in_bounds);
+      ends_fit = omega (arith, long, c.requires.formula_length_in_bounds, c.requires.count_in_bounds);
+      classes_fit = omega (arith, long, c.requires.formula_length_in_bounds, c.requires.count_in_bounds);
       few = omega (arith, long, c.requires.formula_length_in_bounds, c.requires.count_in_bounds);
     }
 

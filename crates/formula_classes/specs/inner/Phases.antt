@@ -7,14 +7,14 @@ use Rattle.formula_classes.specs.declared.Walked.TheVariants.{Broken, Node}
 
 -- The lent places hold every node, and a byte holds every number of a node.
 pub record Room (kinds ends classes : List ℕ) : Type 0 where
-  pub ends-fit : length kinds ≤ length ends
-  pub classes-fit : length kinds ≤ length classes
+  pub ends_fit : length kinds ≤ length ends
+  pub classes_fit : length kinds ≤ length classes
   pub few : length kinds < 256
 
 -- Node k noted: where its arms end, and its class; what it is as an arm is told.
-pub record NodeNoted (ends endsAfter classes classesAfter : List ℕ) (k end class arm : ℕ) (r : Walked) : Type 0 where
-  pub ends_set : endsAfter ≡ set ends k end
-  pub classes_set : classesAfter ≡ set classes k class
+pub record NodeNoted (ends ends_after classes classes_after : List ℕ) (k end class arm : ℕ) (r : Walked) : Type 0 where
+  pub ends_set : ends_after ≡ set ends k end
+  pub classes_set : classes_after ≡ set classes k class
   pub told : r ≡ Node end arm
 
 -- Node k is one of the kinds that have an arm.
@@ -25,15 +25,15 @@ pub record HasArm (kinds : List ℕ) (k kind : ℕ) : Type 0 where
   pub high : kind ≤ 9
 
 -- The right arm of node k, from `middle` on, and then node k noted, by both arms.
-pub record RightTraversed (kinds ends endsAfter classes classesAfter : List ℕ) (k middle left end class : ℕ) : Type 0 where
+pub record RightTraversed (kinds ends ends_after classes classes_after : List ℕ) (k middle left end class : ℕ) : Type 0 where
   pub ends_behind : List ℕ
   pub classes_behind : List ℕ
   pub right : ℕ
   pub walked : Traversed kinds ends ends_behind classes classes_behind middle end right
-  pub noted : NodeNoted ends_behind endsAfter classes_behind classesAfter k end class class (Node end class)
+  pub noted : NodeNoted ends_behind ends_after classes_behind classes_after k end class class (Node end class)
   pub by_both : class ≡ class_of_or (class_of_arm left) (class_of_arm right)
 
 abbrev pub RightWalks : List ℕ → List ℕ → List ℕ → List ℕ → List ℕ → ℕ → ℕ → ℕ → Walked → Type 0
-RightWalks kinds ends endsAfter classes classesAfter k middle left Broken = (f : Formula) → Spelled kinds middle f → ⊥
-RightWalks kinds ends endsAfter classes classesAfter k middle left (Node end class) =
-    RightTraversed kinds ends endsAfter classes classesAfter k middle left end class
+RightWalks kinds ends ends_after classes classes_after k middle left Broken = (f : Formula) → Spelled kinds middle f → ⊥
+RightWalks kinds ends ends_after classes classes_after k middle left (Node end class) =
+    RightTraversed kinds ends ends_after classes classes_after k middle left end class

@@ -11,8 +11,8 @@ use Rattle.formula_classes.specs.declared.Shape.{Shape}
 use Rattle.actl.specs.inner.Walk.{kinds_of, Spelled, Traversed}
 
 abbrev pub Walks : List ℕ → List ℕ → List ℕ → List ℕ → List ℕ → ℕ → Walked → Type 0
-Walks kinds ends endsAfter classes classesAfter k Broken = (f : Formula) → Spelled kinds k f → ⊥
-Walks kinds ends endsAfter classes classesAfter k (Node end arm) = Traversed kinds ends endsAfter classes classesAfter k end arm
+Walks kinds ends ends_after classes classes_after k Broken = (f : Formula) → Spelled kinds k f → ⊥
+Walks kinds ends ends_after classes classes_after k (Node end arm) = Traversed kinds ends ends_after classes classes_after k end arm
 
 -- 01: "a node without class": "the highest-numbered one"
 abbrev pub classless_node : Classless → Option ℕ

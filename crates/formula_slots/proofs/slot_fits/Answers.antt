@@ -1,0 +1,49 @@
+-- `slot_fits` meets its contract: one of the nine kinds, and each mask by itself.
+use mathlib.Core.Path.{◌≡◌, sym, ap, ◌∙◌}
+use mathlib.Core.Bool.{◌&&◌, ◌||◌}
+use Prim.Native.Nat.{ℕ}
+use lib.Dec.{eqb}
+use Rattle.actl.specs.inner.Shaped.{first_used, second_used}
+use Rattle.actl.specs.Prepared.{Slot, mask_within}
+use Rattle.actl.specs.inner.Prepared.{slot_at}
+use Rattle.actl.specs.inner.Check.{slot_fits}
+use Rattle.actl.proofs.Laws.Checked.{kind-low, kind-high, masks_fit}
+use borrow.Author.Rules.{rules}
+use Rattle.formula_slots.proofs.slot_fits.Goals as goal
+
+-- `slot_fits` meets its contract: one of the nine kinds, and each mask by itself.
+pub returns-then-kind-eq0 : goal.returns-then-kind-eq0
+returns-then-kind-eq0 c =
+    let a = c.args in
+    sym (kind-low a.labels (slot_at a.formula.now a.k) c.if-kind-eq0.true)
+
+pub returns-then-kind-gt9 : goal.returns-then-kind-gt9
+returns-then-kind-gt9 c =
+    let a = c.args in
+    sym (kind-high a.labels (slot_at a.formula.now a.k) c.if-kind-gt9.true)
+
+pub returns-then-first : goal.returns-then-first
+returns-then-first c =
+    let n : ℕ = c.args.labels in
+    let s : Slot = slot_at c.args.formula.now c.args.k in
+    let both : (c.mask_fits-first.result && c.mask_fits-second.result) ≡ slot_fits n s = let m = c.first_mask.ensures in
+    let o = c.second_mask.ensures in
+    let first : c.mask_fits-first.result ≡ ((first_used s.kind || eqb s.first 0) && mask_within n s.first) =
+    c.mask_fits-first.ensures ∙ (λ i. (c.masks_of-masks.ensures.result_value i || eqb (m i) 0) && mask_within n (m i)) in
+    let second : c.mask_fits-second.result ≡ ((second_used s.kind || eqb s.second 0) && mask_within n s.second) =
+    c.mask_fits-second.ensures ∙ (λ i. (c.masks_of-masks.ensures.result_value_2 i || eqb (o i) 0) && mask_within n (o i)) in
+    (λ i. first i && second i) ∙ masks_fit n s c.if-kind-eq0.false c.if-kind-gt9.false in
+    sym (ap (λ t. t && c.mask_fits-second.result) c.if-first.true) ∙ both
+
+pub returns-else-first : goal.returns-else-first
+returns-else-first c =
+    let n : ℕ = c.args.labels in
+    let s : Slot = slot_at c.args.formula.now c.args.k in
+    let both : (c.mask_fits-first.result && c.mask_fits-second.result) ≡ slot_fits n s = let m = c.first_mask.ensures in
+    let o = c.second_mask.ensures in
+    let first : c.mask_fits-first.result ≡ ((first_used s.kind || eqb s.first 0) && mask_within n s.first) =
+    c.mask_fits-first.ensures ∙ (λ i. (c.masks_of-masks.ensures.result_value i || eqb (m i) 0) && mask_within n (m i)) in
+    let second : c.mask_fits-second.result ≡ ((second_used s.kind || eqb s.second 0) && mask_within n s.second) =
+    c.mask_fits-second.ensures ∙ (λ i. (c.masks_of-masks.ensures.result_value_2 i || eqb (o i) 0) && mask_within n (o i)) in
+    (λ i. first i && second i) ∙ masks_fit n s c.if-kind-eq0.false c.if-kind-gt9.false in
+    c.if-first.false ∙ (sym (ap (λ t. t && c.mask_fits-second.result) c.if-first.false) ∙ both)
