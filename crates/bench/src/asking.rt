@@ -1,40 +1,34 @@
 // A line of the sheet asked of the library, and words asked of what the line left.
 ghost use Rattle.std.specs.Prelude.{◌≤◌, ◌<◌, length};
 
-use crate::writing::{print, print_reply};
+use crate::writing::print_reply;
 use actl::sizes::FORMULA_LENGTH;
 use explaining::explain;
 use explanations::sizes::{EDGES_LENGTH, ROWS_LENGTH, TEXT_LENGTH};
-use libc::STDOUT_FILENO;
 use lts::sizes::TABLE_LENGTH;
+use std::io;
 use words::{WordReply, accepts};
 
-fn print_letter(letter: u8) {
-    print(b" ");
-    io::print_decimal(STDOUT_FILENO, letter as u64);
-}
-
-fn print_letters(letters: &[u8]) {
-    let mut i = 0;
-    while i < letters.len() {
-        print_letter(letters[i]);
-        i += 1;
+fn print_letters(rt: &impl Print, letters: &[u8]) -> io::Result<()> {
+    for letter in letters {
+        print!(rt; " {letter}")?;
     }
+    Ok(())
 }
 
-fn print_answer(reply: WordReply) {
+fn print_answer(rt: &impl Print, reply: WordReply) -> io::Result<()> {
     match reply {
-        WordReply::Accepted => print(b": 1\n"),
-        WordReply::NotAccepted => print(b": 0\n"),
-        _ => print(b": refused\n"),
+        WordReply::Accepted => rt.write_all(b": 1\n"),
+        WordReply::NotAccepted => rt.write_all(b": 0\n"),
+        _ => rt.write_all(b": refused\n"),
     }
 }
 
 // Whether the automaton accepts a word.
-fn word(table: &[u8], formula: &[u8], letters: &[u8]) {
-    print(b"word");
-    print_letters(letters);
-    print_answer(accepts(table, formula, letters));
+fn word(rt: &impl Print, table: &[u8], formula: &[u8], letters: &[u8]) -> io::Result<()> {
+    rt.write_all(b"word")?;
+    print_letters(rt, letters)?;
+    print_answer(rt, accepts(table, formula, letters))
 }
 
 // Where the word that starts at `from` ends.
@@ -52,25 +46,32 @@ fn word_end(words: &[u8], from: usize) -> usize
     i
 }
 
-fn ask(table: &[u8], formula: &[u8], words: &[u8]) {
+fn ask(rt: &impl Print, table: &[u8], formula: &[u8], words: &[u8]) -> io::Result<()> {
     let mut from = 0;
     while from < words.len() {
         let to = word_end(words, from);
-        word(table, formula, &words[from..to]);
+        word(rt, table, formula, &words[from..to])?;
         from = to + 1;
     }
+    Ok(())
 }
 
-pub fn line(name: &[u8], tabletext: &[u8], formulatext: &[u8], words: &[u8]) {
+pub fn line(
+    rt: &impl Print,
+    name: &[u8],
+    tabletext: &[u8],
+    formulatext: &[u8],
+    words: &[u8],
+) -> io::Result<()> {
     let mut table = [0u8; TABLE_LENGTH];
     let mut formula = [0u8; FORMULA_LENGTH];
     let mut rows = [0u8; ROWS_LENGTH];
     let mut edges = [0u8; EDGES_LENGTH];
     let mut out = [0u8; TEXT_LENGTH];
-    print(name);
-    print(b" \"");
-    print(formulatext);
-    print(b"\"\n");
+    rt.write_all(name)?;
+    rt.write_all(b" \"")?;
+    rt.write_all(formulatext)?;
+    rt.write_all(b"\"\n")?;
     let reply = explain(
         tabletext,
         formulatext,
@@ -79,6 +80,6 @@ pub fn line(name: &[u8], tabletext: &[u8], formulatext: &[u8], words: &[u8]) {
         &mut rows,
         &mut edges,
     );
-    print_reply(reply, &rows, &edges, &mut out);
-    ask(&table, &formula, words);
+    print_reply(rt, reply, &rows, &edges, &mut out)?;
+    ask(rt, &table, &formula, words)
 }

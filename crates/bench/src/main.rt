@@ -5,15 +5,17 @@ mod asking;
 mod sheet;
 mod writing;
 
-fn main() {
-    sheet::explained_on_m();
-    sheet::refused_on_m();
-    sheet::negations_on_m();
-    sheet::on_one_state();
-    sheet::on_loops();
-    sheet::short_forms_on_m();
-    sheet::short_forms_without_class_on_m();
-    sheet::short_forms_cut_on_m();
-    sheet::short_forms_spoilt_on_m();
-    sheet::short_forms_refused_on_m();
+use std::io;
+
+fn main(rt: HostRuntime) -> io::Result<()> {
+    sheet::explained_on_m(&rt)?;
+    sheet::refused_on_m(&rt)?;
+    sheet::negations_on_m(&rt)?;
+    sheet::on_one_state(&rt)?;
+    sheet::on_loops(&rt)?;
+    sheet::short_forms_on_m(&rt)?;
+    sheet::short_forms_without_class_on_m(&rt)?;
+    sheet::short_forms_cut_on_m(&rt)?;
+    sheet::short_forms_spoilt_on_m(&rt)?;
+    sheet::short_forms_refused_on_m(&rt)
 }

@@ -1,17 +1,14 @@
 // Text to standard output; what `explain` answered, as text.
 use explaining::ExplainReply;
 use explanations::sizes::{EDGES_LENGTH, ROWS_LENGTH, TEXT_LENGTH};
-use libc::STDOUT_FILENO;
 use listing_text::{write_listing, write_refusal};
+use std::io;
 
-pub fn print(text: &[u8]) {
-    io::write_all(STDOUT_FILENO, text);
-}
-
-fn print_start(text: &[u8], end: usize) {
+fn print_start(rt: &impl Print, text: &[u8], end: usize) -> io::Result<()> {
     if end <= text.len() {
-        print(&text[..end]);
+        return rt.write_all(&text[..end]);
     }
+    Ok(())
 }
 
 // Counts above what was lent are no answer of `explain`; nothing is written of such.
@@ -57,11 +54,12 @@ fn write_reply(
 }
 
 pub fn print_reply(
+    rt: &impl Print,
     reply: ExplainReply,
     rows: &[u8; ROWS_LENGTH],
     edges: &[u8; EDGES_LENGTH],
     out: &mut [u8; TEXT_LENGTH],
-) {
+) -> io::Result<()> {
     let end = write_reply(reply, rows, edges, out);
-    print_start(out, end);
+    print_start(rt, out, end)
 }

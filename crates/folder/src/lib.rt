@@ -1,12 +1,29 @@
 // What the programs read: table.txt and formula.txt in the folder that they run in, or two tables, first.txt and second.txt.
 #![tactic(auto)]
 
-ghost use Rattle.io.specs.Counts.{IsPrefixLen};
 ghost use Rattle.files.specs.inner.Scan.{scan_start};
+ghost use Rattle.files.specs.inner.Writing.{PrefixLength};
 ghost use Rattle.folder.specs.inner.Scanning.{ScannedOn};
 
 use explanations::sizes::KEPT;
 use files::{Scanned, scan_chunk, scan_start};
+use std::fs;
+use std::io::Read;
+use std::rt::Files;
+
+// Reads until the buffer is full, the input ends or a read fails, and answers how many bytes it put at the start of the buffer.
+pub fn read_full<I: Read>(input: &mut I, buffer: &mut [u8]) -> usize
+    ensures { PrefixLength result buffer.new }
+{
+    let mut done = 0;
+    while done < buffer.len() {
+        match input.read(&mut buffer[done..]) {
+            Ok(0) | Err(_) => break,
+            Ok(n) => done += n,
+        }
+    }
+    done
+}
 
 // The formula file so far, and whether there may be more of it.
 #[derive(Drop)]
@@ -15,11 +32,11 @@ struct Portion {
     more: bool,
 }
 
-fn scan_some(fd: i32, head: &mut [u8; KEPT], scanned: Scanned) -> Portion
+fn scan_some<I: Read>(input: &mut I, head: &mut [u8; KEPT], scanned: Scanned) -> Portion
     ensures { ScannedOn head.old scanned head.new result.scanned }
 {
-    let mut chunk = io::large_buffer();
-    let n = io::read_full(fd, &mut chunk);
+    let mut chunk = [0u8; 65536];
+    let n = read_full(input, &mut chunk);
     Portion {
         scanned: scan_chunk(&chunk[..n], head, scanned),
         more: n > 0,
@@ -27,13 +44,13 @@ fn scan_some(fd: i32, head: &mut [u8; KEPT], scanned: Scanned) -> Portion
 }
 
 // A proved loop has to end, and nothing says that a file does: the loop counts its rounds down, from a number that no file uses up.
-fn scan_all(fd: i32, head: &mut [u8; KEPT]) -> Scanned
+fn scan_all<I: Read>(input: &mut I, head: &mut [u8; KEPT]) -> Scanned
     ensures { ScannedOn head.old scan_start head.new result }
 {
     let mut left = u64::MAX;
     let mut scanned = scan_start();
     while left > 0 {
-        let portion = scan_some(fd, head, scanned);
+        let portion = scan_some(input, head, scanned);
         scanned = portion.scanned;
         if !portion.more {
             return scanned;
@@ -43,46 +60,41 @@ fn scan_all(fd: i32, head: &mut [u8; KEPT]) -> Scanned
     scanned
 }
 
-// A file that cannot be opened counts as empty.
-pub fn scan_formula(head: &mut [u8; KEPT]) -> Scanned
+// A file that cannot be opened counts as empty, and one whose reading fails ends there.
+pub fn scan_formula<R: Files>(rt: &R, head: &mut [u8; KEPT]) -> Scanned
     ensures { ScannedOn head.old scan_start head.new result }
 {
-    let fd = os::open_read(b"formula.txt");
-    if fd < 0 {
-        return scan_start();
+    match fs::open(rt, "formula.txt") {
+        Ok(mut file) => scan_all(&mut file, head),
+        Err(_) => scan_start(),
     }
-    let scanned = scan_all(fd, head);
-    libc::close(fd);
-    scanned
 }
 
-// As many bytes of an open file as there is room for, and how many they are: none, if it could not be opened.
-fn read_opened(fd: i32, table: &mut [u8]) -> usize
-    ensures { IsPrefixLen result table.new }
+// As many bytes of a file as there is room for, and how many they are: none, if it cannot be opened.
+fn read_file<R: Files>(rt: &R, name: &str, table: &mut [u8]) -> usize
+    ensures { PrefixLength result table.new }
 {
-    if fd < 0 {
-        return 0;
+    match fs::open(rt, name) {
+        Ok(mut file) => read_full(&mut file, table),
+        Err(_) => 0,
     }
-    let count = io::read_full(fd, table);
-    libc::close(fd);
-    count
 }
 
-pub fn read_table(table: &mut [u8]) -> usize
-    ensures { IsPrefixLen result table.new }
+pub fn read_table<R: Files>(rt: &R, table: &mut [u8]) -> usize
+    ensures { PrefixLength result table.new }
 {
-    read_opened(os::open_read(b"table.txt"), table)
+    read_file(rt, "table.txt", table)
 }
 
 // The tables that are combined.
-pub fn read_first(table: &mut [u8]) -> usize
-    ensures { IsPrefixLen result table.new }
+pub fn read_first<R: Files>(rt: &R, table: &mut [u8]) -> usize
+    ensures { PrefixLength result table.new }
 {
-    read_opened(os::open_read(b"first.txt"), table)
+    read_file(rt, "first.txt", table)
 }
 
-pub fn read_second(table: &mut [u8]) -> usize
-    ensures { IsPrefixLen result table.new }
+pub fn read_second<R: Files>(rt: &R, table: &mut [u8]) -> usize
+    ensures { PrefixLength result table.new }
 {
-    read_opened(os::open_read(b"second.txt"), table)
+    read_file(rt, "second.txt", table)
 }

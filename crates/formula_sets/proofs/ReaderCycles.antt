@@ -4,19 +4,10 @@ use mathlib.Core.List.{List}
 use Prim.Native.Nat.{ℕ, suc, ◌+◌, ◌*◌, ◌-◌, ◌≤◌, ◌<◌}
 use native.Mathlib.Nat.{suc-mul, mul-le-mul_right}
 use native.Mathlib.Omega.{arith}
-use borrow.Fn.Kinds.{ParamKind, In}
-use borrow.Fn.PlainCycle.{Measures, is, falls, and}
 use lib.ListN.{length}
 use Rattle.actl.specs.inner.Cursor.{Tokened}
 use Rattle.actl.specs.inner.Readers.{ReaderStart}
 use Rattle.formula_cursor.proofs.ReadingMoves.{skipped-token}
-
--- A member with the precondition P is entered where its measure is t, and called from there where its own is lower.
-abbrev pub entered : (n : ℕ) (ps : List (ParamKind n)) → Measures n ps ℕ → In n ps → ℕ → In n ps
-entered n ps μ P t = and n ps (is n ps μ t) P
-
-abbrev pub called : (n : ℕ) (ps : List (ParamKind n)) → Measures n ps ℕ → In n ps → ℕ → In n ps
-called n ps μ P t = and n ps (falls n ps ◌<◌ μ t) P
 
 -- The measure of a reader of this rank among so many.
 abbrev pub unread : ℕ → ℕ → List ℕ → ℕ → ℕ

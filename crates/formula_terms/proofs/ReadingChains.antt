@@ -6,7 +6,7 @@ use native.Mathlib.Omega.{arith}
 use lib.ListN.{length, drop, length-append}
 use Rattle.actl.specs.Sizes.{longest_text, node_slot_length}
 use Rattle.actl.specs.inner.Show.{gap, show_f, show_a, show_t}
-use Rattle.actl.specs.Grammar.{Disjunction, conjunction, or, term, and, Term}
+use Rattle.actl.specs.Grammar.{Disjunction, conjunction, or, term, Term}
 use Rattle.actl.specs.inner.Reader.{InDisjunction, InTerm, t_first, t_or, t_and, term_at, and_last, after_disjunction, plug_t}
 use Rattle.actl.specs.inner.Mentions.{names_f, names_a, names_t}
 use Rattle.actl.specs.inner.Cursor.{peek, Token, Skipped, Moves, Fails, Tokened}

@@ -17,7 +17,7 @@ use Rattle.actl.specs.inner.Cursor.{peek, Token, Skipped, Moves, Fails, Marked, 
 use Rattle.actl.specs.inner.Readers.{ReaderStart, unknown_in, earlier, head_slots, HeadRead, TermRead, BracketRead, Unbracketed}
 use Rattle.actl.specs.inner.NodeBytes.{bytes_of_nodes, most_counted, NodesWritten, NodeRoom}
 use Rattle.actl.specs.inner.Meaning.{formula_t}
-use Rattle.formula_terms.specs.inner.Prefixes.{PrefixRead, Atom, NoAtom, PrefixesPassed, PrefixesRead, PrefixesAnswer}
+use Rattle.formula_terms.specs.inner.Prefixes.{PrefixRead, Atom, NoAtom, PrefixesPassed, PrefixesAnswer}
 use Rattle.formula_terms.specs.inner.TermReplies.{TermAnswer, BracketAnswer}
 use Rattle.formula_terms.specs.declared.Nodes.{Nodes}
 use Rattle.formula_terms.specs.declared.Nodes.TheVariants.{Read, Refused}

@@ -86,7 +86,7 @@ node-of-slot n f e = sym (node_in_slot n) ∙ (ap node_in e ∙ (formula_in_slot
 pub T_by_kind : (f : Formula) → eqb (slot_of f).kind 1 ≡ is_t f
 T_by_kind f = (formula_in_slot f).1
 
--- What `put_node` leaves, `node_at_lem` may read, and it reads that node: masks are of 64 bits.
+-- What `put_node` leaves, `node_at` may read, and it reads that node: masks are of 64 bits.
 module _ (k : ℕ) (n : Node) (b : List ℕ) (room : 1 + k * node_slot_length + node_slot_length ≤ length b)
     (first : (slot_of_node n).first < 256 ^ 8) (second : (slot_of_node n).second < 256 ^ 8) where
   pub slot-put : slot_at (put_at k (slot_of_node n) b) k ≡ slot_of_node n

@@ -5,7 +5,7 @@ use actl::sizes::NODE_POSITIONS;
 use formula_check::inputs::{Inputs, Unprepared, check_inputs};
 use formula_classes::shape_of;
 use lts::sizes::{FIRSTS, STEPS};
-use table_steps::steps_of;
+use table_steps::fill_steps;
 use tables::prepared::start_state;
 
 pub mod nodes;
@@ -36,7 +36,7 @@ fn holds_at_start(table: &[u8], formula: &[u8]) -> bool
 {
     let mut steps = [0u16; STEPS];
     let mut firsts = [0u16; FIRSTS];
-    steps_of(table, &mut steps, &mut firsts);
+    fill_steps(table, &mut steps, &mut firsts);
     let shape = shape_of(formula);
     let ends = shape.ends;
     let mut flags = [false; NODE_POSITIONS];

@@ -1,4 +1,4 @@
--- What `read_table_lem` answers and leaves.
+-- What `read_table` answers and leaves.
 use Rattle.std.specs.Prelude.{List, ℕ, leb, length}
 use Rattle.lts.specs.Sizes.{table_length}
 use Rattle.lts.specs.Reply.{Reply, unless, left_in, answers}

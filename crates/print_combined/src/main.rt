@@ -4,15 +4,15 @@
 
 use combined_text::{COMBINED_LENGTH, write_combined_of};
 use folder::{read_first, read_second};
-use libc::STDOUT_FILENO;
 use lts::sizes::ENOUGH_TABLE_TEXT;
+use std::io;
 
-fn main() {
+fn main(rt: HostRuntime) -> io::Result<()> {
     let mut first = [0u8; ENOUGH_TABLE_TEXT];
-    let n = read_first(&mut first);
+    let n = read_first(&rt, &mut first);
     let mut second = [0u8; ENOUGH_TABLE_TEXT];
-    let m = read_second(&mut second);
+    let m = read_second(&rt, &mut second);
     let mut out = [0u8; COMBINED_LENGTH];
     let end = write_combined_of(&first[..n], &second[..m], &mut out);
-    io::write_all(STDOUT_FILENO, &out[..end]);
+    rt.write_all(&out[..end])
 }

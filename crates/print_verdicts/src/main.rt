@@ -3,19 +3,19 @@
 #![tactic(auto)]
 
 use explanations::sizes::KEPT;
-use folder::{read_table, scan_formula};
-use libc::{STDIN_FILENO, STDOUT_FILENO};
+use folder::{read_full, read_table, scan_formula};
 use lts::sizes::ENOUGH_TABLE_TEXT;
+use std::io;
 use verdict_lines::{LINES_LENGTH, LIST_LENGTH, write_verdicts_of};
 
-fn main() {
+fn main(rt: HostRuntime) -> io::Result<()> {
     let mut table = [0u8; ENOUGH_TABLE_TEXT];
-    let n = read_table(&mut table);
+    let n = read_table(&rt, &mut table);
     let mut head = [0u8; KEPT];
-    let scanned = scan_formula(&mut head);
+    let scanned = scan_formula(&rt, &mut head);
     let mut list = [0u8; LIST_LENGTH];
-    let listed = io::read_full(STDIN_FILENO, &mut list);
+    let listed = read_full(&mut rt.stdin(), &mut list);
     let mut out = [0u8; LINES_LENGTH];
     let end = write_verdicts_of(&table[..n], &head, scanned, &list, listed, &mut out);
-    io::write_all(STDOUT_FILENO, &out[..end]);
+    rt.write_all(&out[..end])
 }

@@ -1,4 +1,4 @@
--- 01, "What the entries turn back": the number and the figure of each case that `read_table_lem` answers.
+-- 01, "What the entries turn back": the number and the figure of each case that `read_table` answers.
 use Rattle.lts.specs.Reply.{Reply, accepted, refusal}
 use Rattle.table_text.specs.declared.TableReply.{TableReply}
 use Rattle.table_text.specs.declared.TableReply.TheVariants.{Accepted, NotLaidOut, OutOfRange, NameRepeated, NotRising, BufferShort}

@@ -145,7 +145,7 @@ fn mask_place(formula: &[u8], ends: &[u8; NODES], masks: &mut [u64; MASKS_LENGTH
 }
 
 // The masks of every place, into cleared ones: place k and label l at k * 41 + column(l). END has none.
-pub fn target_masks(formula: &[u8], ends: &[u8; NODES], masks: &mut [u64; MASKS_LENGTH])
+pub fn fill_masks(formula: &[u8], ends: &[u8; NODES], masks: &mut [u64; MASKS_LENGTH])
     requires formula_length_in_bounds { formula_length ≤ length formula.now }
     requires spells { (F : Formula) × Spells formula.now ends.now F }
     requires cleared { Cleared masks_length masks.old }
@@ -156,6 +156,17 @@ pub fn target_masks(formula: &[u8], ends: &[u8; NODES], masks: &mut [u64; MASKS_
         k -= 1;
         mask_place(formula, ends, masks, k);
     }
+}
+
+// The same, in an array of its own.
+pub fn target_masks(formula: &[u8], ends: &[u8; NODES]) -> [u64; MASKS_LENGTH]
+    requires formula_length_in_bounds { formula_length ≤ length formula.now }
+    requires spells { (F : Formula) × Spells formula.now ends.now F }
+    ensures { (F : Formula) → Spells formula.now ends.now F → MasksOf F 0 result × MasksFit result }
+{
+    let mut masks = [0u64; MASKS_LENGTH];
+    fill_masks(formula, ends, &mut masks);
+    masks
 }
 
 // Whether each place is final. END is.

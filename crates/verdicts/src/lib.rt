@@ -19,7 +19,7 @@ use formula_classes::shape_of;
 use labelling::nodes::label_nodes;
 use lts::sizes::{FIRSTS, STATES, STEPS, TABLE_LENGTH};
 use start_list::wrong_start;
-use table_steps::steps_of;
+use table_steps::fill_steps;
 use tables::lookup::Lookup;
 use tables::prepared::{byte, state_count};
 
@@ -53,7 +53,7 @@ fn answer_each(table: &[u8], formula: &[u8], starts: &[u8], answers: &mut [u8]) 
 {
     let mut steps = [0u16; STEPS];
     let mut firsts = [0u16; FIRSTS];
-    steps_of(table, &mut steps, &mut firsts);
+    fill_steps(table, &mut steps, &mut firsts);
     let shape = shape_of(formula);
     let ends = shape.ends;
     let mut flags = [false; NODE_POSITIONS];

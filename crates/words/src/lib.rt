@@ -19,10 +19,10 @@ use automaton::sizes::{LONGEST_WORD, MASKS_LENGTH, PLACES};
 use formula_check::inputs::{Inputs, Unprepared, check_inputs};
 use formula_classes::shape_of;
 use lts::sizes::{FIRSTS, STEPS};
-use table_steps::{is_silent, steps_of};
+use table_steps::{fill_steps, is_silent};
 use tables::lookup::Lookup;
 use tables::prepared::{label_count, start_state};
-use target_masks::{final_places, target_masks};
+use target_masks::{fill_masks, final_places};
 use word_reading::frontiers::has;
 use word_reading::{read_word, wide};
 
@@ -88,11 +88,11 @@ fn is_accepted(table: &[u8], formula: &[u8], word: &[u8]) -> bool
 {
     let mut steps = [0u16; STEPS];
     let mut firsts = [0u16; FIRSTS];
-    steps_of(table, &mut steps, &mut firsts);
+    fill_steps(table, &mut steps, &mut firsts);
     let shape = shape_of(formula);
     let ends = shape.ends;
     let mut masks = [0u64; MASKS_LENGTH];
-    target_masks(formula, &ends, &mut masks);
+    fill_masks(formula, &ends, &mut masks);
     let finals = final_places(formula, &ends);
     let start = start_state(table);
     some_final(&finals, read_word(&steps, &firsts, &masks, start, word))

@@ -4,7 +4,6 @@ use native.Mathlib.Omega.{arith}
 use lib.Count.{trailing_le}
 use Rattle.bits.proofs.lowest.Goals as goal
 
--- `lowest` meets its contract.
 pub overflow_cast-result : goal.overflow_cast-result
 overflow_cast-result c =
     record { fits = omega (arith, trailing_le 64 c.args.mask) }

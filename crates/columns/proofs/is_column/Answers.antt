@@ -6,7 +6,6 @@ use borrow.Author.Rules.{rules}
 use Rattle.columns.proofs.Laws.Scan.{Compared, last_differs, compare_starts, compare_differs, compare_goes_on, compare_ends}
 use Rattle.columns.proofs.is_column.Goals as goal
 
--- `is_column` tells whether six bytes are a column: the invariant is `Compared`, what is left to compare.
 one_more : (i : ℕ) → 0 < i → i ≡ suc (i - 1)
 one_more i h = omega arith
 

@@ -6,7 +6,6 @@ use native.Mathlib.Omega.{arith}
 use Rattle.columns.proofs.Laws.ColumnsRead.{column-outside, column_too_large, column-of-same}
 use Rattle.columns.proofs.read_column.Goals as goal
 
--- `read_column` answers `column_at`.
 pub returns-then-text-lt6 : goal.returns-then-text-lt6
 returns-then-text-lt6 c =
     let a = c.args in column-outside a.text.now a.at (omega arith)

@@ -3,7 +3,6 @@ use Rattle.actl.proofs.Laws.Table.{table-right}
 use borrow.Author.Rules.{rules}
 use Rattle.formula_classes.proofs.class_from.Goals as goal
 
--- `class_from` meets its contract: the constant is the table.
 pub returns : goal.returns
 returns c =
     table-right c.args.kind c.args.arm (search rules) (search rules)

@@ -12,7 +12,6 @@ use Rattle.formula_classes.proofs.Laws.Walked.{walk_noted, noted-classes, length
 use borrow.Author.Rules.{rules}
 use Rattle.formula_classes.proofs.highest_classless.Goals as goal
 
--- `highest_classless` meets its contract: the walk leaves the classes of the formula's nodes.
 pub slice_bounds-last_none-end : goal.slice_bounds-last_none-end
 slice_bounds-last_none-end c =
     let w = c.walk_nodes in

@@ -4,7 +4,6 @@ use Rattle.actl.proofs.Laws.Walks.{kind-outside, kind_foreign, kind-known}
 use borrow.Author.Rules.{rules}
 use Rattle.formula_classes.proofs.kind_at.Goals as goal
 
--- `kind_at` meets its contract: past the end and above 9 there is no kind.
 pub returns-then-kinds-k : goal.returns-then-kinds-k
 returns-then-kinds-k c =
     sym (kind-outside c.args.kinds.now c.args.k c.if-kinds-k.true)

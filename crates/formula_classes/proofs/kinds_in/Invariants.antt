@@ -8,7 +8,6 @@ use Rattle.actl.specs.inner.Walk.{kinds_in}
 use Rattle.actl.proofs.Laws.Lists.{filled_more}
 use Rattle.formula_classes.proofs.kinds_in.Given as goal
 
--- `kinds_in` meets its contract: the loop fills the array from the front.
 abbrev pub invariant-loop-k : goal.invariant-loop-k
 invariant-loop-k l = (l.k ≤ l.count) × (length l.kinds ≡ 40) × (take l.k l.kinds ≡ kinds_in l.formula l.k)
 

@@ -10,7 +10,6 @@ use borrow.Author.Tests.{eq-eqb, ne_eqb}
 use Rattle.actl.proofs.Laws.Classed.{Remains, remains_all, remains_none, remains_some, remains_end}
 use Rattle.formula_classes.proofs.last_none.Given as goal
 
--- `last_none` meets its contract: the classes that are left, with the last none so far, give what the whole list gives.
 abbrev pub invariant-loop-k : goal.invariant-loop-k
 invariant-loop-k l = (l.k ≤ length l.classes) × Remains l.classes l.found l.k
 

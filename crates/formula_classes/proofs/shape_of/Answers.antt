@@ -7,7 +7,6 @@ use Rattle.formula_classes.proofs.Laws.Walked.{shape_noted, noted-end, noted-cla
 use borrow.Author.Rules.{rules}
 use Rattle.formula_classes.proofs.shape_of.Goals as goal
 
--- `shape_of` meets its contract: a prepared formula's kinds are those of its nodes, and the walk from node 0 notes their ends and classes.
 pub returns-then-count-gt-NODES : goal.returns-then-count-gt-NODES
 returns-then-count-gt-NODES c =
     λ n F e.

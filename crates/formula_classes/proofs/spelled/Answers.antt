@@ -10,7 +10,6 @@ use Rattle.formula_classes.proofs.Laws.Walked.{not-spelled, not-ending, spelled_
 use borrow.Author.Rules.{rules}
 use Rattle.formula_classes.proofs.spelled.Goals as goal
 
--- `spelled` meets its contract: the kinds are those of a formula with a class exactly if the walk ends behind the last of them.
 pub returns-in_default : goal.returns-in_default
 returns-in_default c =
     let w = c.walk_nodes in

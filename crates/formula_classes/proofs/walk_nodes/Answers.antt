@@ -7,7 +7,6 @@ use Rattle.formula_classes.proofs.Laws.Walked.{length_kinds_in}
 use borrow.Author.Rules.{rules}
 use Rattle.formula_classes.proofs.walk_nodes.Goals as goal
 
--- `walk_nodes` meets its contract: the kinds that were read are those of the first nodes.
 pub slice_bounds-walk-end : goal.slice_bounds-walk-end
 slice_bounds-walk-end c =
     let a = c.args in

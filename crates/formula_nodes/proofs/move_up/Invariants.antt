@@ -8,7 +8,6 @@ use Rattle.actl.specs.Sizes.{node_slot_length}
 use Rattle.actl.proofs.ReadingNodes.{moved, moved_none, moved_step, length_moved, moved_all}
 use Rattle.formula_nodes.proofs.move_up.Given as goal
 
--- Nodes move up from the last byte on. The loop's invariant: the bytes from i on have moved.
 abbrev pub invariant-loop-i : goal.invariant-loop-i
 invariant-loop-i l = (l.low ≤ l.i) × (l.i ≤ 1 + l.n * node_slot_length) × (l.nodes ≡ moved l.by (1 + l.n * node_slot_length) l.i l.initial.nodes)
 

@@ -7,7 +7,6 @@ use Rattle.actl.proofs.ReadingNodes.{written-more}
 use Rattle.formula_nodes.proofs.Joining.{written-to}
 use Rattle.formula_nodes.proofs.put_dual.Goals as goal
 
--- The three nodes are written one behind the other.
 pub returns : goal.returns
 returns c =
     let n = c.args.n in

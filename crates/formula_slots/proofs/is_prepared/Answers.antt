@@ -16,7 +16,6 @@ use borrow.Author.Rules.{rules}
 use mathlib.Core.Bool.{not}
 use Rattle.formula_slots.proofs.is_prepared.Goals as goal
 
--- `is_prepared` meets its contract: each test fails only where there is no prepared formula, and all passed there is one.
 -- The answer is the test's, and so it tells whether the bytes are some formula's form.
 tested : (n : ℕ) (b : List ℕ) {r : Bool} → r ≡ is_prepared n b → (r ≡ is_prepared n b) × (n ≤ most_labels → Decides (FormOfSome n b) r)
 tested n b e = (e, λ few. subst (Decides (FormOfSome n b)) (sym e) (form_tested n few b))

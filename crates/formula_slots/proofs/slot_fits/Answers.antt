@@ -11,7 +11,6 @@ use Rattle.actl.proofs.Laws.Checked.{kind-low, kind-high, masks_fit}
 use borrow.Author.Rules.{rules}
 use Rattle.formula_slots.proofs.slot_fits.Goals as goal
 
--- `slot_fits` meets its contract: one of the nine kinds, and each mask by itself.
 pub returns-then-kind-eq0 : goal.returns-then-kind-eq0
 returns-then-kind-eq0 c =
     let a = c.args in

@@ -8,7 +8,6 @@ use Rattle.actl.specs.inner.Check.{slot_fits}
 use Rattle.actl.proofs.Laws.Lists.{Passed, passed-more, passed-all, failed_one}
 use Rattle.formula_slots.proofs.slots_fit.Given as goal
 
--- `slots_fit` meets its contract: every slot so far fits.
 abbrev pub invariant-loop-k : goal.invariant-loop-k
 invariant-loop-k l = (l.k ≤ l.count) × Passed (λ i. slot_fits l.labels (slot_at l.formula i)) 0 l.k
 

@@ -4,7 +4,6 @@ use Rattle.actl.proofs.Laws.Checked.{odd_outside, all-within, shifted_within}
 use borrow.Author.Rules.{rules}
 use Rattle.formula_slots.proofs.within.Goals as goal
 
--- `within` meets its contract: an even mask with no bit above the labels.
 pub returns-then-set-ne0 : goal.returns-then-set-ne0
 returns-then-set-ne0 c =
     sym (odd_outside c.args.labels c.args.set c.if-set-ne0.true)

@@ -5,7 +5,6 @@ use native.Mathlib.Omega.{arith}
 use Rattle.lts.proofs.Laws.Names.{SoughtFrom, sought_starts, sought_found, sought_goes_on, sought_ends}
 use Rattle.label_names.proofs.find.Given as goal
 
--- `find` answers `lookup` over the slots: the invariant is `SoughtFrom`, the slots that are left.
 abbrev pub invariant-loop-k : goal.invariant-loop-k
 invariant-loop-k l = SoughtFrom l.slots l.count l.name l.k
 

@@ -6,7 +6,6 @@ use Rattle.lts.proofs.Laws.SlotNames.{table-lookup}
 use borrow.Author.Rules.{rules}
 use Rattle.label_names.proofs.find_label.Goals as goal
 
--- `find_label` meets its contract: the slots of names are a part of the table.
 pub returns : goal.returns
 returns c =
     let count = c.label_count-count in

@@ -2,7 +2,6 @@
 use borrow.Author.Tests.{le-leb, lt-leb}
 use Rattle.label_names.proofs.is_lower.Goals as goal
 
--- `is_lower` meets its contract.
 pub returns-then-b-ge97 : goal.returns-then-b-ge97
 returns-then-b-ge97 c =
     rw (le-leb _ _ c.if-b-ge97.true)

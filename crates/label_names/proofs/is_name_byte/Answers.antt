@@ -8,7 +8,6 @@ use borrow.Author.Tests.{eq-eqb, ne_eqb, le-leb, lt-leb}
 use Rattle.lts.specs.Names.{is_lower, is_name_byte}
 use Rattle.label_names.proofs.is_name_byte.Goals as goal
 
--- `is_name_byte` meets its contract.
 -- No letter: the rest decides, test by test.
 no-letter : (b : ℕ) (s d : Bool) → is_lower b ≡ false → eqb b 95 ≡ s → (leb 48 b && leb b 57) ≡ d → (s || d) ≡ is_name_byte b
 no-letter b s d l e f =

@@ -13,7 +13,6 @@ use Rattle.lts.proofs.Laws.Contents.{name_in_lem}
 use Rattle.lts.proofs.Laws.NameDirections.{whole_direction}
 use Rattle.label_names.proofs.label_direction.Goals as goal
 
--- `label_direction` reads the name in its slot.
 pub returns : goal.returns
 returns c =
     let b = c.args.table.now in

@@ -9,7 +9,6 @@ use Rattle.lts.specs.Sizes.{name_slot_length}
 use Rattle.lts.specs.inner.Prepared.{byte_at}
 use Rattle.label_names.proofs.name_span.Goals as goal
 
--- `name_span` meets its contract: the slot's first byte is the name's length.
 pub returns : goal.returns
 returns c =
     let a = c.args in

@@ -6,7 +6,6 @@ use Rattle.lts.proofs.Laws.NameDirections.{nothing_read, bare-read, mark-read}
 use Rattle.lts.proofs.Laws.NameRuns.{no-mark-at-end, no-mark-here}
 use Rattle.label_names.proofs.read_name.Goals as goal
 
--- `read_name` reads the stem, and the mark behind it.
 pub returns-then-end-from : goal.returns-then-end-from
 returns-then-end-from c =
     let a = c.args in

@@ -7,7 +7,6 @@ use Rattle.lts.specs.Sizes.{name_slot_length}
 use Rattle.lts.proofs.Laws.Names.{stored_differs, stored_part}
 use Rattle.label_names.proofs.same_name.Goals as goal
 
--- `same_name` answers `same_bytes`: names of two lengths differ, and of one length they are compared as two parts.
 pub returns-then-size-name : goal.returns-then-size-name
 returns-then-size-name c =
     stored_differs c.args.slots.now c.args.k c.args.name.now c.requires.0 c.requires.1

@@ -9,7 +9,6 @@ use Rattle.listing.specs.inner.Places.{edge_to}
 use Rattle.listing.proofs.Laws.Stores.{edge_in_place}
 use Rattle.listing.proofs.put_edge.Goals as goal
 
--- `put_edge` meets its contract: the row, the label and the target stand one behind the other.
 pub put_pair-requires-2 : goal.put_pair-requires-2
 put_pair-requires-2 c =
     simp length-set (omega (arith, c.put_pair.auto.out))

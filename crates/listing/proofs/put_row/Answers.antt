@@ -11,7 +11,6 @@ use Rattle.listing.specs.inner.Places.{put_row}
 use Rattle.listing.proofs.Laws.Stores.{three_stores}
 use Rattle.listing.proofs.put_row.Goals as goal
 
--- `put_row` meets its contract: three stores put the bytes of a row in their place.
 pub bounds-out-at-2 : goal.bounds-out-at-2
 bounds-out-at-2 c =
     simp length-set (omega arith)

@@ -4,7 +4,6 @@ use mathlib.Core.Bool.{true, false}
 use Rattle.listing_text.proofs.Laws.Lines.{line-stands, line-written}
 use Rattle.listing_text.proofs.write_line.Goals as goal
 
--- `write_line` meets its contract, by the kind of the line.
 pub row_numbers-requires : goal.row_numbers-requires
 row_numbers-requires c =
     line-stands c.args.of_rows true c.if-of_rows.true c.requires

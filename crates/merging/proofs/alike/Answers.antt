@@ -7,7 +7,6 @@ use Rattle.lts.proofs.Laws.Decides.{decided_no, decided_by}
 use Rattle.merging.proofs.Laws.Signatures.{marks-apart, marks_alike}
 use Rattle.merging.proofs.alike.Goals as goal
 
--- `alike` meets its contract, by the blocks, the marks and the targets.
 pub bounds-old-j : goal.bounds-old-j
 bounds-old-j c =
     let p = c.requires in

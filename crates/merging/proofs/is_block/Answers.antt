@@ -5,7 +5,6 @@ use native.Mathlib.Omega.{arith}
 use Rattle.lts.proofs.Laws.Decides.{decided_no, decided_by}
 use Rattle.merging.proofs.is_block.Goals as goal
 
--- `is_block` meets its contract, by the state's own new block and by what is alike.
 pub bounds-new-j : goal.bounds-new-j
 bounds-new-j c =
     let p = c.requires in

@@ -7,7 +7,6 @@ use Rattle.deterministic.specs.Sizes.{most_sets}
 use Rattle.merging.proofs.Laws.Rounds.{copied_more, copied_all}
 use Rattle.merging.proofs.of_states.Given as goal
 
--- `of_states` meets its contract: the blocks are copied one by one.
 abbrev pub invariant-loop-k : goal.invariant-loop-k
 invariant-loop-k l = (l.k ≤ most_sets) × (length l.blocks ≡ most_sets) × ((i : ℕ) → i < l.k → get_or l.blocks i 0 ≡ get_or l.names i 0)
 

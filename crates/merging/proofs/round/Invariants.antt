@@ -9,7 +9,6 @@ use Rattle.packed_steps.specs.inner.Packed.{Packed, Sized}
 use Rattle.merging.proofs.Laws.Rounds.{Going, going_start, going_more, going_done, first-is, ended-stays}
 use Rattle.merging.proofs.round.Given as goal
 
--- `round` meets its contract: state by state.
 abbrev pub invariant-loop-k : goal.invariant-loop-k
 invariant-loop-k l = (l.k ≤ l.n) × Ended l.n l.new × ((next : List ℕ) (columns : ℕ) → Sized next l.n columns → Packed next l.n columns l.work l.many → Going (array_table next l.marks l.n columns) l.old l.new l.k l.steady)
 

@@ -5,7 +5,6 @@ use mathlib.Core.Bool.{◌&&◌}
 use lib.Dec.{eqb}
 use Rattle.merging.proofs.still.Goals as goal
 
--- `still` meets its contract.
 pub returns-then-steady : goal.returns-then-steady
 returns-then-steady c =
     let a = c.args in

@@ -4,7 +4,6 @@ use native.Mathlib.Omega.{arith}
 use Rattle.numbering.proofs.Laws.Whole.{rows_fit, edges_fit, whole}
 use Rattle.numbering.proofs.write_found.Goals as goal
 
--- `write_found` meets its contract: the counts, the marks and the edges are the automaton's bytes.
 pub write_marks-requires : goal.write_marks-requires
 write_marks-requires c =
     let r = c.requires.found.stand in record { rows_len = (r.long, (r.few, omega (arith, r.few, c.requires.smallest_length_in_bounds, c.put_counts.auto.out))); by_index = λ i h. (rows_fit c.requires.fits c.requires.found i h).block }

@@ -4,7 +4,6 @@ use mathlib.Core.Path.{refl}
 use Rattle.packed_steps.proofs.Laws.Packing.{entry_is}
 use Rattle.packed_steps.proofs.entry_at.Goals as goal
 
--- `packing::entry_at` meets its contract: two bytes, the low one first.
 pub returns : goal.returns
 returns c =
     let x = c.part in

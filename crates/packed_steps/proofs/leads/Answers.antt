@@ -4,7 +4,6 @@ use mathlib.Core.Path.{sym, ◌∙◌}
 use mathlib.Core.Bool.{true≢false}
 use Rattle.packed_steps.proofs.leads.Goals as goal
 
--- `packing::leads` meets its contract.
 pub returns-then-before : goal.returns-then-before
 returns-then-before c =
     λ e. absurd (true≢false (sym c.if-before.true ∙ e))

@@ -5,7 +5,6 @@ use mathlib.Core.Bool.{cond}
 use Prim.Native.Nat.{◌+◌}
 use Rattle.packed_steps.proofs.one_more.Goals as goal
 
--- `packing::one_more` meets its contract.
 pub returns-then-some : goal.returns-then-some
 returns-then-some c =
     let a = c.args in

@@ -9,7 +9,6 @@ use Rattle.packed_steps.specs.inner.Packed.{Nowhere, ColumnTo, target_in}
 use Rattle.packed_steps.proofs.Laws.Packing.{column-start, column-more, column_done, target-read, nowhere-more}
 use Rattle.packed_steps.proofs.pack_column.Given as goal
 
--- `packing::pack_column` meets its contract: state by state.
 abbrev pub invariant-loop-k : goal.invariant-loop-k
 invariant-loop-k l = (l.k ≤ l.n) × ColumnTo l.next l.n l.c l.i l.k l.initial.work l.work × (l.some ≡ false → Nowhere l.next l.n l.c l.k)
 

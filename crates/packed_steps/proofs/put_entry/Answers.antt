@@ -5,7 +5,6 @@ use lib.ListN.{length-set}
 use Rattle.packed_steps.proofs.Laws.Packing.{entry_put}
 use Rattle.packed_steps.proofs.put_entry.Goals as goal
 
--- `packing::put_entry` meets its contract: two bytes are written.
 pub bounds-work-at-2 : goal.bounds-work-at-2
 bounds-work-at-2 c =
     simp length-set (omega arith)

@@ -4,7 +4,6 @@ use native.Mathlib.Omega.{arith}
 use Rattle.packed_steps.proofs.Laws.Packing.{target_is, target_none}
 use Rattle.packed_steps.proofs.target_in.Goals as goal
 
--- `packing::target_in` meets its contract, by whether the target is a state.
 pub returns-then-to-n : goal.returns-then-to-n
 returns-then-to-n c =
     let a = c.args in record { value = sym (target_is a.n a.to c.if-to-n.true); upper_bound = omega arith }

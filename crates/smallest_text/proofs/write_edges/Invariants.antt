@@ -10,7 +10,6 @@ use Rattle.smallest_text.specs.inner.Lines.{step_text}
 use Rattle.smallest_text.proofs.Laws.Lines.{AreBytes, step-wide, lines_start, line-room, line-more, lines-written}
 use Rattle.smallest_text.proofs.write_edges.Given as goal
 
--- `write_edges` meets its contract: one line more stands there each turn.
 abbrev pub invariant-loop-j : goal.invariant-loop-j
 invariant-loop-j l = Lines (step_text l.smallest l.first) 19 l.initial.out l.at l.out l.end l.j × (l.j ≤ l.edges)
 

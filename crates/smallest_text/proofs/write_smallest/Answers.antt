@@ -12,7 +12,6 @@ use Rattle.smallest_text.specs.inner.Lines.{state_text, step_text, lines_text}
 use Rattle.smallest_text.proofs.Laws.Held.{held-long, counts-held, text-held}
 use Rattle.smallest_text.proofs.write_smallest.Goals as goal
 
--- `write_smallest` meets its contract: the first line, the states and the edges stand one behind the other.
 pub pair_at-states-requires : goal.pair_at-states-requires
 pair_at-states-requires c =
     omega (arith, held-long c.requires.automaton_in.1)

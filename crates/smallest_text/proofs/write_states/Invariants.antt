@@ -11,7 +11,6 @@ use Rattle.smallest_text.specs.inner.Lines.{state_text}
 use Rattle.smallest_text.proofs.Laws.Lines.{AreBytes, state-wide, lines_start, line-room, line-more, lines-written}
 use Rattle.smallest_text.proofs.write_states.Given as goal
 
--- `write_states` meets its contract: one line more stands there each turn.
 abbrev pub invariant-loop-i : goal.invariant-loop-i
 invariant-loop-i l = Lines (state_text l.smallest) 13 l.initial.out l.at l.out l.end l.i × (l.i ≤ l.states)
 

@@ -6,7 +6,6 @@ use Rattle.tables.specs.inner.Access.{found_in}
 use Rattle.starts.specs.inner.Search.{earlier}
 use Rattle.start_list.proofs.first_of.Goals as goal
 
--- `first_of` meets its contract.
 pub returns-in-At : goal.returns-in-At
 returns-in-At c =
     sym (ap (λ f. earlier (found_in f) (some c.args.i)) c.in-At.is)

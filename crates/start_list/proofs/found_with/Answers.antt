@@ -8,7 +8,6 @@ use Rattle.tables.specs.inner.Access.{found_in}
 use Rattle.starts.specs.inner.Search.{earlier}
 use Rattle.start_list.proofs.found_with.Goals as goal
 
--- `found_with` meets its contract: a right entry leaves what was found.
 nothing-later : (o : Option ℕ) → o ≡ earlier o none
 nothing-later none = refl
 nothing-later (some i) = refl

@@ -6,7 +6,6 @@ use lib.Dec.{ltb}
 use borrow.Author.Tests.{le-leb, lt-leb}
 use Rattle.start_list.proofs.is_right.Goals as goal
 
--- `is_right` meets its contract.
 pub returns-then-least-s : goal.returns-then-least-s
 returns-then-least-s c =
     let a = c.args in

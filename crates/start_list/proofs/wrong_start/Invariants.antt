@@ -12,7 +12,6 @@ use Rattle.starts.specs.inner.Search.{earlier, least_after}
 use Rattle.starts.proofs.Beginnings.{wrong-next, least_next, wrong-begun}
 use Rattle.start_list.proofs.wrong_start.Given as goal
 
--- `wrong_start` meets its contract: what is wrong below i is found.
 abbrev pub invariant-loop-i : goal.invariant-loop-i
 invariant-loop-i l = (l.i ≤ l.end) × (found_in l.found ≡ wrong_start l.states (take l.i l.starts)) × (l.least ≡ least_after 0 (take l.i l.starts))
 

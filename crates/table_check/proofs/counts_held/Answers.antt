@@ -4,7 +4,6 @@ use borrow.Author.Rules.{rules}
 use Rattle.lts.proofs.Laws.Decides.{decided_yes, decided_no}
 use Rattle.table_check.proofs.counts_held.Goals as goal
 
--- `counts_held` meets its contract: each test is one of the ranges.
 pub returns-then-states-lt1 : goal.returns-then-states-lt1
 returns-then-states-lt1 c =
     decided_no (λ h. omega (arith, h.some_state, c.state_count-states.ensures.count, c.if-states-lt1.true))

@@ -15,7 +15,6 @@ use Rattle.lts.proofs.Laws.WellFormed.{well_formed-prepared}
 use Rattle.table_check.specs.inner.Filled.{NamesFilled}
 use Rattle.table_check.proofs.is_prepared.Goals as goal
 
--- `is_prepared` meets its contract: each test is a part of being well-formed, and well-formed bytes are the prepared ones.
 decided : (b : List ℕ) (P : Type 0) (r : Bool) → Decides P r → (P → is_some (prepared_table b) ≡ true) → (is_some (prepared_table b) ≡ true → P)
     → r ≡ is_some (prepared_table b)
 decided b P true d f g = sym (f (d.yes refl))

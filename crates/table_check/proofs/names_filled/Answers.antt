@@ -8,7 +8,6 @@ use mathlib.Core.Path.{ap}
 use mathlib.Core.Bool.{not}
 use Rattle.table_check.proofs.names_filled.Goals as goal
 
--- `names_filled` meets its contract: both tests are parts of it.
 pub returns-then-not-names_held : goal.returns-then-not-names_held
 returns-then-not-names_held c =
     unfilled c.args.table.now transitions_at _ c.names_held.ensures _ (ap not c.if-not-names_held.true)

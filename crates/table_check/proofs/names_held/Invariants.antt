@@ -11,7 +11,6 @@ use Rattle.lts.specs.inner.Check.{NameHeld, NewName}
 use Rattle.lts.proofs.Laws.Decides.{decided_yes, decided_no}
 use Rattle.table_check.proofs.names_held.Given as goal
 
--- `names_held` meets its contract: the slots below k hold names, each a new one.
 abbrev pub invariant-loop-k : goal.invariant-loop-k
 invariant-loop-k l = (l.k ≤ l.n) × (l.n ≡ labels (table_in l.table)) × ((j : ℕ) → j < l.k → NameHeld l.table j × NewName l.table j)
 

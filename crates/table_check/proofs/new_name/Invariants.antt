@@ -7,7 +7,6 @@ use Rattle.lts.specs.inner.Range.{Differ}
 use Rattle.lts.proofs.Laws.Decides.{decided_yes, decided_no}
 use Rattle.table_check.proofs.new_name.Given as goal
 
--- `new_name` meets its contract: the names before slot j are others than the one in slot k.
 abbrev pub invariant-loop-j : goal.invariant-loop-j
 invariant-loop-j l = (l.j ≤ l.k) × ((i : ℕ) → i < l.j → Differ (name_at l.table i) (name_at l.table l.k))
 

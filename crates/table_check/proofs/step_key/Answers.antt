@@ -5,7 +5,6 @@ use borrow.Author.Rules.{rules}
 use Rattle.table_check.specs.inner.Keys.{step_key}
 use Rattle.table_check.proofs.step_key.Goals as goal
 
--- `step_key` meets its contract: the key of three bytes has three bytes.
 pub returns : goal.returns
 returns c =
     let read = c.transition_at-here.ensures in

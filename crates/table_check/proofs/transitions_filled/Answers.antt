@@ -8,7 +8,6 @@ use mathlib.Core.Path.{ap}
 use mathlib.Core.Bool.{not}
 use Rattle.table_check.proofs.transitions_filled.Goals as goal
 
--- `transitions_filled` meets its contract, as `names_filled` does.
 pub returns-then-not-transitions_held : goal.returns-then-not-transitions_held
 returns-then-not-transitions_held c =
     unfilled c.args.table.now table_length _ c.transitions_held.ensures _ (ap not c.if-not-transitions_held.true)

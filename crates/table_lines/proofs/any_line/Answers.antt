@@ -7,7 +7,6 @@ use Rattle.columns.proofs.Laws.ColumnsRead.{column-lacking}
 use Rattle.table_lines.proofs.Laws.Numbers.{numbers-read}
 use Rattle.table_lines.proofs.any_line.Goals as goal
 
--- `any_line` says what line of a transition stands at a place, or that none does.
 pub returns-in_default : goal.returns-in_default
 returns-in_default c =
     let a = c.args in

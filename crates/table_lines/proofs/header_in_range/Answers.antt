@@ -8,7 +8,6 @@ use Rattle.table_lines.proofs.header_in_range.Goals as goal
 last-answers : (a b c d e : Bool) → a ≡ true → b ≡ true → c ≡ true → d ≡ true → e ≡ (a && b && c && d && e)
 last-answers a b c d e p q r s = rw (p, q, r, s)
 
--- `header_in_range` answers `header_in_range`.
 pub returns-then-c-lt1 : goal.returns-then-c-lt1
 returns-then-c-lt1 c =
     simp (lt-leb _ _ c.if-c-lt1.true)

@@ -8,7 +8,6 @@ use native.Mathlib.Omega.{arith}
 use Rattle.lts.proofs.Laws.Compare.{get_d_any}
 use Rattle.table_lines.proofs.stands.Goals as goal
 
--- `stands` tells whether a byte stands at a place; past the text none does.
 pub returns-then-text-at : goal.returns-then-text-at
 returns-then-text-at c =
     let past = get_or-eq_default c.args.text.now 256 {n = c.args.at} c.if-text-at.true in

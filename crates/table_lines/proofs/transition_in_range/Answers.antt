@@ -2,7 +2,6 @@
 use borrow.Author.Tests.{lt-ltb, le-ltb, le-leb, lt-leb}
 use Rattle.table_lines.proofs.transition_in_range.Goals as goal
 
--- `transition_in_range` answers `step_in_range`.
 pub returns-then-c-t : goal.returns-then-c-t
 returns-then-c-t c =
     simp (le-ltb _ _ c.if-c-t.true)

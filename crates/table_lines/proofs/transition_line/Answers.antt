@@ -5,7 +5,6 @@ use native.Mathlib.Omega.{arith}
 use Rattle.table_lines.proofs.Laws.Numbers.{numbers-read}
 use Rattle.table_lines.proofs.transition_line.Goals as goal
 
--- `transition_line` says what line of a transition stands at a place: three small numbers, or what `any_line` says.
 pub returns : goal.returns
 returns c =
     let a = c.args in

@@ -7,7 +7,6 @@ use Rattle.lts.specs.Idle.{idle_label}
 use Rattle.lts.specs.Steps.{silent}
 use Rattle.table_steps.proofs.is_silent.Goals as goal
 
--- `is_silent` meets its contract: labels 0 and 99 are.
 pub returns-then-label-eq0 : goal.returns-then-label-eq0
 unfolding silent
 returns-then-label-eq0 c =

@@ -13,7 +13,6 @@ use Rattle.lts.proofs.Laws.Contents.{transition_in}
 use Rattle.table_steps.proofs.Laws.StepArray.{PutSoFar, put-start, put-more, put_rest, put_done, codes-next, codes_over}
 use Rattle.table_steps.proofs.put_transitions.Given as goal
 
--- `put_transitions` meets its contract: what is left of the part is put behind what is there.
 abbrev pub invariant-loop-j : goal.invariant-loop-j
 invariant-loop-j l = (l.j ≤ l.b) × (l.p + (l.b - l.j) ≤ most_steps) × (length l.steps ≡ most_steps)
     × PutSoFar (map step_code (slice l.a l.b (table_in l.table).transitions)) l.at l.initial.steps (map step_code (slice l.j l.b (table_in l.table).transitions)) l.p l.steps

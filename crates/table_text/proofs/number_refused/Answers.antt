@@ -3,7 +3,6 @@ use mathlib.Core.Path.{sym, ap}
 use Rattle.table_text.specs.inner.Progress.{number_refused}
 use Rattle.table_text.proofs.number_refused.Goals as goal
 
--- `number_refused` answers `number_refused`.
 pub returns-then-laidout : goal.returns-then-laidout
 returns-then-laidout c =
     ap (λ b. number_refused b c.args.line) (sym c.if-laidout.true)

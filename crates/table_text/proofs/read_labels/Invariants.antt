@@ -13,7 +13,6 @@ use Rattle.table_text.specs.declared.Progress.{Progress}
 use Rattle.table_text.specs.inner.Progress.{NameReads, LabelProgress, LabelsRead}
 use Rattle.table_text.proofs.read_labels.Given as goal
 
--- `read_labels` reads every label: the invariant is `NamesSoFar`.
 abbrev pub invariant-loop-count : goal.invariant-loop-count
 invariant-loop-count l = NamesSoFar (header l.counts) l.text l.from l.names l.at l.count × (length l.names ≡ names_length)
 

@@ -1,4 +1,4 @@
--- `read_table_lem` answers `table_replied` and leaves `table_left`.
+-- `read_table` answers `table_replied` and leaves `table_left`.
 use borrow.Author.Rules.{rules}
 use Prim.Native.Nat.{ℕ}
 use mathlib.Core.Path.{◌≡◌, refl, sym, ◌∙◌, subst}

@@ -12,7 +12,6 @@ use Rattle.table_text.specs.declared.Progress.{Progress}
 use Rattle.table_text.specs.inner.Progress.{TransitionProgress, TransitionsRead}
 use Rattle.table_text.proofs.read_transitions.Given as goal
 
--- `read_transitions` reads every transition and the end of the text: the invariant is `TransitionsSoFar`.
 abbrev pub invariant-loop-count : goal.invariant-loop-count
 invariant-loop-count l = TransitionsSoFar l.counts l.text l.from l.slots l.at l.count
 

@@ -6,7 +6,6 @@ use Rattle.target_masks.specs.inner.Masks.{bit_if}
 use borrow.Author.Rules.{rules}
 use Rattle.target_masks.proofs.all_steps.Goals as goal
 
--- `all_steps` meets its contract, by whether the condition is met.
 pub returns-then-met : goal.returns-then-met
 returns-then-met c =
     let a = c.args in

@@ -5,7 +5,6 @@ use native.Mathlib.Omega.{arith}
 use Rattle.target_masks.proofs.Laws.Places.{idle_column, own-column}
 use Rattle.target_masks.proofs.column.Goals as goal
 
--- `column` meets its contract: a label that is not the idle step's is one of 40.
 pub returns-then-label-eq-IDLE : goal.returns-then-label-eq-IDLE
 returns-then-label-eq-IDLE c =
     (sym (idle_column c.args.label c.if-label-eq-IDLE.true), omega arith)

@@ -12,7 +12,6 @@ use Rattle.target_masks.proofs.Laws.Places.{place-few, place-shaped, finals_from
 use borrow.Author.Rules.{rules}
 use Rattle.target_masks.proofs.final_places.Given as goal
 
--- `final_places` meets its contract: the flags from place k on are right.
 abbrev pub invariant-loop-k : goal.invariant-loop-k
 invariant-loop-k l = (l.k ≤ get_or l.formula 0 0) × ((F : Formula) → Spells l.formula l.ends F → FinalsOf F l.k l.finals)
 

@@ -7,7 +7,6 @@ use Rattle.target_masks.specs.inner.Masks.{bit_if}
 use borrow.Author.Rules.{rules}
 use Rattle.target_masks.proofs.node_mask.Goals as goal
 
--- `node_mask` meets its contract, by the kind of the node.
 pub returns-in-Or : goal.returns-in-Or
 returns-in-Or c =
     rw c.in-Or.is

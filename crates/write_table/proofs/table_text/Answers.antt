@@ -12,7 +12,6 @@ use mathlib.Core.Path.{ap}
 use mathlib.Core.Bool.{not}
 use Rattle.write_table.proofs.table_text.Goals as goal
 
--- `table_text` meets its contract: 14 for each buffer, then 10, then the text.
 pub returns-then-table-lt-TABLE_LENGTH : goal.returns-then-table-lt-TABLE_LENGTH
 returns-then-table-lt-TABLE_LENGTH c =
     let a = c.args in let w = short-table a.table.now a.text.now (omega (arith, c.if-table-lt-TABLE_LENGTH.true)) in

@@ -6,7 +6,6 @@ use Rattle.lts.specs.inner.Prepared.{table_in}
 use Rattle.written_lines.proofs.Laws.Kept.{both-kept}
 use Rattle.written_lines.proofs.keep_numbers.Goals as goal
 
--- `keep_numbers` meets its contract: as many columns are kept as the larger of both counts asks for.
 pub returns-then-most-states : goal.returns-then-most-states
 returns-then-most-states c =
     let s = c.state_count-states in

@@ -5,7 +5,6 @@ use lib.ListN.{length}
 use Rattle.written_lines.proofs.Laws.Growing.{text-stands}
 use Rattle.written_lines.proofs.write_lines.Goals as goal
 
--- `write_lines` leaves the text at the start of the buffer: line 1, the labels' lines, the transitions'.
 pub write_header-requires : goal.write_header-requires
 write_header-requires c =
     let held = c.requires in (held.0, omega (arith, held.1))

@@ -11,7 +11,6 @@ use Rattle.written_lines.proofs.Laws.Kept.{from-kept, label_kept, to-kept}
 use Rattle.written_lines.proofs.Laws.Lines.{step-stands}
 use Rattle.written_lines.proofs.write_step.Goals as goal
 
--- `write_step` leaves a transition's line `pasted`: three columns and the LF.
 pub transition_at-step-requires : goal.transition_at-step-requires
 transition_at-step-requires c =
     let held = c.requires.holds_table in

@@ -4,7 +4,6 @@ use mathlib.Core.Path.{sym, ◌∙◌}
 use Rattle.block_numbers.proofs.Laws.Entered.{new_fits, added_old, rows-longer, rows_new}
 use Rattle.block_numbers.proofs.finding.enter.Goals as goal
 
--- `finding::enter` meets its contract, by what stands for the block.
 pub bounds-rows-count : goal.bounds-rows-count
 bounds-rows-count c =
     new_fits c.requires.rows c.args.block (sym c.wide-number.ensures ∙ c.if-number-eq0.true) c.requires.block_len_bound

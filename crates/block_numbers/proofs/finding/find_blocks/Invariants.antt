@@ -7,7 +7,6 @@ use Rattle.block_numbers.proofs.Laws.Entered.{within-few, within_none, within-ad
 use Rattle.block_numbers.proofs.Laws.Searching.{Searching, search-start, search_turn, search-rows, search-edges}
 use Rattle.block_numbers.proofs.finding.find_blocks.Given as goal
 
--- `finding::find_blocks` meets its contract: what is left of the rows leads to those found.
 abbrev pub invariant-loop-i : goal.invariant-loop-i
 invariant-loop-i l = Searching l.next l.blocks l.n l.columns l.i l.rows l.numbers l.totals.rows l.totals.edges
 

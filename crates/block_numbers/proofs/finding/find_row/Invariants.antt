@@ -11,7 +11,6 @@ use Rattle.block_numbers.specs.inner.Found.{Rows, Within, taken_from, count_from
 use Rattle.block_numbers.proofs.Laws.Entered.{rows-length, taken_turn, taken_over, count_turn, count_over, count-few}
 use Rattle.block_numbers.proofs.finding.find_row.Given as goal
 
--- `finding::find_row` meets its contract: what is left of the entries leads to the rows and the count at the end.
 abbrev pub invariant-loop-at : goal.invariant-loop-at
 invariant-loop-at l = (l.at ≤ l.end) × Rows l.rows l.numbers l.totals.rows × Within l.n (take l.totals.rows l.rows)
     × (taken_from l.next l.blocks l.n l.at (l.end - l.at) (take l.totals.rows l.rows) ≡ taken_from l.next l.blocks l.n l.initial.at (l.end - l.initial.at) (take l.initial.totals.rows l.initial.rows))

@@ -9,7 +9,6 @@ use Rattle.block_numbers.specs.inner.Found.{added, Within, goal}
 use Rattle.block_numbers.proofs.Laws.Entered.{within-few, within-added, count_none, count-one, taken_none, taken-one}
 use Rattle.block_numbers.proofs.finding.find_step.Goals as goal
 
--- `finding::find_step` meets its contract, by whether the entry leads to a state.
 pub returns-then-n-target : goal.returns-then-n-target
 returns-then-n-target c =
     let a = c.args in

@@ -7,7 +7,6 @@ use lib.ListN.{length, get_or}
 use Rattle.byte_words.proofs.Laws.Ends.{byte_differs, bytes_same}
 use Rattle.byte_words.proofs.same.same_bytes.Given as goal
 
--- `same_bytes` meets its contract: the bytes before place i are the same.
 abbrev pub invariant-loop-i : goal.invariant-loop-i
 invariant-loop-i l = (j : ℕ) → j < l.i → get_or l.a j 0 ≡ get_or l.b j 0
 

@@ -4,7 +4,6 @@ use borrow.Author.Rules.{rules}
 use Rattle.byte_words.proofs.Laws.Words.{eight-bytes}
 use Rattle.byte_words.proofs.words.word.Goals as goal
 
--- `word` meets its contract: eight bytes are two fours.
 pub returns : goal.returns
 returns c =
     let a = c.args in

@@ -9,7 +9,6 @@ use Rattle.columns.proofs.Laws.Kept.{six_bytes}
 use Rattle.columns.proofs.Laws.Small.{six_set}
 use Rattle.columns.proofs.kept.copy_column.Goals as goal
 
--- `copy_column` leaves the column of its number `pasted`: the six bytes that are kept of it.
 pub bounds-out-at-2 : goal.bounds-out-at-2
 bounds-out-at-2 c =
     simp length-set (omega arith)

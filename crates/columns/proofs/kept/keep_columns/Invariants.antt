@@ -6,7 +6,6 @@ use Rattle.columns.proofs.Laws.Kept.{KeptBelow, kept_more, kept-all}
 use Rattle.columns.proofs.Laws.Pasting.{pasting_none, pasting_length}
 use Rattle.columns.proofs.kept.keep_columns.Given as goal
 
--- `keep_columns` meets its contract: one column more is kept each turn.
 abbrev pub invariant-loop-n : goal.invariant-loop-n
 invariant-loop-n l = KeptBelow l.initial.kept l.n l.kept × (l.n ≤ l.count)
 

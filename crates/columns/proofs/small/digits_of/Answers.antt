@@ -3,7 +3,6 @@ use native.Mathlib.Omega.{arith}
 use Rattle.columns.proofs.Laws.SmallRead.{one_digit, two_digits, three_digits}
 use Rattle.columns.proofs.small.digits_of.Goals as goal
 
--- `digits_of` tells how many digits there are: one, two or three.
 pub returns-then-four-lt538980656 : goal.returns-then-four-lt538980656
 returns-then-four-lt538980656 c =
     one_digit c.args.four c.requires

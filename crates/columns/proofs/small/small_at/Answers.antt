@@ -5,7 +5,6 @@ use native.Mathlib.Omega.{arith}
 use Rattle.columns.proofs.Laws.SmallRead.{small-there}
 use Rattle.columns.proofs.small.small_at.Goals as goal
 
--- `small_at` answers the number whose column begins with two blanks and ends with the last four bytes.
 pub returns-then-first_two-ne8224 : goal.returns-then-first_two-ne8224
 returns-then-first_two-ne8224 c =
     λ few. absurd (omega arith)

@@ -4,7 +4,6 @@ use Prim.Native.Nat.{◌-◌, ◌/◌, ◌%◌}
 use native.Mathlib.Omega.{arith}
 use Rattle.columns.proofs.small.small_value.Goals as goal
 
--- `small_value` answers the number whose digits stand above the zeros.
 pub returns : goal.returns
 returns c =
     let found = c.digits_of-digits in

@@ -4,7 +4,6 @@ use mathlib.Core.Path.{sym}
 use borrow.Author.Tests.{eq-eqb, ne_eqb}
 use Rattle.columns.proofs.write.lead_byte.Goals as goal
 
--- `lead_byte` answers `lead`.
 pub returns-then-n-eq0 : goal.returns-then-n-eq0
 returns-then-n-eq0 c =
     sym (rw (eq-eqb c.args.n 0 c.if-n-eq0.true))

@@ -9,7 +9,6 @@ use Rattle.columns.specs.inner.Write.{pasted}
 use Rattle.columns.proofs.Laws.Copying.{Copying, copying_none, copying_more, copying_length, copied}
 use Rattle.columns.proofs.write.write_column.Given as goal
 
--- `write_column` leaves the column of its number `pasted`: the invariant is `Copying`, the bytes that are copied so far.
 abbrev pub invariant-loop-i : goal.invariant-loop-i
 invariant-loop-i l = Copying l.initial.out l.at l.bytes l.from l.out l.i
 

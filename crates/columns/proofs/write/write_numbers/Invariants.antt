@@ -12,7 +12,6 @@ use Rattle.columns.proofs.Laws.Pasting.{Pasting, pasting_none, pasting_more, pas
 use Rattle.columns.proofs.Laws.Pasted.{set-pasted}
 use Rattle.columns.proofs.write.write_numbers.Given as goal
 
--- `write_numbers` leaves the line of its numbers `pasted`: the invariant is that the columns of the first i are.
 abbrev pub invariant-loop-i : goal.invariant-loop-i
 invariant-loop-i l = Pasting l.initial.out l.at (columns (take l.i l.values)) l.out l.end × (l.i ≤ l.count) × (l.end ≤ l.at + 20 * l.i)
 

@@ -9,7 +9,6 @@ use Rattle.columns.specs.inner.Write.{pasted}
 use Rattle.columns.proofs.Laws.Small.{small-column, six_set}
 use Rattle.columns.proofs.write.write_small.Goals as goal
 
--- `write_small` leaves the column of its number `pasted`: two blanks, three figures, the last digit.
 pub bounds-out-at-2 : goal.bounds-out-at-2
 bounds-out-at-2 c =
     simp length-set (omega arith)

@@ -16,7 +16,6 @@ use Rattle.actl.specs.inner.Check.{is_prepared}
 use Rattle.formula_check.proofs.Laws.Inputs.{table-short, formula-short, table_foreign, formula_foreign, both-prepared}
 use Rattle.formula_check.proofs.inputs.check_inputs.Goals as goal
 
--- `check_inputs` meets its contract: 14 for each buffer, then 10 for the table and for the formula.
 abbrev next : Table → Formula → Reply (Unit {0})
 next t F = accepted tt
 

@@ -6,7 +6,6 @@ use Rattle.formula_cursor.specs.inner.CursorReplies.{MarkAnswer}
 use Rattle.formula_cursor.proofs.ReadingPlaces.{two-marks}
 use Rattle.formula_cursor.proofs.Cursor.keyword.Goals as goal
 
--- `keyword` takes two bytes, one after the other.
 pub returns-in_default : goal.returns-in_default
 returns-in_default c =
     let a = c.args in

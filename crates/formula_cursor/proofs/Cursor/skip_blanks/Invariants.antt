@@ -7,7 +7,6 @@ use Rattle.actl.specs.inner.Show.{gap}
 use Rattle.formula_cursor.proofs.ReadingPlaces.{no_gap, more-gap, skipped, none-at-end, other_byte}
 use Rattle.formula_cursor.proofs.Cursor.skip_blanks.Given as goal
 
--- `skip_blanks` passes blanks only, and stops at none.
 abbrev pub invariant-loop-i : goal.invariant-loop-i
 invariant-loop-i l = (l.initial.i ≤ l.i) × (l.i ≤ length l.text) × (drop l.initial.i l.text ≡ gap (l.i - l.initial.i) (drop l.i l.text))
 

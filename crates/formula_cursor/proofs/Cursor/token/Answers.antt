@@ -7,7 +7,6 @@ use Rattle.formula_cursor.specs.inner.CursorReplies.{MarkAnswer}
 use Rattle.formula_cursor.proofs.ReadingPlaces.{mark-skipped}
 use Rattle.formula_cursor.proofs.Cursor.token.Goals as goal
 
--- `token` takes a mark and the blanks behind it.
 pub returns-in_default : goal.returns-in_default
 returns-in_default c =
     let a = c.args in

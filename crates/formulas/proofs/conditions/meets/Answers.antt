@@ -5,7 +5,6 @@ use Rattle.actl.specs.Actions.{meets}
 use Rattle.formulas.specs.inner.Access.{cond_in}
 use Rattle.formulas.proofs.conditions.meets.Goals as goal
 
--- `meets` meets its contract, by the cases of a step condition.
 pub returns-in-Silent : goal.returns-in-Silent
 unfolding meets
 returns-in-Silent c =

@@ -6,7 +6,6 @@ use Rattle.formulas.specs.inner.Access.{cond_in}
 use borrow.Author.Rules.{rules}
 use Rattle.formulas.proofs.node.next_slot.Goals as goal
 
--- `next_slot` meets its contract, by the cases of a step condition.
 pub returns-in-Silent : goal.returns-in-Silent
 returns-in-Silent c =
     let kind = c.args.kind in

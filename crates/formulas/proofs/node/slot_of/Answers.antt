@@ -4,7 +4,6 @@ use Rattle.formulas.specs.inner.Access.{slot_of_node}
 use borrow.Author.Rules.{rules}
 use Rattle.formulas.proofs.node.slot_of.Goals as goal
 
--- `slot_of` gives each node the slot that it stands for.
 pub returns-in-True : goal.returns-in-True
 returns-in-True c =
     c.slot_with.ensures ∙ sym (ap slot_of_node c.in-True.is)

@@ -6,7 +6,6 @@ use native.Mathlib.Omega.{arith}
 use Rattle.block_numbers.proofs.Laws.Columns.{letter_last, letter_before}
 use Rattle.numbering.proofs.writing.letter.Goals as goal
 
--- `writing::letter` meets its contract, by whether the column is the last.
 pub returns-then-c-columns : goal.returns-then-c-columns
 returns-then-c-columns c =
     let a = c.args in

@@ -5,7 +5,6 @@ use lib.ListN.{length-set}
 use Rattle.listing.proofs.Laws.Stores.{three_stores}
 use Rattle.numbering.proofs.writing.put_step.Goals as goal
 
--- `writing::put_step` meets its contract: three stores put the three bytes in their place.
 pub bounds-out-at-2 : goal.bounds-out-at-2
 bounds-out-at-2 c =
     simp length-set (omega arith)

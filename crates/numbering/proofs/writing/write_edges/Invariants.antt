@@ -11,7 +11,6 @@ use Rattle.numbering.specs.inner.Written.{steps_in, edges_in, RowFits}
 use Rattle.numbering.proofs.Laws.Puts.{Left, left-start, left_as, part_room, left_after, left_done, edges_turn, edges_over}
 use Rattle.numbering.proofs.writing.write_edges.Given as goal
 
--- `writing::write_edges` meets its contract: what is left of the rows leads to the bytes at the end.
 abbrev pub invariant-loop-i : goal.invariant-loop-i
 invariant-loop-i l = (l.i ≤ l.count) × (length l.out ≡ length l.initial.out)
     × (let all = edges_in l.next l.blocks l.numbers l.n l.columns l.rows 0 l.count in

@@ -10,7 +10,6 @@ use Rattle.numbering.specs.inner.Written.{step_in, steps_in}
 use Rattle.numbering.proofs.Laws.Puts.{Left, left-start, left_as, part_room, left_after, left_done, steps_turn, steps_over}
 use Rattle.numbering.proofs.writing.write_row.Given as goal
 
--- `writing::write_row` meets its contract: what is left of the columns leads to the bytes at the end.
 abbrev pub invariant-loop-c : goal.invariant-loop-c
 invariant-loop-c l = (l.c ≤ l.columns) × (length l.out ≡ length l.initial.out)
     × (let all = steps_in l.next l.blocks l.numbers l.n l.columns l.row l.first 0 l.columns in

@@ -10,7 +10,6 @@ use Rattle.block_numbers.specs.inner.Found.{goal}
 use Rattle.numbering.proofs.Laws.Puts.{put-none, put_as, step-none, step-one}
 use Rattle.numbering.proofs.writing.write_step.Goals as goal
 
--- `writing::write_step` meets its contract, by whether the entry leads to a state.
 pub returns-then-n-target : goal.returns-then-n-target
 returns-then-n-target c =
     let a = c.args in

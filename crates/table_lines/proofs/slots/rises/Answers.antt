@@ -8,7 +8,6 @@ use Rattle.lts.specs.inner.Slots.{rises_after}
 use Rattle.tables.specs.inner.Access.{step_in}
 use Rattle.table_lines.proofs.slots.rises.Goals as goal
 
--- `rises` answers `rises_after`.
 pub returns-then-count-eq0 : goal.returns-then-count-eq0
 unfolding rises_after
 returns-then-count-eq0 c =

@@ -8,7 +8,6 @@ use lib.Seq.{paste, paste-zero, paste-suc, take-length}
 use native.Mathlib.Omega.{arith}
 use Rattle.table_lines.proofs.slots.write_at.Given as goal
 
--- `write_at` leaves `pasted`: the invariant is that the first i bytes are.
 abbrev pub invariant-loop-i : goal.invariant-loop-i
 invariant-loop-i l = (l.bytes ≡ paste l.initial.bytes l.at l.part l.i) × (l.i ≤ length l.part) × (length l.bytes ≡ length l.initial.bytes)
 

@@ -8,7 +8,6 @@ use Rattle.lts.specs.Sizes.{name_slot_length}
 use Rattle.lts.proofs.Laws.Pasted.{pasted-first}
 use Rattle.table_lines.proofs.slots.write_name.Goals as goal
 
--- `write_name` leaves a name with its length `pasted`.
 pub write_at-requires : goal.write_at-requires
 write_at-requires c =
     simp length-set (omega arith)

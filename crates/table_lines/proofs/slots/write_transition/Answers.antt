@@ -9,7 +9,6 @@ use native.Mathlib.Omega.{arith}
 use Rattle.lts.specs.Sizes.{transition_length}
 use Rattle.table_lines.proofs.slots.write_transition.Goals as goal
 
--- `write_transition` leaves the slot of its transition `pasted`.
 pub bounds-slots-i-2 : goal.bounds-slots-i-2
 bounds-slots-i-2 c =
     simp length-set (omega arith)

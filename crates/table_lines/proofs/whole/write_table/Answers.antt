@@ -8,7 +8,6 @@ use Rattle.lts.specs.inner.Slots.{head_bytes}
 use Rattle.table_lines.specs.inner.LineReplies.{header}
 use Rattle.table_lines.proofs.whole.write_table.Goals as goal
 
--- `whole::write_table` leaves the head, the names and the transitions, one behind the other.
 pub returns : goal.returns
 returns c =
     let a = c.args in

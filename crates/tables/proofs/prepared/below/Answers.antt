@@ -8,7 +8,6 @@ use borrow.Author.Tests.{le-ltb, eq-eqb, ne_eqb}
 use Rattle.lts.proofs.Booleans.{or-false}
 use Rattle.tables.proofs.prepared.below.Goals as goal
 
--- `below` meets its contract: the first of the three that differs decides.
 differs : (x y : ℕ) (z : Bool) → (x ≡ y → ⊥) → ltb x y ≡ (ltb x y || (eqb x y && z))
 differs x y z n = or-false (ltb x y) ∙ ap (λ (t : Bool). ltb x y || (t && z)) (sym (ne_eqb x y n))
 

@@ -2,7 +2,6 @@
 use borrow.Author.Rules.{rules}
 use Rattle.tables.proofs.prepared.transition_at.Goals as goal
 
--- `transition_at` meets its contract: the three bytes of the slot.
 pub returns : goal.returns
 returns c =
     let first = c.byte.ensures in

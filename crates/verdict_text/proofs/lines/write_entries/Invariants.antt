@@ -6,7 +6,6 @@ use Rattle.columns.proofs.Laws.Pasting.{pasting_length}
 use Rattle.verdict_text.proofs.Laws.Lines.{LinesBelow, lines_start, line-room, line-more, lines-written}
 use Rattle.verdict_text.proofs.lines.write_entries.Given as goal
 
--- `write_entries` meets its contract: one line more stands there each turn.
 abbrev pub invariant-loop-i : goal.invariant-loop-i
 invariant-loop-i l = LinesBelow l.starts l.answers l.initial.out l.at l.out l.end l.i × (l.i ≤ l.count)
 

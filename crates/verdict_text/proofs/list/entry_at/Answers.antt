@@ -5,7 +5,6 @@ use Prim.Native.Nat.{◌*◌}
 use Rattle.verdict_text.proofs.Laws.Entries.{value_or, entry_of-column}
 use Rattle.verdict_text.proofs.list.entry_at.Goals as goal
 
--- `entry_at` meets its contract: what the six columns hold.
 pub returns-in-Number : goal.returns-in-Number
 returns-in-Number c =
     let a = c.args in

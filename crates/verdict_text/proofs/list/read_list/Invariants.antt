@@ -9,7 +9,6 @@ use Rattle.verdict_text.specs.VerdictsText.{entries_in}
 use Rattle.verdict_text.proofs.Laws.Entries.{ReadBelow, read-on, read_all, read_stopped}
 use Rattle.verdict_text.proofs.list.read_list.Given as goal
 
--- `read_list` meets its contract: the entries below i stand in their places.
 abbrev pub invariant-loop-i : goal.invariant-loop-i
 invariant-loop-i l = ReadBelow l.list l.starts l.i
 

@@ -1,0 +1,21 @@
+-- `open` makes a `|` pending, and where it is an arm also a `)`, behind a `(`.
+use borrow.Author.Rules.{rules}
+use native.Mathlib.Omega.{arith}
+use lib.ListN.{length-set}
+use Rattle.formula_walk.proofs.Laws.Opening.{opened_arm, opened_left}
+use Rattle.formula_walk.proofs.open.Goals as goal
+
+pub bounds-pending-top-then-arm : goal.bounds-pending-top-then-arm
+bounds-pending-top-then-arm c =
+    omega (arith, c.requires.0.long, c.requires.0.within, length-set c.args.pending.now c.args.top 41)
+
+pub returns-then-arm : goal.returns-then-arm
+returns-then-arm c =
+    let a = c.args in
+    opened_arm a.arm a.pending.now a.top a.at a.out.now c.requires.0 c.if-arm.true c.put.ensures
+    c.place_at.result c.place_at.ensures
+
+pub returns : goal.returns
+returns c =
+    let a = c.args in
+    opened_left a.arm a.pending.now a.top a.at a.out.now c.requires.0 c.if-arm.false c.place_at-2.result c.place_at-2.ensures
