@@ -13,7 +13,7 @@ fn main() {
     let library = folder.join("libexplainer.a");
     println!("cargo::rerun-if-changed={}", library.display());
     if !library.is_file() {
-        println!("cargo::error=there is no {}", library.display());
+        println!("cargo::error=there is no {}; bin/build library makes it", library.display());
     }
     println!("cargo::rustc-link-search=native={}", folder.display());
     println!("cargo::rustc-link-lib=static=explainer");

@@ -1,5 +1,5 @@
--- The executable twin of `ReadBy` (../ByGrammar.antt): `reading-by-grammar` (proofs/Laws/ByGrammar.antt) makes `read_formula` its answer, and `read-text`
--- (proofs/Grammar.antt) that of a text of any length. `on_mentions` is `on_tree` (../Reading.antt), by `on-mentions` (proofs/Pieces.antt).
+-- The executable twin of `ReadBy` (../ByGrammar.antt): `reading_by_grammar` (proofs/Laws/ByGrammar.antt) makes `read_formula` its answer, and `read-text`
+-- (proofs/Grammar.antt) that of a text of any length. `on_mentions` is `on_tree` (../Reading.antt), by `on_mentions_lem` (proofs/Pieces.antt).
 use Rattle.std.specs.Prelude.{List, [], ℕ, ◌-◌, leb, length}
 use Rattle.actl.specs.Sizes.{longest_text}
 use Rattle.lts.specs.Reply.{Reply, refusal, unless}

@@ -1,4 +1,4 @@
--- The executable twins of `FewSets` (../Sets.antt) and `IsSmallest` (../Smallest.antt) for a listing: `refused-exactly` and `smallest-is` (proofs/Request.antt) say what
+-- The executable twins of `FewSets` (../Sets.antt) and `IsSmallest` (../Smallest.antt) for a listing: `refused_exactly` and `smallest-is` (proofs/Request.antt) say what
 -- they are, and by `unique` (proofs/Unique.antt) no other automaton is the smallest.
 use Rattle.std.specs.Prelude.{Bool, List}
 use Rattle.lts.specs.Steps.{Table}

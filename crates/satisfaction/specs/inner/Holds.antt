@@ -1,4 +1,4 @@
--- The executable twin of satisfaction (Satisfaction.antt): `holds-is-satisfaction` (proofs/Satisfaction.antt) makes `holds` equal to `Sat`.
+-- The executable twin of satisfaction (Satisfaction.antt): `holds-is_satisfaction` (proofs/Satisfaction.antt) makes `holds` equal to `Sat`.
 -- A test over the steps that leave each state; a path longer than the table has transitions need not be searched.
 use Rattle.std.specs.Prelude.{Bool, true, cond, not as negate, ◌&&◌, ◌||◌, ℕ, zero, suc, length}
 use Rattle.lts.specs.Lists.{any_of}
