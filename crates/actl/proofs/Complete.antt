@@ -143,7 +143,8 @@ quant_read universal k s = refl
 
 cond-read : (c : Condition) (q : Quantifier) (a b d : ℕ) (k : InTerm) (s : List ℕ) → run (show_c c (gap d (93 ∷ s))) (bracket_at q a k b) ≡ run s (term_at (t_modal (next q a b c d) k 0))
 cond-read dot q a b d k s = gaps (after_dot q a b k) (λ g. refl) d (93 ∷ s)
-cond-read (set x) q a b d k s = enter q a k b x (gap d (93 ∷ s)) ∙ (set-read x (s_next q a k b) (gap d (93 ∷ s)) (ends-gap d 93 s refl refl) ∙ gaps (after_set x (s_next q a k b)) (λ g. refl) d (93 ∷ s))
+cond-read (set x) q a b d k s = enter q a k b x (gap d (93 ∷ s)) ∙
+    (set-read x (s_next q a k b) (gap d (93 ∷ s)) (ends-gap d 93 s refl refl) ∙ gaps (after_set x (s_next q a k b)) (λ g. refl) d (93 ∷ s))
 
 label-read : (q : Quantifier) (k : InTerm) (s : List ℕ) → run (show_l q s) (term_at k) ≡ run s (after_labelled q k 0)
 label-read existential k s = refl
@@ -186,7 +187,8 @@ mutual
       ∙ (gaps (after_disjunction f k) (λ g. refl) a (124 ∷ gap b (show_a c s))
       ∙ (gaps (λ g. term_at (t_or f a k g)) (λ g. refl) b (show_a c s) ∙ conjunction-read c k (later f a b) s))
 
-  conjunction-read : (c : Conjunction) (k : InDisjunction) {i : InTerm} {v : Conjunction → Disjunction} → Starts k i v → (s : List ℕ) → run (show_a c s) (term_at i) ≡ run s (after_disjunction (v c) k 0)
+  conjunction-read : (c : Conjunction) (k : InDisjunction) {i : InTerm} {v : Conjunction → Disjunction} → Starts k i v → (s : List ℕ) →
+      run (show_a c s) (term_at i) ≡ run s (after_disjunction (v c) k 0)
   conjunction-read (term t) k first s = term-read t (t_first k) s
   conjunction-read (term t) k (later f a b) s = term-read t (t_or f a k b) s
   conjunction-read (and c a b t) k first s =

@@ -113,7 +113,8 @@ pub bytes-length : (f : Formula) → length (bytes_of_nodes f) ≡ size f * node
 bytes-length f = length_parts (λ g. slot_bytes (slot_of g)) node_slot_length (λ g. refl) (nodes f) ∙ ap (λ k. k * node_slot_length) (length-nodes f)
 
 pub bytes-or : (f g : Formula) → bytes_of_nodes (Formula.or f g) ≡ (slot_bytes (slot 3 0 0) ++ bytes_of_nodes f) ++ bytes_of_nodes g
-bytes-or f g = ap (λ l. slot_bytes (slot 3 0 0) ++ l) (bind_append (λ f. slot_bytes (slot_of f)) (nodes f) (nodes g)) ∙ sym (append_assoc (slot_bytes (slot 3 0 0)) (bytes_of_nodes f) (bytes_of_nodes g))
+bytes-or f g = ap (λ l. slot_bytes (slot 3 0 0) ++ l) (bind_append (λ f. slot_bytes (slot_of f)) (nodes f) (nodes g)) ∙ sym
+    (append_assoc (slot_bytes (slot 3 0 0)) (bytes_of_nodes f) (bytes_of_nodes g))
 
 -- ~(~f | ~g): the nodes of f stand between `~|~` and `~`.
 pub bytes-and : (f g : Formula) → bytes_of_nodes (Formula.not (Formula.or (Formula.not f) (Formula.not g))) ≡ (and_bytes ++ (bytes_of_nodes f ++ not_bytes)) ++ bytes_of_nodes g

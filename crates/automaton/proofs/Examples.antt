@@ -81,7 +81,8 @@ abbrev fork_whole : Listing
 fork_whole = record { rows = row 0 0 false ∷ row 1 1 false ∷ row 1 2 false ∷ row 2 1 true ∷ []; edges = edge 0 1 1 ∷ edge 0 1 2 ∷ edge 1 2 3 ∷ [] }
 
 fork_whole_lem : whole_listing fork a_then_b ≡ fork_whole
-unfolding positions_among search_among expand_among visits visit moves_upto_among moves_from_among moves_on_among moves_to_among number_of targets leads leads_of final final_of steps_from meets in_set silent
+unfolding positions_among search_among expand_among visits visit moves_upto_among moves_from_among moves_on_among moves_to_among number_of targets
+    leads leads_of final final_of steps_from meets in_set silent
 fork_whole_lem = refl
 
 fork_dropped : drop_dead_ends (row_finishes fork a_then_b) fork_whole ≡ record { rows = row 0 0 false ∷ row 1 1 false ∷ row 2 1 true ∷ []; edges = edge 0 1 1 ∷ edge 1 2 2 ∷ [] }

@@ -126,7 +126,8 @@ right-of_test l e = right l (read_table l.table) refl e
 
 starred_tested : every is_right starred ≡ true
 unfolding read_table_with read_labels_with read_transitions column digits_within read_formula find_from mask_of class_of highest_without_class holds within steps_from meets passes
-    in_set silent listing positions_among search_among expand_among visits visit moves_upto_among moves_from_among moves_on_among moves_to_among number_of can_finish targets leads leads_of final final_of
+    in_set silent listing positions_among search_among expand_among visits visit moves_upto_among moves_from_among moves_on_among moves_to_among
+    number_of can_finish targets leads leads_of final final_of
 starred_tested = refl
 
 -- Every starred line is right, from its texts.

@@ -52,7 +52,8 @@ module _ (table_text s table formula rows edges : List ℕ) (f : Disjunction) (s
       let x = and_then (read_table table_text) (λ t. and_then (read_unlimited t.names (expansion f)) (behind t)) in
       let h : Alike r x = alike_second (read_table table_text) (λ t. and_then (read_formula t.names s) (behind t)) (λ t. and_then (read_unlimited t.names (expansion f)) (behind t))
       (λ t. alike_then (read_formula t.names s) (read_unlimited t.names (expansion f)) (behind t) (read-as_expanded t.names s f short tree)) in
-      alike_unless (leb table_length (length table)) 14 table_length (unless (leb formula_length (length formula)) 14 formula_length r) (unless (leb formula_length (length formula)) 14 formula_length x)
+      alike_unless (leb table_length (length table)) 14 table_length (unless (leb formula_length (length formula)) 14 formula_length r)
+      (unless (leb formula_length (length formula)) 14 formula_length x)
       (alike_unless (leb formula_length (length formula)) 14 formula_length r x h)
 
   -- What `explain` accepts: the summary, the prepared bytes, the rows and the edges are functions of the explanation.

@@ -37,7 +37,8 @@ row_line i r = numbers_line (i ∷ r.place ∷ r.state ∷ bit_of r.final ∷ []
 module _ (L : Listing) (x y : List ℕ) where
   rows-printed : rows_text (rows_bytes L ++ x) (length L.rows) ≡ row_lines 0 L.rows
   rows-printed = lines_are (record { place = 0; state = 0; final = false }) row_lines (row_text (rows_bytes L ++ x)) row_line (λ k. refl) (λ k r l. refl) L.rows (λ i b.
-      let place : get_or (rows_bytes L ++ x) (i * row_length) 0 ≡ (row_at L i).place = ap (λ k. get_or (rows_bytes L ++ x) k 0) (sym (add-zero (i * row_length))) ∙ row-byte L x y i 0 b (omega arith) in
+      let place : get_or (rows_bytes L ++ x) (i * row_length) 0 ≡ (row_at L i).place =
+      ap (λ k. get_or (rows_bytes L ++ x) k 0) (sym (add-zero (i * row_length))) ∙ row-byte L x y i 0 b (omega arith) in
       λ k. numbers_line (i ∷ place k ∷ row-byte L x y i 1 b (omega arith) k ∷ row-byte L x y i 2 b (omega arith) k ∷ []))
 
   edges-printed : SmallEdges L → edges_text (edges_bytes L ++ y) (length L.edges) ≡ bind edge_line L.edges

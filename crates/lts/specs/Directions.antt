@@ -16,7 +16,7 @@ direction_of [] = neither
 direction_of (b ∷ []) = direction_of_mark b
 direction_of (b ∷ c ∷ l) = direction_of (c ∷ l)
 
--- Numbers tell directions apart (proofs/Laws/NameRuns.antt: `same-direction`).
+-- Numbers tell directions apart (proofs/Laws/NameRuns.antt: `same_direction_lem`).
 abbrev pub direction_code : Direction → ℕ
 direction_code neither = 0
 direction_code received = 1

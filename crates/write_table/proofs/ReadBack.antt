@@ -1,4 +1,4 @@
--- `read_table` of what `table_text` writes is the table: `reads-back`.
+-- `read_table` of what `table_text` writes is the table: `reads_back`.
 use mathlib.Core.Path.{◌≡◌, refl, ap, ◌∙◌}
 use mathlib.Core.Bool.{Bool, true, false}
 use mathlib.Core.List.{List}

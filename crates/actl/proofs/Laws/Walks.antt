@@ -112,7 +112,8 @@ module _ (K E C : List ℕ) (k : ℕ) (h : k < length K) where
         let c = other.behind in
         let m : middle ≡ k + 1 + size f = arm.behind in
         let behindLeft : drop middle K ≡ r = ap (λ x. drop x K) (m ∙ ap (λ x. k + 1 + x) (sym (length_kinds f))) ∙ drop_part (k + 1) K (kinds_of f) d in
-        let class : class_of_or (class_of_arm left) (class_of_arm right) ≡ class_of (or f g) = (λ i. class_of_or (class_of_arm (arm.as_arm_lem i)) (class_of_arm (other.as_arm_lem i))) ∙ class-of-or f g in
+        let class : class_of_or (class_of_arm left) (class_of_arm right) ≡ class_of (or f g) =
+        (λ i. class_of_or (class_of_arm (arm.as_arm_lem i)) (class_of_arm (other.as_arm_lem i))) ∙ class-of-or f g in
         let both : sets (sets E (k + 1) (ends_from (k + 1) f)) (k + 1 + size f) (ends_from (k + 1 + size f) g) ≡ sets E (k + 1) (ends_from (k + 1) f ++ ends_from (k + 1 + size f) g) =
         ap (λ x. sets (sets E (k + 1) (ends_from (k + 1) f)) (k + 1 + x) (ends_from (k + 1 + size f) g)) (sym (length-ends (k + 1) f))
         ∙ sets_append E (k + 1) (ends_from (k + 1) f) (ends_from (k + 1 + size f) g) in

@@ -1,5 +1,5 @@
--- The executable twins of a tree's names in text order: each comes with the text behind it. `names-pieces` (proofs/Pieces.antt) makes `names_f f []`
--- the names among f's pieces, `unknown-pieces` makes `first_unknown` their `unknown_from` (../Reading.antt). s is what stands behind the tree.
+-- The executable twins of a tree's names in text order: each comes with the text behind it. `names_pieces` (proofs/Pieces.antt) makes `names_f f []`
+-- the names among f's pieces, `unknown_pieces` makes `first_unknown` their `unknown_from` (../Reading.antt). s is what stands behind the tree.
 use Rattle.std.specs.Prelude.{List, [], ◌∷◌, ◌++◌, ℕ, ◌-◌, length}
 use Rattle.std.proofs.Math.Option.{Option, none}
 use Rattle.lts.specs.Names.{lookup}

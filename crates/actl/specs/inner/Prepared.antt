@@ -49,7 +49,8 @@ trees_in (s ∷ l) = push_on s (trees_in l)
 
 -- The same as `IsForm`, as a test.
 abbrev pub is_form : ℕ → List ℕ → Formula → Bool
-is_form n b F = same_bytes (take formula_length b) (formula_bytes F) && leb (size F) most_nodes && every (λ f. negate (eqb (class_of f) 0)) (nodes F) && every (λ f. slot_within n (slot_of f)) (nodes F)
+is_form n b F = same_bytes (take formula_length b) (formula_bytes F) && leb (size F) most_nodes && every (λ f. negate (eqb (class_of f) 0))
+    (nodes F) && every (λ f. slot_within n (slot_of f)) (nodes F)
 
 abbrev pub formed : ℕ → List ℕ → Option (List Formula) → Option Formula
 formed n b none = none

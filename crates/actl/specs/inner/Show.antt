@@ -1,4 +1,4 @@
--- The executable twin of `pieces_f` (../Grammar.antt): `show-pieces` (proofs/Pieces.antt) makes `show_f f []` the text of f's pieces. `showX x s` is
+-- The executable twin of `pieces_f` (../Grammar.antt): `show_pieces` (proofs/Pieces.antt) makes `show_f f []` the text of f's pieces. `showX x s` is
 -- x's text with s behind it.
 use Rattle.std.specs.Prelude.{List, ◌∷◌, ◌++◌, ℕ, zero, suc}
 use Rattle.actl.specs.Grammar.{Set, operand, union, Operand, name, any, received, sent, except, group, Condition, dot, set, Quantifier}

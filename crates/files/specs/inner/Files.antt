@@ -1,4 +1,4 @@
--- The executable twin of `explain_text` (explanations/specs/Printed.antt): `files-right` (proofs/Right.antt) makes `files_text` equal to it, for what is
+-- The executable twin of `explain_text` (explanations/specs/Printed.antt): `files_right` (proofs/Right.antt) makes `files_text` equal to it, for what is
 -- read of two files of any length.
 use Rattle.std.specs.Prelude.{◌≡◌, cond, List, ℕ, ◌-◌, ◌≤◌, min, eqb, take}
 use Rattle.explanations.specs.inner.Sizes.{kept_length}

@@ -10,7 +10,8 @@ use Rattle.formula_heads.proofs.labelled_form.Goals as goal
 pub letters-requires : goal.letters-requires
 letters-requires c =
     let a = c.args in
-    let k = subst (MarkAnswer a.text.now a.c.at 68) c.in-Past.is c.mark.ensures in record { holds_table = (c.requires.0.table, c.requires.0.short, omega (arith, k.within, k.next)); rest_value = (refl, refl) }
+    let k = subst (MarkAnswer a.text.now a.c.at 68) c.in-Past.is c.mark.ensures in
+    record { holds_table = (c.requires.0.table, c.requires.0.short, omega (arith, k.within, k.next)); rest_value = (refl, refl) }
 
 pub returns-in-Past : goal.returns-in-Past
 returns-in-Past c =
@@ -24,7 +25,8 @@ returns-in-Past c =
 pub letters-requires-in-Past-mark : goal.letters-requires-in-Past-mark
 letters-requires-in-Past-mark c =
     let a = c.args in
-    let k = subst (MarkAnswer a.text.now a.c.at 66) c.in-Past-mark.is c.mark-2.ensures in record { holds_table = (c.requires.0.table, c.requires.0.short, omega (arith, k.within, k.next)); rest_value = (refl, refl) }
+    let k = subst (MarkAnswer a.text.now a.c.at 66) c.in-Past-mark.is c.mark-2.ensures in
+    record { holds_table = (c.requires.0.table, c.requires.0.short, omega (arith, k.within, k.next)); rest_value = (refl, refl) }
 
 pub returns-in-Past-mark : goal.returns-in-Past-mark
 returns-in-Past-mark c =

@@ -15,12 +15,14 @@ overflow_shl-result c =
 
 pub returns-then-same_direction : goal.returns-then-same_direction
 returns-then-same_direction c =
-    let tested : c.same_direction.result ≡ same_direction (label_direction (names_in c.args.table.now) (suc c.args.k)) (direction_in c.args.wanted) = c.same_direction.ensures ∙ ap (λ d. same_direction d (direction_in c.args.wanted)) c.last_direction.ensures in
+    let tested : c.same_direction.result ≡ same_direction (label_direction (names_in c.args.table.now) (suc c.args.k)) (direction_in c.args.wanted) =
+    c.same_direction.ensures ∙ ap (λ d. same_direction d (direction_in c.args.wanted)) c.last_direction.ensures in
     let k = c.args.k in
     shifted_two k (omega (arith, c.requires.1, c.requires.0.in_range.few_labels)) ∙ ap (λ (t : Bool). cond t (2 ^ suc k) 0) (sym c.if-same_direction.true ∙ tested)
 
 pub returns-else-same_direction : goal.returns-else-same_direction
 returns-else-same_direction c =
-    let tested : c.same_direction.result ≡ same_direction (label_direction (names_in c.args.table.now) (suc c.args.k)) (direction_in c.args.wanted) = c.same_direction.ensures ∙ ap (λ d. same_direction d (direction_in c.args.wanted)) c.last_direction.ensures in
+    let tested : c.same_direction.result ≡ same_direction (label_direction (names_in c.args.table.now) (suc c.args.k)) (direction_in c.args.wanted) =
+    c.same_direction.ensures ∙ ap (λ d. same_direction d (direction_in c.args.wanted)) c.last_direction.ensures in
     let k = c.args.k in
     ap (λ (t : Bool). cond t (2 ^ suc k) 0) (sym c.if-same_direction.false ∙ tested)

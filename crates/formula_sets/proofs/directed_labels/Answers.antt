@@ -23,7 +23,8 @@ pub overflow_add-mask : goal.overflow_add-mask
 overflow_add-mask c =
     let directions : ℕ → Direction = label_direction (names_in c.args.table.now) in
     let wanted : Action = Action.directed (direction_in c.args.wanted) in
-    let mask-so-far : c.loop-k.mask + c.directed_bit-mask.result ≡ mask_of directions (suc c.loop-k.k) wanted = ap₂ ◌+◌ c.loop-k.invariant.1 c.directed_bit-mask.ensures ∙ mask-more directions c.loop-k.k wanted in
+    let mask-so-far : c.loop-k.mask + c.directed_bit-mask.result ≡ mask_of directions (suc c.loop-k.k) wanted =
+    ap₂ ◌+◌ c.loop-k.invariant.1 c.directed_bit-mask.ensures ∙ mask-more directions c.loop-k.k wanted in
     let count = c.label_count-count.ensures.count in
     let few = c.requires.in_range.few_labels in
     let small = mask-small (directions) (suc c.loop-k.k) (wanted) (omega (arith, count, c.loop-k-test.true, few)) in
@@ -33,7 +34,8 @@ pub loop-k-preserved : goal.loop-k-preserved
 loop-k-preserved c =
     let directions : ℕ → Direction = label_direction (names_in c.args.table.now) in
     let wanted : Action = Action.directed (direction_in c.args.wanted) in
-    let mask-so-far : c.loop-k.mask + c.directed_bit-mask.result ≡ mask_of directions (suc c.loop-k.k) wanted = ap₂ ◌+◌ c.loop-k.invariant.1 c.directed_bit-mask.ensures ∙ mask-more directions c.loop-k.k wanted in
+    let mask-so-far : c.loop-k.mask + c.directed_bit-mask.result ≡ mask_of directions (suc c.loop-k.k) wanted =
+    ap₂ ◌+◌ c.loop-k.invariant.1 c.directed_bit-mask.ensures ∙ mask-more directions c.loop-k.k wanted in
     let next : suc c.loop-k.k ≡ c.loop-k.k + 1 = omega arith in
     (omega (arith, c.loop-k-test.true), mask-so-far ∙ ap (λ n. mask_of (directions) n (wanted)) next)
 

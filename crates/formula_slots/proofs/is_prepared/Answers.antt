@@ -35,14 +35,16 @@ pub returns-then-not-slots_fit : goal.returns-then-not-slots_fit
 returns-then-not-slots_fit c =
     let n = c.args.labels in
     let b = c.args.formula.now in
-    let fails = sym c.slots_fit.ensures ∙ not-true c.slots_fit.result (ap not c.if-not-slots_fit.true) in let w = tested n b (slots_foreign n b (sym (ap (slots_fit n b) c.node_count-count.ensures) ∙ fails)) in
+    let fails = sym c.slots_fit.ensures ∙ not-true c.slots_fit.result (ap not c.if-not-slots_fit.true) in
+    let w = tested n b (slots_foreign n b (sym (ap (slots_fit n b) c.node_count-count.ensures) ∙ fails)) in
     record { value = w.0; decides = w.1 }
 
 pub returns-then-not-zeros_from : goal.returns-then-not-zeros_from
 returns-then-not-zeros_from c =
     let n = c.args.labels in
     let b = c.args.formula.now in
-    let fails = sym c.zeros_from.ensures ∙ not-true c.zeros_from.result (ap not c.if-not-zeros_from.true) in let w = tested n b (not_zeros n b (sym (ap (λ k. zeros_from b (1 + k * node_slot_length)) c.node_count-count.ensures) ∙ fails)) in
+    let fails = sym c.zeros_from.ensures ∙ not-true c.zeros_from.result (ap not c.if-not-zeros_from.true) in
+    let w = tested n b (not_zeros n b (sym (ap (λ k. zeros_from b (1 + k * node_slot_length)) c.node_count-count.ensures) ∙ fails)) in
     record { value = w.0; decides = w.1 }
 
 pub returns : goal.returns
@@ -52,7 +54,8 @@ returns c =
     let count = c.node_count-count.ensures in
     let few = c.if-count-gt-NODES.false in
     let slots = sym c.slots_fit.ensures ∙ not-false c.slots_fit.result (ap not c.if-not-slots_fit.false) in
-    let rest = sym c.zeros_from.ensures ∙ not-false c.zeros_from.result (ap not c.if-not-zeros_from.false) in let w = tested n b (decided n b c.if-formula-lt-FORMULA_LENGTH.false (λ i. (c.type_inv.formula i).fits) (omega arith)
+    let rest = sym c.zeros_from.ensures ∙ not-false c.zeros_from.result (ap not c.if-not-zeros_from.false) in
+    let w = tested n b (decided n b c.if-formula-lt-FORMULA_LENGTH.false (λ i. (c.type_inv.formula i).fits) (omega arith)
     (sym (ap (slots_fit n b) count) ∙ slots)
     (sym (ap (λ k. zeros_from b (1 + k * node_slot_length)) count) ∙ rest)
     c.spelled.result

@@ -33,7 +33,8 @@ returns-then-formula-lt-FORMULA_LENGTH c =
 pub returns-then-not-is_prepared : goal.returns-then-not-is_prepared
 returns-then-not-is_prepared c =
     let a = c.args in
-    let foreign = sym c.is_prepared.ensures ∙ c.if-not-is_prepared.true in let w = both (foreign_table a.table.now a.text.now a.formula.now c.if-table-lt-TABLE_LENGTH.false c.if-formula-lt-FORMULA_LENGTH.false foreign) in
+    let foreign = sym c.is_prepared.ensures ∙ c.if-not-is_prepared.true in
+    let w = both (foreign_table a.table.now a.text.now a.formula.now c.if-table-lt-TABLE_LENGTH.false c.if-formula-lt-FORMULA_LENGTH.false foreign) in
     record { result_value = w.0; formula_after = w.1.0; formula_by_grammar = w.1.1 }
 
 pub read_text_over-requires : goal.read_text_over-requires

@@ -19,14 +19,16 @@ pub answer-requires : goal.answer-requires
 answer-requires c =
     let nodes : List ℕ = c.read_text-x.new.nodes in
     let text-read : (r : Reading) → c.read_text-x.result ≡ r
-    → ReadingAnswer (names_in c.args.table.now) c.args.text.now (replicate formula_length 0) nodes r = λ r e. subst (ReadingAnswer (names_in c.args.table.now) c.args.text.now (replicate formula_length 0) nodes) e c.read_text-x.ensures in
+    → ReadingAnswer (names_in c.args.table.now) c.args.text.now (replicate formula_length 0) nodes r = λ r e.
+    subst (ReadingAnswer (names_in c.args.table.now) c.args.text.now (replicate formula_length 0) nodes) e c.read_text-x.ensures in
     ((text-read _ c.in-Whole.is).long, c.requires.1)
 
 pub returns-in-Refused : goal.returns-in-Refused
 returns-in-Refused c =
     let nodes : List ℕ = c.read_text-x.new.nodes in
     let text-read : (r : Reading) → c.read_text-x.result ≡ r
-    → ReadingAnswer (names_in c.args.table.now) c.args.text.now (replicate formula_length 0) nodes r = λ r e. subst (ReadingAnswer (names_in c.args.table.now) c.args.text.now (replicate formula_length 0) nodes) e c.read_text-x.ensures in
+    → ReadingAnswer (names_in c.args.table.now) c.args.text.now (replicate formula_length 0) nodes r = λ r e.
+    subst (ReadingAnswer (names_in c.args.table.now) c.args.text.now (replicate formula_length 0) nodes) e c.read_text-x.ensures in
     let a = c.args in
     refused-text (names_in a.table.now) a.text.now a.formula.now c.if-text-gt-LONGEST_TEXT.false _ (text-read _ c.in-Refused.is)
 
@@ -34,7 +36,8 @@ pub returns-in-Whole : goal.returns-in-Whole
 returns-in-Whole c =
     let nodes : List ℕ = c.read_text-x.new.nodes in
     let text-read : (r : Reading) → c.read_text-x.result ≡ r
-    → ReadingAnswer (names_in c.args.table.now) c.args.text.now (replicate formula_length 0) nodes r = λ r e. subst (ReadingAnswer (names_in c.args.table.now) c.args.text.now (replicate formula_length 0) nodes) e c.read_text-x.ensures in
+    → ReadingAnswer (names_in c.args.table.now) c.args.text.now (replicate formula_length 0) nodes r = λ r e.
+    subst (ReadingAnswer (names_in c.args.table.now) c.args.text.now (replicate formula_length 0) nodes) e c.read_text-x.ensures in
     let a = c.args in
     whole-text (names_in a.table.now) a.text.now a.formula.now c.if-text-gt-LONGEST_TEXT.false (text-read _ c.in-Whole.is)
     c.answer.ensures

@@ -35,7 +35,8 @@ node_at-node-requires c =
     let n : ℕ = labels (table_in table) in
     let most : c.node_count-count.result ≤ most_nodes = omega (arith, c.node_count-count.ensures, formula-few (n) (formula) c.requires.holds_formula) in
     let here : c.loop-k.k < get_or (formula) 0 0 = omega (arith, c.loop-k-test.true, c.node_count-count.ensures) in
-    let h = c.requires.holds_formula in record { formula_length_in_bounds = formula_long _ _ h; k_lt_most_nodes = omega (arith, most, c.loop-k-test.true); k_value = formula-shaped _ _ h c.loop-k.k (here) }
+    let h = c.requires.holds_formula in record
+    { formula_length_in_bounds = formula_long _ _ h; k_lt_most_nodes = omega (arith, most, c.loop-k-test.true); k_value = formula-shaped _ _ h c.loop-k.k (here) }
 
 pub slice_bounds-write_node-end : goal.slice_bounds-write_node-end
 slice_bounds-write_node-end c =

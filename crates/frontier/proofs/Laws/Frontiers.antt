@@ -130,7 +130,8 @@ module _ (s m : ℕ) (frontier : List ℕ) where
             ∙ (or-false (reached_at frontier v q) ∙ ap (λ b. reached_at frontier v q || b) (and_no (bit_at m q) ∙ ap (λ b. bit_at m q && b) (sym (ne_eqb v s e))))
 
 -- The states of one of the four masks, from v on.
-module _ (frontier : List ℕ) (s v k : ℕ) (few : v < 256) (from : s ≤ v) (past : (j : ℕ) → s ≤ j → j < v → has_state frontier j ≡ false) (h : FirstFrom (bit_at (marks_at frontier v)) (v % 64) 64 k) where
+module _ (frontier : List ℕ) (s v k : ℕ) (few : v < 256) (from : s ≤ v) (past : (j : ℕ) → s ≤ j → j < v → has_state frontier j ≡ false)
+    (h : FirstFrom (bit_at (marks_at frontier v)) (v % 64) 64 k) where
   same_word : (j : ℕ) → v / 64 * 64 ≤ j → j < v / 64 * 64 + 64 → has_state frontier j ≡ bit_at (marks_at frontier v) (j - v / 64 * 64)
   same_word j a b =
       let word : 256 + j / 64 ≡ 256 + v / 64 = omega arith in

@@ -19,7 +19,14 @@ shape_of-shape-requires c =
 
 pub label_nodes-requires : goal.label_nodes-requires
 label_nodes-requires c =
-    record { holds_table = c.requires.holds_table; steps_of = c.fill_steps.ensures; holds_formula = c.requires.holds_formula; arms_end = record { arms_end = λ F e k h. (c.shape_of-shape.ensures _ F e).ends k h }; flags_len = length-replicate node_positions false }
+    record {
+      holds_table = c.requires.holds_table;
+      steps_of = c.fill_steps.ensures;
+      holds_formula = c.requires.holds_formula;
+      arms_end =
+          record { arms_end = λ F e k h. (c.shape_of-shape.ensures _ F e).ends k h };
+      flags_len = length-replicate node_positions false;
+    }
 
 pub returns : goal.returns
 returns c =

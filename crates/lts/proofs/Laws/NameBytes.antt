@@ -43,7 +43,8 @@ at-most-more (suc n) [] b q e = case (or-true-of (is_last_mark marked b q) _ e)
 at-most-more zero (c ∷ p) b q e = absurd (true≢false (sym e ∙ not_last c p b q))
 at-most-more (suc n) (c ∷ p) b q e = case (at-most-more n p b q) (or-true-of (is_last_mark marked c (p ++ (b ∷ q))) _ e)
   where
-    case : (at_most marked n (p ++ (b ∷ q)) ≡ true → at_most marked n (p ++ (b ∷ [])) ≡ true) → (is_last_mark marked c (p ++ (b ∷ q)) ≡ true) ⊎ ((is_name_byte c && at_most marked n (p ++ (b ∷ q))) ≡ true)
+    case : (at_most marked n (p ++ (b ∷ q)) ≡ true → at_most marked n (p ++ (b ∷ [])) ≡ true) →
+        (is_last_mark marked c (p ++ (b ∷ q)) ≡ true) ⊎ ((is_name_byte c && at_most marked n (p ++ (b ∷ q))) ≡ true)
         → (is_last_mark marked c (p ++ (b ∷ [])) || (is_name_byte c && at_most marked n (p ++ (b ∷ [])))) ≡ true
     case again (inl d) = absurd (true≢false (sym d ∙ not_last c p b q))
     case again (inr d) =

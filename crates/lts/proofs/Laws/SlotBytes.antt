@@ -71,7 +71,8 @@ name-written names name k c h e s =
 
 stored_slot : (b : List ℕ) (j : ℕ) (name z : List ℕ) → drop (j * name_slot_length) b ≡ name_slot name ++ z → stored_name b j ≡ name
 stored_slot b j name z e =
-    let size : get_or b (j * name_slot_length) 0 ≡ length name = ap (λ p. get_or b p 0) (sym (add-zero (j * name_slot_length))) ∙ sym (get_or-drop (j * name_slot_length) b 0 0) ∙ ap (λ l. get_or l 0 0) e in
+    let size : get_or b (j * name_slot_length) 0 ≡ length name =
+    ap (λ p. get_or b p 0) (sym (add-zero (j * name_slot_length))) ∙ sym (get_or-drop (j * name_slot_length) b 0 0) ∙ ap (λ l. get_or l 0 0) e in
     let rest : drop (j * name_slot_length + 1) b ≡ (name ++ replicate (16 - length (counted name)) 0) ++ z = sym (drop-drop 1 (j * name_slot_length) b) ∙ ap (drop 1) e in
     ap₂ take size (rest ∙ append_assoc name (replicate (16 - length (counted name)) 0) z) ∙ take_at name (replicate (16 - length (counted name)) 0 ++ z) (length name) refl
 
@@ -114,7 +115,8 @@ step-written steps st k c h =
 
 stored_step_lem : (b : List ℕ) (j : ℕ) (x : Step) (z : List ℕ) → drop (j * transition_length) b ≡ transition_slot x ++ z → stored_step b j ≡ x
 stored_step_lem b j x z e =
-    let from : get_or b (j * transition_length) 0 ≡ x.from = ap (λ p. get_or b p 0) (sym (add-zero (j * transition_length))) ∙ sym (get_or-drop (j * transition_length) b 0 0) ∙ ap (λ l. get_or l 0 0) e in
+    let from : get_or b (j * transition_length) 0 ≡ x.from =
+    ap (λ p. get_or b p 0) (sym (add-zero (j * transition_length))) ∙ sym (get_or-drop (j * transition_length) b 0 0) ∙ ap (λ l. get_or l 0 0) e in
     let label : get_or b (j * transition_length + 1) 0 ≡ x.label = sym (get_or-drop (j * transition_length) b 1 0) ∙ ap (λ l. get_or l 1 0) e in
     let to : get_or b (j * transition_length + 2) 0 ≡ x.to = sym (get_or-drop (j * transition_length) b 2 0) ∙ ap (λ l. get_or l 2 0) e in
     λ i. record { from = from i; label = label i; to = to i }

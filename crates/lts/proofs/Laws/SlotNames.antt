@@ -93,7 +93,14 @@ module _ (b : List ℕ) (long : table_length ≤ length b) where
         case false e =
             let h = leb-false (size k few) longest_name e in
             same-of_unequal (stored_name slots k) name
-            (λ z. omega (arith, first, ap length z, length-take (get_or slots (k * name_slot_length) 0) (drop (k * name_slot_length + 1) slots), length-drop (k * name_slot_length + 1) slots, slots_length_lem))
+            (λ z. omega (
+              arith,
+              first,
+              ap length z,
+              length-take (get_or slots (k * name_slot_length) 0) (drop (k * name_slot_length + 1) slots),
+              length-drop (k * name_slot_length + 1) slots,
+              slots_length_lem,
+            ))
             ∙ sym (same-of_unequal (name_at b k) name (λ z. omega (arith, ap length z, length-take (size k few) (drop (at k few) b), length-drop (at k few) b)))
 
     found_stored : (j i n : ℕ) → i + n ≤ 40 → find_from j (map (stored_name slots) (up_from i n)) name ≡ find_from j (map (name_at b) (up_from i n)) name

@@ -116,7 +116,8 @@ module _ (b : List ℕ) (w : WellFormed b) where
     transition_slots-are =
         let n : ℕ = byte_at b 3 + byte_at b 4 * 256 in
         let count : length (table_in b).transitions ≡ n = transitions_in b in
-        filled (λ k. transition_slot (transition_at b k)) 3 n transitions_length (drop transitions_at b) (omega (arith, w.counts.few_transitions)) (omega (arith, length-drop transitions_at b, w.long))
+        filled (λ k. transition_slot (transition_at b k)) 3 n transitions_length (drop transitions_at b) (omega (arith, w.counts.few_transitions))
+        (omega (arith, length-drop transitions_at b, w.long))
         (λ k h. transition_slot-is k (omega arith)) (λ i h l. get_or-drop transitions_at b i 0 ∙ w.past_transitions (transitions_at + i) (omega arith) (omega arith))
         ∙ ap (λ (l : List ℕ). l ++ replicate (transitions_length - length l) 0) (sym (bind-map transition_slot (transition_at b) (up_from 0 n)))
 

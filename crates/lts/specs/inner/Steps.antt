@@ -1,4 +1,4 @@
--- The executable twin of `IsStep` (../Steps.antt): `steps-are` (proofs/StepsFrom.antt) says that `steps_from` lists exactly the steps. And labels.
+-- The executable twin of `IsStep` (../Steps.antt): `steps_are` (proofs/StepsFrom.antt) says that `steps_from` lists exactly the steps. And labels.
 use Rattle.std.specs.Prelude.{◌≡◌, ◌⊎◌, Bool, List, [], ◌∷◌, ◌++◌, ℕ, suc, ◌≤◌, eqb}
 use Rattle.lts.specs.Sizes.{most_labels}
 use Rattle.lts.specs.inner.Lists.{up_from, keep, or_else}

@@ -10,7 +10,8 @@ use Rattle.merging.proofs.Laws.Rounds.{Going, going_start, going_more, going_don
 use Rattle.merging.proofs.round.Given as goal
 
 abbrev pub invariant-loop-k : goal.invariant-loop-k
-invariant-loop-k l = (l.k ≤ l.n) × Ended l.n l.new × ((next : List ℕ) (columns : ℕ) → Sized next l.n columns → Packed next l.n columns l.work l.many → Going (array_table next l.marks l.n columns) l.old l.new l.k l.steady)
+invariant-loop-k l = (l.k ≤ l.n) × Ended l.n l.new ×
+    ((next : List ℕ) (columns : ℕ) → Sized next l.n columns → Packed next l.n columns l.work l.many → Going (array_table next l.marks l.n columns) l.old l.new l.k l.steady)
 
 abbrev pub decreases-loop-k : goal.decreases-loop-k
 decreases-loop-k l = l.n - l.k

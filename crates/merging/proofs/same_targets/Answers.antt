@@ -16,14 +16,22 @@ block_at-requires c =
     let p = c.requires in
     let r = p.1.0 in
     let l = c.loop-i.i in
-    let h = c.loop-i-test.true in record { k_in_bounds = omega (arith, r.few, r.few_columns, r.long, p.1.1.0); i_lt_most_letters = (omega (arith, r.few_columns), (omega (arith, r.few, p.1.1.0), r.small l _ h p.1.1.0)) }
+    let h = c.loop-i-test.true in record {
+      k_in_bounds = omega (arith, r.few, r.few_columns, r.long, p.1.1.0);
+      i_lt_most_letters =
+          (omega (arith, r.few_columns), (omega (arith, r.few, p.1.1.0), r.small l _ h p.1.1.0));
+    }
 
 pub block_at-requires-in-loop-i : goal.block_at-requires-in-loop-i
 block_at-requires-in-loop-i c =
     let p = c.requires in
     let r = p.1.0 in
     let l = c.loop-i.i in
-    let h = c.loop-i-test.true in record { k_in_bounds = omega (arith, r.few, r.few_columns, r.long, p.1.1.1); i_lt_most_letters = (omega (arith, r.few_columns), (omega (arith, r.few, p.1.1.1), r.small l _ h p.1.1.1)) }
+    let h = c.loop-i-test.true in record {
+      k_in_bounds = omega (arith, r.few, r.few_columns, r.long, p.1.1.1);
+      i_lt_most_letters =
+          (omega (arith, r.few_columns), (omega (arith, r.few, p.1.1.1), r.small l _ h p.1.1.1));
+    }
 
 pub returns-then-block_at : goal.returns-then-block_at
 returns-then-block_at c =

@@ -41,7 +41,8 @@ round-requires c =
     let packed : Packed c.requires.by_index.0 c.args.n c.requires.by_index.1 c.args.work.now c.args.many = c.requires.by_index.2.1 in
     let ready : (names : List ℕ) → Ended c.args.n names → Ready c.args.work.now c.args.n c.args.many names = λ names e. let a = c.args in
     packed_ready c.requires.by_index.0 a.n c.requires.by_index.1 a.work.now a.many sized packed names c.requires.work_length_in_bounds e in
-    let named : (names : List ℕ) (r : ℕ) → Behind c.args.work.now c.args.marks.now c.args.n c.args.many names r → Named c.args.n names = λ names r f. refined-named t names r (f c.requires.by_index.0 c.requires.by_index.1 sized packed) in
+    let named : (names : List ℕ) (r : ℕ) → Behind c.args.work.now c.args.marks.now c.args.n c.args.many names r → Named c.args.n names = λ names r f.
+    refined-named t names r (f c.requires.by_index.0 c.requires.by_index.1 sized packed) in
     let l = c.loop-r in
     (ready l.here l.invariant.1, (named l.here l.r l.invariant.3, l.invariant.2))
 
@@ -63,9 +64,11 @@ round-requires-in-loop-r c =
     let packed : Packed c.requires.by_index.0 c.args.n c.requires.by_index.1 c.args.work.now c.args.many = c.requires.by_index.2.1 in
     let ready : (names : List ℕ) → Ended c.args.n names → Ready c.args.work.now c.args.n c.args.many names = λ names e. let a = c.args in
     packed_ready c.requires.by_index.0 a.n c.requires.by_index.1 a.work.now a.many sized packed names c.requires.work_length_in_bounds e in
-    let named : (names : List ℕ) (r : ℕ) → Behind c.args.work.now c.args.marks.now c.args.n c.args.many names r → Named c.args.n names = λ names r f. refined-named t names r (f c.requires.by_index.0 c.requires.by_index.1 sized packed) in
+    let named : (names : List ℕ) (r : ℕ) → Behind c.args.work.now c.args.marks.now c.args.n c.args.many names r → Named c.args.n names = λ names r f.
+    refined-named t names r (f c.requires.by_index.0 c.requires.by_index.1 sized packed) in
     let there : List ℕ = c.round.new.new in
-    let one_more : Behind c.args.work.now c.args.marks.now c.args.n c.args.many there (c.loop-r.r + 1) = λ next columns s p. refined-more (array_table next c.args.marks.now c.args.n columns) c.loop-r.here there c.loop-r.r (c.loop-r.invariant.3 next columns s p)
+    let one_more : Behind c.args.work.now c.args.marks.now c.args.n c.args.many there (c.loop-r.r + 1) = λ next columns s p.
+    refined-more (array_table next c.args.marks.now c.args.n columns) c.loop-r.here there c.loop-r.r (c.loop-r.invariant.3 next columns s p)
     (c.round.ensures.by_index next columns s p).made in
     let l = c.loop-r in
     (ready (there) c.round.ensures.ended, (named (there) (l.r + 1) (one_more), l.invariant.1))
@@ -73,7 +76,8 @@ round-requires-in-loop-r c =
 pub returns-then-round-2 : goal.returns-then-round-2
 returns-then-round-2 c =
     let there : List ℕ = c.round.new.new in
-    let one_more : Behind c.args.work.now c.args.marks.now c.args.n c.args.many there (c.loop-r.r + 1) = λ next columns s p. refined-more (array_table next c.args.marks.now c.args.n columns) c.loop-r.here there c.loop-r.r (c.loop-r.invariant.3 next columns s p)
+    let one_more : Behind c.args.work.now c.args.marks.now c.args.n c.args.many there (c.loop-r.r + 1) = λ next columns s p.
+    refined-more (array_table next c.args.marks.now c.args.n columns) c.loop-r.here there c.loop-r.r (c.loop-r.invariant.3 next columns s p)
     (c.round.ensures.by_index next columns s p).made in
     let l = c.loop-r in
     let a = c.args in
@@ -87,7 +91,8 @@ returns-then-round-2 c =
 pub loop-r-preserved : goal.loop-r-preserved
 loop-r-preserved c =
     let there : List ℕ = c.round.new.new in
-    let one_more : Behind c.args.work.now c.args.marks.now c.args.n c.args.many there (c.loop-r.r + 1) = λ next columns s p. refined-more (array_table next c.args.marks.now c.args.n columns) c.loop-r.here there c.loop-r.r (c.loop-r.invariant.3 next columns s p)
+    let one_more : Behind c.args.work.now c.args.marks.now c.args.n c.args.many there (c.loop-r.r + 1) = λ next columns s p.
+    refined-more (array_table next c.args.marks.now c.args.n columns) c.loop-r.here there c.loop-r.r (c.loop-r.invariant.3 next columns s p)
     (c.round.ensures.by_index next columns s p).made in
     let l = c.loop-r in
     let a = c.args in
@@ -104,4 +109,8 @@ loop-r-preserved c =
 pub returns : goal.returns
 returns c =
     let l = c.loop-r in
-    let a = c.args in record { by_index_2 = λ next columns s p. merged_late (array_table next a.marks.now a.n columns) l.here l.r (l.invariant.3 next columns s p) c.loop-r-test.false; result_len = l.invariant.1.whole }
+    let a = c.args in record {
+      by_index_2 = λ next columns s p.
+          merged_late (array_table next a.marks.now a.n columns) l.here l.r (l.invariant.3 next columns s p) c.loop-r-test.false;
+      result_len = l.invariant.1.whole;
+    }

@@ -5,4 +5,8 @@ use Rattle.numbering.proofs.write_numbered.Goals as goal
 
 pub find_blocks-found-requires : goal.find_blocks-found-requires
 find_blocks-found-requires c =
-    let long = c.lengths.ensures in record { fits = record { all_next = long.0; all_blocks = long.1; states = c.requires.n_nonzero; letters = c.requires.le_columns; inside = c.requires.by_index }; rows = rows_none }
+    let long = c.lengths.ensures in record {
+      fits =
+          record { all_next = long.0; all_blocks = long.1; states = c.requires.n_nonzero; letters = c.requires.le_columns; inside = c.requires.by_index };
+      rows = rows_none;
+    }

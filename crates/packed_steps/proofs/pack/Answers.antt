@@ -45,4 +45,5 @@ pub returns : goal.returns
 returns c =
     let l = c.loop-c in
     let a = c.args in
-    let e : l.c ≡ a.columns = omega (arith, l.invariant.0) in record { packed = subst (λ (m : ℕ). Packed a.next.now a.n m l.work l.many) e l.invariant.1; work_len_unchanged = (l.invariant.2, l.invariant.3) }
+    let e : l.c ≡ a.columns = omega (arith, l.invariant.0) in
+    record { packed = subst (λ (m : ℕ). Packed a.next.now a.n m l.work l.many) e l.invariant.1; work_len_unchanged = (l.invariant.2, l.invariant.3) }

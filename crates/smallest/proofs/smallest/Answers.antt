@@ -35,5 +35,6 @@ clear-requires c =
 
 pub returns : goal.returns
 returns c =
-    let w = answered _ _ _ _ _ _ c.if-table-lt-TABLE_LENGTH.false c.if-formula-lt-FORMULA_LENGTH.false c.if-out-lt-SMALLEST_LENGTH.false c.if-work-lt-WORK_LENGTH.false c.answer-reply.ensures c.clear.ensures in
+    let w = answered _ _ _ _ _ _ c.if-table-lt-TABLE_LENGTH.false c.if-formula-lt-FORMULA_LENGTH.false c.if-out-lt-SMALLEST_LENGTH.false
+    c.if-work-lt-WORK_LENGTH.false c.answer-reply.ensures c.clear.ensures in
     record { result_value = w.0; rows_after = w.1.0; edges_after = w.1.1.0; out_after = w.1.1.1.0; work_after = w.1.1.1.1.0; from_prepared = w.1.1.1.1.1.0; smallest_answered = w.1.1.1.1.1.1 }

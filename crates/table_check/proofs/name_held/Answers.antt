@@ -19,7 +19,8 @@ returns-then-end-at c =
     let size : ℕ = byte_at table (head_length + c.args.k * name_slot_length) in
     let slot-ends : c.name_span-span.result.to ≡ place + size = let slot = c.name_span-span.ensures in slot.ends ∙ ap (λ n. n + size) slot.starts in
     let name-ends : c.read_name-name.result.end ≡ name_end table place = c.read_name-name.ensures.0 ∙ ap (name_end table) c.name_span-span.ensures.starts in
-    let held-to-end : NameHeld table c.args.k → c.read_name-name.result.end ≡ c.name_span-span.result.to = λ h. name-ends ∙ held-end table c.requires.0 c.args.k c.requires.1 c.name_span-span.ensures.short h ∙ sym slot-ends in
+    let held-to-end : NameHeld table c.args.k → c.read_name-name.result.end ≡ c.name_span-span.result.to = λ h.
+    name-ends ∙ held-end table c.requires.0 c.args.k c.requires.1 c.name_span-span.ensures.short h ∙ sym slot-ends in
     let slot = c.name_span-span.ensures in
     decided_no (λ h. omega (
       arith,
@@ -36,7 +37,8 @@ returns-then-end-span c =
     let size : ℕ = byte_at table (head_length + c.args.k * name_slot_length) in
     let slot-ends : c.name_span-span.result.to ≡ place + size = let slot = c.name_span-span.ensures in slot.ends ∙ ap (λ n. n + size) slot.starts in
     let name-ends : c.read_name-name.result.end ≡ name_end table place = c.read_name-name.ensures.0 ∙ ap (name_end table) c.name_span-span.ensures.starts in
-    let held-to-end : NameHeld table c.args.k → c.read_name-name.result.end ≡ c.name_span-span.result.to = λ h. name-ends ∙ held-end table c.requires.0 c.args.k c.requires.1 c.name_span-span.ensures.short h ∙ sym slot-ends in
+    let held-to-end : NameHeld table c.args.k → c.read_name-name.result.end ≡ c.name_span-span.result.to = λ h.
+    name-ends ∙ held-end table c.requires.0 c.args.k c.requires.1 c.name_span-span.ensures.short h ∙ sym slot-ends in
     decided_no (λ h. c.if-end-span.true (held-to-end h))
 
 pub returns : goal.returns

@@ -14,7 +14,8 @@ pub same_slot-requires : goal.same_slot-requires
 same_slot-requires c =
     let few = c.requires.1.0 in
     let held = c.requires.1.1 in
-    let earlier = c.loop-j-test.true in record { table_length_in_bounds = (c.requires.0, (omega (arith, few, earlier), few)); name_held = (held c.loop-j.j (omega (arith, earlier)), held c.args.k (omega arith)) }
+    let earlier = c.loop-j-test.true in record
+    { table_length_in_bounds = (c.requires.0, (omega (arith, few, earlier), few)); name_held = (held c.loop-j.j (omega (arith, earlier)), held c.args.k (omega arith)) }
 
 pub returns-then-same_slot : goal.returns-then-same_slot
 returns-then-same_slot c =

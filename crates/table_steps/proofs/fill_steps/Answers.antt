@@ -34,7 +34,8 @@ pub exits_end-b-requires : goal.exits_end-b-requires
 exits_end-b-requires c =
     let l = (table_in c.args.table.now).transitions in
     let loop = c.loop-s in
-    let grows = exits_grow l loop.s in record { holds_table = c.requires.holds_table; n_value = c.transition_count-n.ensures.count; k_bound = omega (arith, loop.invariant.1, grows, ap (exits_below l) (add-one loop.s)) }
+    let grows = exits_grow l loop.s in record
+    { holds_table = c.requires.holds_table; n_value = c.transition_count-n.ensures.count; k_bound = omega (arith, loop.invariant.1, grows, ap (exits_below l) (add-one loop.s)) }
 
 pub overflow_cast-firsts : goal.overflow_cast-firsts
 overflow_cast-firsts c =
@@ -56,7 +57,8 @@ pub put_state-at-requires : goal.put_state-at-requires
 put_state-at-requires c =
     let done = c.loop-s.invariant.2 in
     let count = c.state_count-states.ensures.count in
-    let state : c.loop-s.s < most_states = omega (arith, c.loop-s-test.true, count, c.requires.holds_table.in_range.few_states) in record { holds_table = c.requires.holds_table; a_value = (c.loop-s.invariant.1, c.exits_end-b.ensures); steps_len = (done.steps_long, (state, omega (arith, done.few, c.loop-s.invariant.1))) }
+    let state : c.loop-s.s < most_states = omega (arith, c.loop-s-test.true, count, c.requires.holds_table.in_range.few_states) in
+    record { holds_table = c.requires.holds_table; a_value = (c.loop-s.invariant.1, c.exits_end-b.ensures); steps_len = (done.steps_long, (state, omega (arith, done.few, c.loop-s.invariant.1))) }
 
 pub overflow_add-s-in-loop-s : goal.overflow_add-s-in-loop-s
 overflow_add-s-in-loop-s c =
@@ -99,7 +101,8 @@ put_state-at-requires-in-loop-s-2 c =
     let count = c.transition_count-n.ensures.count in
     let past : t.states ≤ c.loop-s-2.s = omega (arith, c.state_count-states.ensures.count, c.loop-s-2.invariant.0) in
     let all = exits_all t c.requires.holds_table.in_range c.loop-s-2.s past in
-    let next = exits_all t c.requires.holds_table.in_range (c.loop-s-2.s + 1) (omega arith) in record { holds_table = c.requires.holds_table; a_value = (count ∙ sym all, count ∙ sym next); steps_len = (done.steps_long, (c.loop-s-2-test.true, omega (arith, done.few, count, all))) }
+    let next = exits_all t c.requires.holds_table.in_range (c.loop-s-2.s + 1) (omega arith) in
+    record { holds_table = c.requires.holds_table; a_value = (count ∙ sym all, count ∙ sym next); steps_len = (done.steps_long, (c.loop-s-2-test.true, omega (arith, done.few, count, all))) }
 
 pub overflow_add-s-in-loop-s-2 : goal.overflow_add-s-in-loop-s-2
 overflow_add-s-in-loop-s-2 c =

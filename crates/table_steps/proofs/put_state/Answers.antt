@@ -18,7 +18,13 @@ put_transitions-requires c =
     let few = exits_at-most (table_in c.args.table.now).transitions (c.args.s + 1) in
     let taken = c.if-a-b.true in
     let bound = c.requires.a_value.1 in
-    let most = c.requires.holds_table.in_range.few_transitions in record { holds_table = c.requires.holds_table; a_le_b = (omega arith, omega (arith, few, bound)); steps_len = (c.requires.steps_len.0, omega (arith, few, most, bound, c.requires.steps_len.1)) }
+    let most = c.requires.holds_table.in_range.few_transitions in
+    record {
+      holds_table = c.requires.holds_table;
+      a_le_b = (omega arith, omega (arith, few, bound));
+      steps_len =
+          (c.requires.steps_len.0, omega (arith, few, most, bound, c.requires.steps_len.1));
+    }
 
 pub returns-then-a-b : goal.returns-then-a-b
 returns-then-a-b c =

@@ -51,7 +51,8 @@ write_table-requires c =
     let in-range : header_in_range (fields) ≡ true = sym c.header_in_range.ensures ∙ c.if-not-header_in_range.false in
     let bounds : HeaderBounds (fields) = header_bounds (fields) in-range in
     let fits = bounds in
-    let kept = c.read_lines-reply.auto in record { table_length_in_bounds = (c.if-table-lt-TABLE_LENGTH.false, (kept.names, kept.slots)); states_le_most_states = (fits.states, (fits.labels, (fits.transitions, fits.start))) }
+    let kept = c.read_lines-reply.auto in record
+    { table_length_in_bounds = (c.if-table-lt-TABLE_LENGTH.false, (kept.names, kept.slots)); states_le_most_states = (fits.states, (fits.labels, (fits.transitions, fits.start))) }
 
 pub returns-then-is_accepted : goal.returns-then-is_accepted
 returns-then-is_accepted c =

@@ -23,7 +23,10 @@ loop-count-init c =
 
 pub read_transition-progress-requires : goal.read_transition-progress-requires
 read_transition-progress-requires c =
-    record { at_in_bounds = omega (arith, c.loop-count.invariant.within, c.loop-count.invariant.few, c.loop-count.invariant.long); states_le_most_states = omega (arith, c.loop-count.invariant.within, c.loop-count.invariant.few, c.loop-count.invariant.long) }
+    record {
+      at_in_bounds = omega (arith, c.loop-count.invariant.within, c.loop-count.invariant.few, c.loop-count.invariant.long);
+      states_le_most_states = omega (arith, c.loop-count.invariant.within, c.loop-count.invariant.few, c.loop-count.invariant.long);
+    }
 
 pub shape_of-slots-in_default : goal.shape_of-slots-in_default
 shape_of-slots-in_default c =

@@ -25,7 +25,12 @@ loop-k-init c =
 
 pub mask_place-requires : goal.mask_place-requires
 mask_place-requires c =
-    let l = c.loop-k in record { formula_length_in_bounds = (c.requires.formula_length_in_bounds, omega arith); spells = c.requires.spells; masks_on = λ F p. masks_from c.loop-k-test.true l.invariant.1 l.invariant.2 (l.invariant.3 F p) }
+    let l = c.loop-k in record {
+      formula_length_in_bounds = (c.requires.formula_length_in_bounds, omega arith);
+      spells = c.requires.spells;
+      masks_on =
+          λ F p. masks_from c.loop-k-test.true l.invariant.1 l.invariant.2 (l.invariant.3 F p);
+    }
 
 pub loop-k-preserved : goal.loop-k-preserved
 loop-k-preserved c =

@@ -19,11 +19,14 @@ use Rattle.verdicts.specs.declared.VerdictsReply.TheVariants.{HoldsAtAll, FailsS
 use Rattle.verdicts.specs.inner.Answered.{list_reply, ListAnswered}
 use Rattle.verdicts.proofs.answer_list.Goals as goal
 
-known : (c : goal.In-At) {o : Option ℕ} → (let table_of : List ℕ = c.args.table.now in let starts-of : List ℕ = c.args.starts.now in found_in c.wrong_start-wrong.result ≡ o → wrong_start (table_in table_of).states starts-of ≡ o)
+known : (c : goal.In-At) {o : Option ℕ} → (let table_of : List ℕ = c.args.table.now in let starts-of : List ℕ = c.args.starts.now in
+    found_in c.wrong_start-wrong.result ≡ o → wrong_start (table_in table_of).states starts-of ≡ o)
 known c e = let starts-of : List ℕ = c.args.starts.now in sym (c.wrong_start-wrong.ensures ∙ ap (λ n. wrong_start n starts-of) c.state_count.ensures.count) ∙ e
 
-found : (c : goal.In-At) (F : Formula) {o : Option ℕ} → (let table_of : List ℕ = c.args.table.now in let starts-of : List ℕ = c.args.starts.now in found_in c.wrong_start-wrong.result ≡ o → list_reply table_of starts-of F ≡ unless_found o 16 (accepted (verdicts_at (table_in table_of) F starts-of)))
-found c F e = let table_of : List ℕ = c.args.table.now in let starts-of : List ℕ = c.args.starts.now in ap (λ o. unless_found o 16 (accepted (verdicts_at (table_in table_of) F starts-of))) ((known c) e)
+found : (c : goal.In-At) (F : Formula) {o : Option ℕ} → (let table_of : List ℕ = c.args.table.now in let starts-of : List ℕ = c.args.starts.now in
+    found_in c.wrong_start-wrong.result ≡ o → list_reply table_of starts-of F ≡ unless_found o 16 (accepted (verdicts_at (table_in table_of) F starts-of)))
+found c F e = let table_of : List ℕ = c.args.table.now in let starts-of : List ℕ = c.args.starts.now in
+    ap (λ o. unless_found o 16 (accepted (verdicts_at (table_in table_of) F starts-of))) ((known c) e)
 
 pub returns-in-At : goal.returns-in-At
 returns-in-At c =
@@ -35,7 +38,8 @@ returns-in-At c =
       leaves = λ F e. sym (ap (λ r. left_in (λ vs. vs) r c.args.answers.now) (found c F wrong));
     }
 
-known-2 : (c : goal.After-answer_each-arg-1) {o : Option ℕ} → (let table_of : List ℕ = c.args.table.now in let starts-of : List ℕ = c.args.starts.now in found_in c.wrong_start-wrong.result ≡ o → wrong_start (table_in table_of).states starts-of ≡ o)
+known-2 : (c : goal.After-answer_each-arg-1) {o : Option ℕ} → (let table_of : List ℕ = c.args.table.now in
+    let starts-of : List ℕ = c.args.starts.now in found_in c.wrong_start-wrong.result ≡ o → wrong_start (table_in table_of).states starts-of ≡ o)
 known-2 c e = let starts-of : List ℕ = c.args.starts.now in sym (c.wrong_start-wrong.ensures ∙ ap (λ n. wrong_start n starts-of) c.state_count.ensures.count) ∙ e
 
 pub answer_each-requires : goal.answer_each-requires
@@ -44,11 +48,15 @@ answer_each-requires c =
     let starts-of : List ℕ = c.args.starts.now in
     record { holds_table = c.requires.holds_table.0; holds_formula = c.requires.holds_formula; starts_value = (known-2 c (ap found_in c.in_default.is), c.requires.holds_table.1) }
 
-known-3 : (c : goal.Then-answer_each) {o : Option ℕ} → (let table_of : List ℕ = c.args.table.now in let starts-of : List ℕ = c.args.starts.now in found_in c.wrong_start-wrong.result ≡ o → wrong_start (table_in table_of).states starts-of ≡ o)
+known-3 : (c : goal.Then-answer_each) {o : Option ℕ} → (let table_of : List ℕ = c.args.table.now in let starts-of : List ℕ = c.args.starts.now in
+    found_in c.wrong_start-wrong.result ≡ o → wrong_start (table_in table_of).states starts-of ≡ o)
 known-3 c e = let starts-of : List ℕ = c.args.starts.now in sym (c.wrong_start-wrong.ensures ∙ ap (λ n. wrong_start n starts-of) c.state_count.ensures.count) ∙ e
 
-found-3 : (c : goal.Then-answer_each) (F : Formula) {o : Option ℕ} → (let table_of : List ℕ = c.args.table.now in let starts-of : List ℕ = c.args.starts.now in found_in c.wrong_start-wrong.result ≡ o → list_reply table_of starts-of F ≡ unless_found o 16 (accepted (verdicts_at (table_in table_of) F starts-of)))
-found-3 c F e = let table_of : List ℕ = c.args.table.now in let starts-of : List ℕ = c.args.starts.now in ap (λ o. unless_found o 16 (accepted (verdicts_at (table_in table_of) F starts-of))) ((known-3 c) e)
+found-3 : (c : goal.Then-answer_each) (F : Formula) {o : Option ℕ} → (let table_of : List ℕ = c.args.table.now in
+    let starts-of : List ℕ = c.args.starts.now in
+    found_in c.wrong_start-wrong.result ≡ o → list_reply table_of starts-of F ≡ unless_found o 16 (accepted (verdicts_at (table_in table_of) F starts-of)))
+found-3 c F e = let table_of : List ℕ = c.args.table.now in let starts-of : List ℕ = c.args.starts.now in
+    ap (λ o. unless_found o 16 (accepted (verdicts_at (table_in table_of) F starts-of))) ((known-3 c) e)
 
 pub returns-then-answer_each : goal.returns-then-answer_each
 returns-then-answer_each c =
@@ -65,11 +73,15 @@ returns-then-answer_each c =
     } in
     answered HoldsAtAll (sym (ap (λ b. accepted (cond b 1 0)) c.if-answer_each.true))
 
-known-4 : (c : goal.Else-answer_each) {o : Option ℕ} → (let table_of : List ℕ = c.args.table.now in let starts-of : List ℕ = c.args.starts.now in found_in c.wrong_start-wrong.result ≡ o → wrong_start (table_in table_of).states starts-of ≡ o)
+known-4 : (c : goal.Else-answer_each) {o : Option ℕ} → (let table_of : List ℕ = c.args.table.now in let starts-of : List ℕ = c.args.starts.now in
+    found_in c.wrong_start-wrong.result ≡ o → wrong_start (table_in table_of).states starts-of ≡ o)
 known-4 c e = let starts-of : List ℕ = c.args.starts.now in sym (c.wrong_start-wrong.ensures ∙ ap (λ n. wrong_start n starts-of) c.state_count.ensures.count) ∙ e
 
-found-4 : (c : goal.Else-answer_each) (F : Formula) {o : Option ℕ} → (let table_of : List ℕ = c.args.table.now in let starts-of : List ℕ = c.args.starts.now in found_in c.wrong_start-wrong.result ≡ o → list_reply table_of starts-of F ≡ unless_found o 16 (accepted (verdicts_at (table_in table_of) F starts-of)))
-found-4 c F e = let table_of : List ℕ = c.args.table.now in let starts-of : List ℕ = c.args.starts.now in ap (λ o. unless_found o 16 (accepted (verdicts_at (table_in table_of) F starts-of))) ((known-4 c) e)
+found-4 : (c : goal.Else-answer_each) (F : Formula) {o : Option ℕ} → (let table_of : List ℕ = c.args.table.now in
+    let starts-of : List ℕ = c.args.starts.now in
+    found_in c.wrong_start-wrong.result ≡ o → list_reply table_of starts-of F ≡ unless_found o 16 (accepted (verdicts_at (table_in table_of) F starts-of)))
+found-4 c F e = let table_of : List ℕ = c.args.table.now in let starts-of : List ℕ = c.args.starts.now in
+    ap (λ o. unless_found o 16 (accepted (verdicts_at (table_in table_of) F starts-of))) ((known-4 c) e)
 
 pub returns-else-answer_each : goal.returns-else-answer_each
 returns-else-answer_each c =

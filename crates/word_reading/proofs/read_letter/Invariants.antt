@@ -15,7 +15,8 @@ use Rattle.frontier.proofs.Laws.Through.{left, left_over, left_skip, left_turn}
 use Rattle.word_reading.proofs.read_letter.Given as goal
 
 abbrev pub invariant-loop-s : goal.invariant-loop-s
-invariant-loop-s l = (l.s < 256 → has_state l.reached l.s ≡ true) × (through (state_read (steps_in l.steps l.firsts) l.masks l.reached l.label) 256 0 l.initial.next ≡ left (state_read (steps_in l.steps l.firsts) l.masks l.reached l.label) 256 l.s l.next)
+invariant-loop-s l = (l.s < 256 → has_state l.reached l.s ≡ true) ×
+    (through (state_read (steps_in l.steps l.firsts) l.masks l.reached l.label) 256 0 l.initial.next ≡ left (state_read (steps_in l.steps l.firsts) l.masks l.reached l.label) 256 l.s l.next)
 
 abbrev pub decreases-loop-s : goal.decreases-loop-s
 decreases-loop-s l = 256 - l.s

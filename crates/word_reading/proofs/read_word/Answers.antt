@@ -37,7 +37,11 @@ bounds-word-i-in-loop-i c =
 
 pub read_two-requires : goal.read_two-requires
 read_two-requires c =
-    let i = c.loop-i.i in record { steps_fit = c.requires.steps_fit; carried = (c.requires.letters.carried i (omega (arith, c.loop-i-test.true)), c.requires.letters.carried (i + 1) c.loop-i-test.true) }
+    let i = c.loop-i.i in record {
+      steps_fit = c.requires.steps_fit;
+      carried =
+          (c.requires.letters.carried i (omega (arith, c.loop-i-test.true)), c.requires.letters.carried (i + 1) c.loop-i-test.true);
+    }
 
 pub overflow_add-i-in-loop-i-2 : goal.overflow_add-i-in-loop-i-2
 overflow_add-i-in-loop-i-2 c =

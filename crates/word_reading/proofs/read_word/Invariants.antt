@@ -11,7 +11,8 @@ use Rattle.frontier.proofs.Laws.Left.{word_turn, word_turns, word_over}
 use Rattle.word_reading.proofs.read_word.Given as goal
 
 abbrev pub invariant-loop-i : goal.invariant-loop-i
-invariant-loop-i l = (l.i ≤ length l.word) × (word_read (steps_in l.steps l.firsts) l.masks l.word (root_reached l.start) nowhere ≡ word_read (steps_in l.steps l.firsts) l.masks (drop l.i l.word) l.reached l.next)
+invariant-loop-i l = (l.i ≤ length l.word) ×
+    (word_read (steps_in l.steps l.firsts) l.masks l.word (root_reached l.start) nowhere ≡ word_read (steps_in l.steps l.firsts) l.masks (drop l.i l.word) l.reached l.next)
 
 abbrev pub decreases-loop-i : goal.decreases-loop-i
 decreases-loop-i l = length l.word - l.i

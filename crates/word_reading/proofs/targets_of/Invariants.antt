@@ -15,7 +15,8 @@ use Rattle.frontier.proofs.Laws.Through.{left, left_over, left_skip, left_turn}
 use Rattle.word_reading.proofs.targets_of.Given as goal
 
 abbrev pub invariant-loop-k : goal.invariant-loop-k
-invariant-loop-k l = BitsFrom l.places l.k l.rest × (l.k < 64 → bit_at l.places l.k ≡ true) × (targets_of l.masks l.places l.label ≡ left (targets_added l.masks l.places l.label) place_count l.k l.found)
+invariant-loop-k l = BitsFrom l.places l.k l.rest × (l.k < 64 → bit_at l.places l.k ≡ true) ×
+    (targets_of l.masks l.places l.label ≡ left (targets_added l.masks l.places l.label) place_count l.k l.found)
 
 abbrev pub decreases-loop-k : goal.decreases-loop-k
 decreases-loop-k l = place_count - l.k

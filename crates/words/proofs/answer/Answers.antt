@@ -22,7 +22,13 @@ is_accepted-requires c =
     let table_of : Table = table_in c.args.table.now in
     let word_of : List ℕ = c.args.word.now in
     let known : bad_letter (labels table_of) word_of ≡ found_in c.bad_letter-bad.result = sym (c.bad_letter-bad.ensures ∙ ap (λ n. bad_letter n word_of) c.label_count.ensures.count) in
-    let none = known ∙ ap found_in c.in-Nowhere.is in record { holds_table = c.requires.holds_table; holds_formula = c.requires.holds_formula; letters = letters-carried (labels (table_of)) (word_of) c.requires.holds_table.in_range.few_labels none }
+    let none = known ∙ ap found_in c.in-Nowhere.is in
+    record {
+      holds_table = c.requires.holds_table;
+      holds_formula = c.requires.holds_formula;
+      letters =
+          letters-carried (labels (table_of)) (word_of) c.requires.holds_table.in_range.few_labels none;
+    }
 
 pub returns-in-At : goal.returns-in-At
 returns-in-At c =
@@ -30,7 +36,8 @@ returns-in-At c =
     let word_of : List ℕ = c.args.word.now in
     let known : bad_letter (labels table_of) word_of ≡ found_in c.bad_letter-bad.result = sym (c.bad_letter-bad.ensures ∙ ap (λ n. bad_letter n word_of) c.label_count.ensures.count) in
     let answered : (F : Formula) (o : Option ℕ) → found_in c.bad_letter-bad.result ≡ o
-    → unless_found o 13 (accepted (bit_of (accepts table_of F word_of))) ≡ word_answer table_of F word_of = λ F o e. sym (ap (λ o. unless_found o 13 (accepted (bit_of (accepts table_of F word_of)))) (known ∙ e)) in
+    → unless_found o 13 (accepted (bit_of (accepts table_of F word_of))) ≡ word_answer table_of F word_of = λ F o e.
+    sym (ap (λ o. unless_found o 13 (accepted (bit_of (accepts table_of F word_of)))) (known ∙ e)) in
     record { reply = λ F e. answered F _ (ap found_in c.in-At.is) }
 
 pub returns-in-Nowhere : goal.returns-in-Nowhere
@@ -39,7 +46,8 @@ returns-in-Nowhere c =
     let word_of : List ℕ = c.args.word.now in
     let known : bad_letter (labels table_of) word_of ≡ found_in c.bad_letter-bad.result = sym (c.bad_letter-bad.ensures ∙ ap (λ n. bad_letter n word_of) c.label_count.ensures.count) in
     let answered : (F : Formula) (o : Option ℕ) → found_in c.bad_letter-bad.result ≡ o
-    → unless_found o 13 (accepted (bit_of (accepts table_of F word_of))) ≡ word_answer table_of F word_of = λ F o e. sym (ap (λ o. unless_found o 13 (accepted (bit_of (accepts table_of F word_of)))) (known ∙ e)) in
+    → unless_found o 13 (accepted (bit_of (accepts table_of F word_of))) ≡ word_answer table_of F word_of = λ F o e.
+    sym (ap (λ o. unless_found o 13 (accepted (bit_of (accepts table_of F word_of)))) (known ∙ e)) in
     record {
       reply = λ F e.
           c.answer_of.ensures

@@ -30,13 +30,15 @@ shape_of-shape-requires c =
 pub fill_masks-requires : goal.fill_masks-requires
 fill_masks-requires c =
     let held : HoldsFormula (labels (table_in c.args.table.now)) c.args.formula.now = c.requires.holds_formula in
-    let named : (F : Formula) × Spells c.args.formula.now c.shape_of-shape.result.ends F = (held.formula, spells _ _ held.prepared c.shape_of-shape.result (c.shape_of-shape.ensures _ _ held.prepared)) in
+    let named : (F : Formula) × Spells c.args.formula.now c.shape_of-shape.result.ends F =
+    (held.formula, spells _ _ held.prepared c.shape_of-shape.result (c.shape_of-shape.ensures _ _ held.prepared)) in
     record { formula_length_in_bounds = formula_long _ _ (held); spells = named; cleared = (length-replicate {A = ℕ} masks_length 0, zeros-at masks_length) }
 
 pub final_places-finals-requires : goal.final_places-finals-requires
 final_places-finals-requires c =
     let held : HoldsFormula (labels (table_in c.args.table.now)) c.args.formula.now = c.requires.holds_formula in
-    let named : (F : Formula) × Spells c.args.formula.now c.shape_of-shape.result.ends F = (held.formula, spells _ _ held.prepared c.shape_of-shape.result (c.shape_of-shape.ensures _ _ held.prepared)) in
+    let named : (F : Formula) × Spells c.args.formula.now c.shape_of-shape.result.ends F =
+    (held.formula, spells _ _ held.prepared c.shape_of-shape.result (c.shape_of-shape.ensures _ _ held.prepared)) in
     record { formula_length_in_bounds = formula_long _ _ (held); spells = named }
 
 pub read_word-requires : goal.read_word-requires

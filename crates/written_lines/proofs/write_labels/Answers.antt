@@ -41,4 +41,5 @@ pub returns : goal.returns
 returns c =
     let l = c.loop-k in
     let a = c.args in
-    let all : l.k ≡ labels (table_in a.table.now) = omega (arith, l.invariant.1, c.loop-k-test.false, c.label_count-count.ensures.count) in record { stands = labels-all a.table.now a.text.now a.at l.k l.text l.end l.invariant.0 all; upper_bound = omega (arith, all, l.invariant.2) }
+    let all : l.k ≡ labels (table_in a.table.now) = omega (arith, l.invariant.1, c.loop-k-test.false, c.label_count-count.ensures.count) in
+    record { stands = labels-all a.table.now a.text.now a.at l.k l.text l.end l.invariant.0 all; upper_bound = omega (arith, all, l.invariant.2) }

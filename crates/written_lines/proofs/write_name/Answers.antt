@@ -20,4 +20,5 @@ returns c =
     let a = c.args in
     let stands = c.name_span-span.ensures in
     let wide : c.name_span-span.result.to - c.name_span-span.result.from ≡ length (name_at a.table.now a.k) =
-    omega (arith, stands.ends, slot-wide c.requires.0 c.requires.1.0 stands.short) in record { stands = record { is = c.write_at.ensures ∙ ap (pasted a.text.now a.at) stands.name; ends = ap (λ n. a.at + n) wide }; upper_bound = omega (arith, wide, short) }
+    omega (arith, stands.ends, slot-wide c.requires.0 c.requires.1.0 stands.short) in
+    record { stands = record { is = c.write_at.ensures ∙ ap (pasted a.text.now a.at) stands.name; ends = ap (λ n. a.at + n) wide }; upper_bound = omega (arith, wide, short) }

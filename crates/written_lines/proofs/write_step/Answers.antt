@@ -16,8 +16,11 @@ transition_at-step-requires c =
     (held.0.long, omega (arith, held.1, held.0.in_range.few_transitions))
 
 pub copy_column-requires : goal.copy_column-requires
-copy_column-requires c =
-    (from-kept c.requires.holds_table.0 c.requires.holds_table.1 c.requires.numbers_kept.0 (step_in c.transition_at-step.result) c.transition_at-step.ensures.step, omega (arith, c.requires.numbers_kept.1))
+copy_column-requires c = (
+  from-kept c.requires.holds_table.0 c.requires.holds_table.1 c.requires.numbers_kept.0 (step_in c.transition_at-step.result)
+      c.transition_at-step.ensures.step,
+  omega (arith, c.requires.numbers_kept.1),
+)
 
 pub copy_column-requires-2 : goal.copy_column-requires-2
 copy_column-requires-2 c =

@@ -11,7 +11,11 @@ bounds-rows-count c =
 pub returns-then-number-eq0 : goal.returns-then-number-eq0
 returns-then-number-eq0 c =
     let none = sym c.wide-number.ensures ∙ c.if-number-eq0.true in
-    let r = c.requires.rows in record { rows_2 = rows_new r c.args.block none c.requires.block_lt_most_sets c.requires.block_len_bound; rows_after = rows-longer r c.args.block none c.requires.block_lt_most_sets c.requires.block_len_bound }
+    let r = c.requires.rows in record {
+      rows_2 = rows_new r c.args.block none c.requires.block_lt_most_sets c.requires.block_len_bound;
+      rows_after =
+          rows-longer r c.args.block none c.requires.block_lt_most_sets c.requires.block_len_bound;
+    }
 
 pub returns : goal.returns
 returns c =

@@ -10,7 +10,13 @@ use Rattle.block_numbers.proofs.finding.find_blocks.Goals as goal
 pub enter-count-requires : goal.enter-count-requires
 enter-count-requires c =
     let f = c.requires.fits in
-    let small : c.wide-block.result < c.args.n = omega (arith, c.wide-block.ensures, f.inside 0 f.states.0) in record { block_lt_most_sets = omega (arith, small, f.states.1); rows = c.requires.rows; block_len_bound = omega (arith, within-few (within-added (within_none _) c.wide-block.result small), f.states.1) }
+    let small : c.wide-block.result < c.args.n = omega (arith, c.wide-block.ensures, f.inside 0 f.states.0) in
+    record {
+      block_lt_most_sets = omega (arith, small, f.states.1);
+      rows = c.requires.rows;
+      block_len_bound =
+          omega (arith, within-few (within-added (within_none _) c.wide-block.result small), f.states.1);
+    }
 
 pub loop-i-init : goal.loop-i-init
 loop-i-init c =
@@ -31,7 +37,8 @@ loop-i-smaller c =
 
 pub loop-i-preserved : goal.loop-i-preserved
 loop-i-preserved c =
-    search_turn c.requires.fits c.loop-i.invariant c.loop-i-test.true c.find_row-totals.ensures.rows_2.0 c.find_row-totals.ensures.rows_2.1 c.find_row-totals.ensures.rows_after c.find_row-totals.ensures.edges_value
+    search_turn c.requires.fits c.loop-i.invariant c.loop-i-test.true c.find_row-totals.ensures.rows_2.0 c.find_row-totals.ensures.rows_2.1
+    c.find_row-totals.ensures.rows_after c.find_row-totals.ensures.edges_value
 
 pub returns : goal.returns
 returns c =

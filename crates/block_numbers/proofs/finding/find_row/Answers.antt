@@ -58,7 +58,23 @@ find_step-totals-requires c =
     let count = count_from a.next.now a.blocks.now a.n in
     let counted : l.totals.edges + count l.at (end - l.at) ≡ a.t.edges + count first (end - first) = l.invariant.4 in
     let few = count-few a.next.now a.blocks.now a.n first (end - first) in
-    let in_table : l.at < most_sets * most_letters = omega (arith, block-small, c.requires.columns_le_most_letters.0, c.loop-at-test.true) in record { n_le_most_sets = c.requires.n_le_most_sets; at_bound = (in_table, omega (arith, counted, few, c.requires.columns_le_most_letters.0, c.requires.columns_le_most_letters.1.0, c.requires.columns_le_most_letters.1.1, c.requires.rows.0.few)); rows = (l.invariant.1, l.invariant.2) }
+    let in_table : l.at < most_sets * most_letters = omega (arith, block-small, c.requires.columns_le_most_letters.0, c.loop-at-test.true) in
+    record {
+      n_le_most_sets = c.requires.n_le_most_sets;
+      at_bound = (
+        in_table,
+        omega (
+          arith,
+          counted,
+          few,
+          c.requires.columns_le_most_letters.0,
+          c.requires.columns_le_most_letters.1.0,
+          c.requires.columns_le_most_letters.1.1,
+          c.requires.rows.0.few,
+        ),
+      );
+      rows = (l.invariant.1, l.invariant.2);
+    }
 
 pub overflow_add-at : goal.overflow_add-at
 overflow_add-at c =
@@ -103,4 +119,11 @@ returns c =
     let wide : end - first ≡ a.columns = omega arith in
     let over = taken_over a.next.now a.blocks.now a.n l.at end done rows in
     let counted = count_over a.next.now a.blocks.now a.n l.at end done in
-    let all : l.totals.edges ≡ a.t.edges + count_from a.next.now a.blocks.now a.n first (end - first) = omega (arith, counted, l.invariant.4) in record { rows_2 = (l.invariant.1, l.invariant.2); rows_after = sym over ∙ (l.invariant.3 ∙ (λ j. taken_from a.next.now a.blocks.now a.n (at j) (wide j) begun)); edges_value = all ∙ (λ j. a.t.edges + count_from a.next.now a.blocks.now a.n (at j) (wide j)) }
+    let all : l.totals.edges ≡ a.t.edges + count_from a.next.now a.blocks.now a.n first (end - first) = omega (arith, counted, l.invariant.4) in
+    record {
+      rows_2 = (l.invariant.1, l.invariant.2);
+      rows_after =
+          sym over ∙ (l.invariant.3 ∙ (λ j. taken_from a.next.now a.blocks.now a.n (at j) (wide j) begun));
+      edges_value =
+          all ∙ (λ j. a.t.edges + count_from a.next.now a.blocks.now a.n (at j) (wide j));
+    }

@@ -13,7 +13,8 @@ pub returns-then-n-target : goal.returns-then-n-target
 returns-then-n-target c =
     let a = c.args in
     let none : a.n ≤ get_or a.next.now a.at 0 = omega (arith, c.if-n-target.true, c.wide-target.ensures) in
-    let edges = count_none a.next.now a.blocks.now a.n a.at none in record { rows_2 = c.requires.rows; rows_after = sym (taken_none a.next.now a.blocks.now a.n a.at (take a.t.rows a.rows.now) none); edges_value = omega (arith, edges) }
+    let edges = count_none a.next.now a.blocks.now a.n a.at none in
+    record { rows_2 = c.requires.rows; rows_after = sym (taken_none a.next.now a.blocks.now a.n a.at (take a.t.rows a.rows.now) none); edges_value = omega (arith, edges) }
 
 pub enter-count-requires : goal.enter-count-requires
 enter-count-requires c =
@@ -32,4 +33,10 @@ returns c =
     let small : c.wide-block.result < c.args.n = omega (arith, block-is, c.requires.n_le_most_sets.1 (get_or c.args.next.now c.args.at 0) leads) in
     let within : Within c.args.n (added rows c.wide-block.result) = within-added c.requires.rows.1 c.wide-block.result small in
     let a = c.args in
-    let all = c.enter-count.ensures.rows_after ∙ (ap (added (rows)) (block-is) ∙ sym (taken-one a.next.now a.blocks.now a.n a.at (rows) (leads))) in record { rows_2 = (c.enter-count.ensures.rows_2, subst (Within a.n) (sym c.enter-count.ensures.rows_after) (within)); rows_after = all; edges_value = omega (arith, count-one a.next.now a.blocks.now a.n a.at (leads)) }
+    let all = c.enter-count.ensures.rows_after ∙ (ap (added (rows)) (block-is) ∙ sym (taken-one a.next.now a.blocks.now a.n a.at (rows) (leads))) in
+    record {
+      rows_2 = (c.enter-count.ensures.rows_2, subst (Within a.n) (sym c.enter-count.ensures.rows_after) (within));
+      rows_after =
+          all;
+      edges_value = omega (arith, count-one a.next.now a.blocks.now a.n a.at (leads));
+    }

@@ -43,4 +43,5 @@ returns c =
     let done : l.i ≡ a.count = omega arith in
     let inside : l.end < length l.out = omega (arith, pasting_length l.invariant.0, l.invariant.2) in
     let p = pasting_more l.invariant.0 (10 ∷ []) (set l.out l.end 10) (l.end + 1) (set-pasted l.out l.end 10 inside) refl (omega (arith, l.invariant.2)) in
-    let text = columns_line (take l.i a.values) ∙ ap (λ k. numbers_line (take k a.values)) done in record { value = p.ends ∙ ap (λ t. a.at + length t) text; out_after = p.is ∙ ap (pasted a.out.now a.at) text; upper_bound = omega (arith, l.invariant.2) }
+    let text = columns_line (take l.i a.values) ∙ ap (λ k. numbers_line (take k a.values)) done in
+    record { value = p.ends ∙ ap (λ t. a.at + length t) text; out_after = p.is ∙ ap (pasted a.out.now a.at) text; upper_bound = omega (arith, l.invariant.2) }

@@ -37,7 +37,8 @@ returns-then-not-is_prepared c =
     let foreign = sym c.is_prepared.ensures ∙ c.if-not-is_prepared.true in
     sym (table_foreign a.table.now a.formula.now next c.if-table-lt-TABLE_LENGTH.false c.if-formula-lt-FORMULA_LENGTH.false foreign)
 
-found : (c : goal.Then-not-is_prepared-2) {b : Bool} → (let table : List ℕ = c.args.table.now in let formula : List ℕ = c.args.formula.now in c.is_prepared-2.result ≡ b → is_some (prepared_formula (labels (table_in table)) formula) ≡ b)
+found : (c : goal.Then-not-is_prepared-2) {b : Bool} → (let table : List ℕ = c.args.table.now in let formula : List ℕ = c.args.formula.now in
+    c.is_prepared-2.result ≡ b → is_some (prepared_formula (labels (table_in table)) formula) ≡ b)
 found c e = let table : List ℕ = c.args.table.now in let formula : List ℕ = c.args.formula.now in tested table formula c.label_count.ensures.count c.is_prepared-2.ensures.value e
 
 pub returns-then-not-is_prepared-2 : goal.returns-then-not-is_prepared-2
@@ -48,7 +49,8 @@ returns-then-not-is_prepared-2 c =
     sym (formula_foreign (table) (formula) next c.if-table-lt-TABLE_LENGTH.false c.if-formula-lt-FORMULA_LENGTH.false (known)
     (found c c.if-not-is_prepared-2.true))
 
-found-2 : (c : goal.Else-not-is_prepared-2) {b : Bool} → (let table : List ℕ = c.args.table.now in let formula : List ℕ = c.args.formula.now in c.is_prepared-2.result ≡ b → is_some (prepared_formula (labels (table_in table)) formula) ≡ b)
+found-2 : (c : goal.Else-not-is_prepared-2) {b : Bool} → (let table : List ℕ = c.args.table.now in let formula : List ℕ = c.args.formula.now in
+    c.is_prepared-2.result ≡ b → is_some (prepared_formula (labels (table_in table)) formula) ≡ b)
 found-2 c e = let table : List ℕ = c.args.table.now in let formula : List ℕ = c.args.formula.now in tested table formula c.label_count.ensures.count c.is_prepared-2.ensures.value e
 
 pub returns : goal.returns

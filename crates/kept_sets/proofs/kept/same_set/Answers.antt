@@ -20,12 +20,14 @@ loop-s-init c =
 
 pub overflow_add-base : goal.overflow_add-base
 overflow_add-base c =
-    let room : c.args.k * c.args.states + c.loop-s.s < 65536 = omega (arith, base-few c.args.k c.args.states c.requires.work_length_in_bounds.1.0 c.requires.work_length_in_bounds.1.1, c.loop-s-test.true) in
+    let room : c.args.k * c.args.states + c.loop-s.s < 65536 =
+    omega (arith, base-few c.args.k c.args.states c.requires.work_length_in_bounds.1.0 c.requires.work_length_in_bounds.1.1, c.loop-s-test.true) in
     record { fits = omega (arith, room) }
 
 pub word_at-requires : goal.word_at-requires
 word_at-requires c =
-    let room : c.args.k * c.args.states + c.loop-s.s < 65536 = omega (arith, base-few c.args.k c.args.states c.requires.work_length_in_bounds.1.0 c.requires.work_length_in_bounds.1.1, c.loop-s-test.true) in
+    let room : c.args.k * c.args.states + c.loop-s.s < 65536 =
+    omega (arith, base-few c.args.k c.args.states c.requires.work_length_in_bounds.1.0 c.requires.work_length_in_bounds.1.1, c.loop-s-test.true) in
     omega (arith, room, c.requires.work_length_in_bounds.0)
 
 pub loop-s-preserved : goal.loop-s-preserved

@@ -21,15 +21,22 @@ state_count-requires c =
 
 pub label_at_once-requires : goal.label_at_once-requires
 label_at_once-requires c =
-    let rows = c.requires.linked in record { steps_fit = c.requires.steps_of.fit; states_le_most_states = (omega (arith, c.state_count.ensures.count, c.requires.holds_table.in_range.few_states), rows.1, rows.2) }
+    let rows = c.requires.linked in record {
+      steps_fit = c.requires.steps_of.fit;
+      states_le_most_states =
+          (omega (arith, c.state_count.ensures.count, c.requires.holds_table.in_range.few_states), rows.1, rows.2);
+    }
 
 settled : (c : goal.In-True) (flags : List Bool) {n : Node} → (let AtOnce : List Bool → Node → Type 0 = λ flags n. let t = table_in c.args.table.now in
-    Flags t.states (λ s. at_once n (row_at c.args.flags.now c.args.arm) (row_at c.args.flags.now c.args.other) s (steps_from t s)) flags in let Wanted : List Bool → Node → Type 0 = λ flags n. let t = table_in c.args.table.now in
+    Flags t.states (λ s. at_once n (row_at c.args.flags.now c.args.arm) (row_at c.args.flags.now c.args.other) s (steps_from t s)) flags in
+    let Wanted : List Bool → Node → Type 0 = λ flags n. let t = table_in c.args.table.now in
     Flags t.states (node_holds t n (row_at c.args.flags.now c.args.arm) (row_at c.args.flags.now c.args.other)) flags in let row : List Bool = c.label_at_once.result in c.args.node ≡ n
     → (AtOnce (row) n → Wanted flags n) → Wanted flags c.args.node)
 settled c flags e wanted = let AtOnce : List Bool → Node → Type 0 = λ flags n. let t = table_in c.args.table.now in
-    Flags t.states (λ s. at_once n (row_at c.args.flags.now c.args.arm) (row_at c.args.flags.now c.args.other) s (steps_from t s)) flags in let Wanted : List Bool → Node → Type 0 = λ flags n. let t = table_in c.args.table.now in
-    Flags t.states (node_holds t n (row_at c.args.flags.now c.args.arm) (row_at c.args.flags.now c.args.other)) flags in let row : List Bool = c.label_at_once.result in let at-once : AtOnce (row) c.args.node = let a = c.args in
+    Flags t.states (λ s. at_once n (row_at c.args.flags.now c.args.arm) (row_at c.args.flags.now c.args.other) s (steps_from t s)) flags in
+    let Wanted : List Bool → Node → Type 0 = λ flags n. let t = table_in c.args.table.now in
+    Flags t.states (node_holds t n (row_at c.args.flags.now c.args.arm) (row_at c.args.flags.now c.args.other)) flags in
+    let row : List Bool = c.label_at_once.result in let at-once : AtOnce (row) c.args.node = let a = c.args in
     let t = table_in a.table.now in
     let once : ℕ → Bool = λ s. at_once a.node (row_at a.flags.now a.arm) (row_at a.flags.now a.other) s (steps_in a.steps.now a.firsts.now s) in
     let found = subst (λ n. Flags n once (row)) c.state_count.ensures.count c.label_at_once.ensures in
@@ -57,12 +64,15 @@ returns-in-True c =
     settled c _ c.in-True.is (λ once. once)
 
 settled-2 : (c : goal.In-Not) (flags : List Bool) {n : Node} → (let AtOnce : List Bool → Node → Type 0 = λ flags n. let t = table_in c.args.table.now in
-    Flags t.states (λ s. at_once n (row_at c.args.flags.now c.args.arm) (row_at c.args.flags.now c.args.other) s (steps_from t s)) flags in let Wanted : List Bool → Node → Type 0 = λ flags n. let t = table_in c.args.table.now in
+    Flags t.states (λ s. at_once n (row_at c.args.flags.now c.args.arm) (row_at c.args.flags.now c.args.other) s (steps_from t s)) flags in
+    let Wanted : List Bool → Node → Type 0 = λ flags n. let t = table_in c.args.table.now in
     Flags t.states (node_holds t n (row_at c.args.flags.now c.args.arm) (row_at c.args.flags.now c.args.other)) flags in let row : List Bool = c.label_at_once.result in c.args.node ≡ n
     → (AtOnce (row) n → Wanted flags n) → Wanted flags c.args.node)
 settled-2 c flags e wanted = let AtOnce : List Bool → Node → Type 0 = λ flags n. let t = table_in c.args.table.now in
-    Flags t.states (λ s. at_once n (row_at c.args.flags.now c.args.arm) (row_at c.args.flags.now c.args.other) s (steps_from t s)) flags in let Wanted : List Bool → Node → Type 0 = λ flags n. let t = table_in c.args.table.now in
-    Flags t.states (node_holds t n (row_at c.args.flags.now c.args.arm) (row_at c.args.flags.now c.args.other)) flags in let row : List Bool = c.label_at_once.result in let at-once : AtOnce (row) c.args.node = let a = c.args in
+    Flags t.states (λ s. at_once n (row_at c.args.flags.now c.args.arm) (row_at c.args.flags.now c.args.other) s (steps_from t s)) flags in
+    let Wanted : List Bool → Node → Type 0 = λ flags n. let t = table_in c.args.table.now in
+    Flags t.states (node_holds t n (row_at c.args.flags.now c.args.arm) (row_at c.args.flags.now c.args.other)) flags in
+    let row : List Bool = c.label_at_once.result in let at-once : AtOnce (row) c.args.node = let a = c.args in
     let t = table_in a.table.now in
     let once : ℕ → Bool = λ s. at_once a.node (row_at a.flags.now a.arm) (row_at a.flags.now a.other) s (steps_in a.steps.now a.firsts.now s) in
     let found = subst (λ n. Flags n once (row)) c.state_count.ensures.count c.label_at_once.ensures in
@@ -90,12 +100,15 @@ returns-in-Not c =
     settled-2 c _ c.in-Not.is (λ once. once)
 
 settled-3 : (c : goal.In-Or) (flags : List Bool) {n : Node} → (let AtOnce : List Bool → Node → Type 0 = λ flags n. let t = table_in c.args.table.now in
-    Flags t.states (λ s. at_once n (row_at c.args.flags.now c.args.arm) (row_at c.args.flags.now c.args.other) s (steps_from t s)) flags in let Wanted : List Bool → Node → Type 0 = λ flags n. let t = table_in c.args.table.now in
+    Flags t.states (λ s. at_once n (row_at c.args.flags.now c.args.arm) (row_at c.args.flags.now c.args.other) s (steps_from t s)) flags in
+    let Wanted : List Bool → Node → Type 0 = λ flags n. let t = table_in c.args.table.now in
     Flags t.states (node_holds t n (row_at c.args.flags.now c.args.arm) (row_at c.args.flags.now c.args.other)) flags in let row : List Bool = c.label_at_once.result in c.args.node ≡ n
     → (AtOnce (row) n → Wanted flags n) → Wanted flags c.args.node)
 settled-3 c flags e wanted = let AtOnce : List Bool → Node → Type 0 = λ flags n. let t = table_in c.args.table.now in
-    Flags t.states (λ s. at_once n (row_at c.args.flags.now c.args.arm) (row_at c.args.flags.now c.args.other) s (steps_from t s)) flags in let Wanted : List Bool → Node → Type 0 = λ flags n. let t = table_in c.args.table.now in
-    Flags t.states (node_holds t n (row_at c.args.flags.now c.args.arm) (row_at c.args.flags.now c.args.other)) flags in let row : List Bool = c.label_at_once.result in let at-once : AtOnce (row) c.args.node = let a = c.args in
+    Flags t.states (λ s. at_once n (row_at c.args.flags.now c.args.arm) (row_at c.args.flags.now c.args.other) s (steps_from t s)) flags in
+    let Wanted : List Bool → Node → Type 0 = λ flags n. let t = table_in c.args.table.now in
+    Flags t.states (node_holds t n (row_at c.args.flags.now c.args.arm) (row_at c.args.flags.now c.args.other)) flags in
+    let row : List Bool = c.label_at_once.result in let at-once : AtOnce (row) c.args.node = let a = c.args in
     let t = table_in a.table.now in
     let once : ℕ → Bool = λ s. at_once a.node (row_at a.flags.now a.arm) (row_at a.flags.now a.other) s (steps_in a.steps.now a.firsts.now s) in
     let found = subst (λ n. Flags n once (row)) c.state_count.ensures.count c.label_at_once.ensures in
@@ -123,12 +136,15 @@ returns-in-Or c =
     settled-3 c _ c.in-Or.is (λ once. once)
 
 settled-4 : (c : goal.In-Ex) (flags : List Bool) {n : Node} → (let AtOnce : List Bool → Node → Type 0 = λ flags n. let t = table_in c.args.table.now in
-    Flags t.states (λ s. at_once n (row_at c.args.flags.now c.args.arm) (row_at c.args.flags.now c.args.other) s (steps_from t s)) flags in let Wanted : List Bool → Node → Type 0 = λ flags n. let t = table_in c.args.table.now in
+    Flags t.states (λ s. at_once n (row_at c.args.flags.now c.args.arm) (row_at c.args.flags.now c.args.other) s (steps_from t s)) flags in
+    let Wanted : List Bool → Node → Type 0 = λ flags n. let t = table_in c.args.table.now in
     Flags t.states (node_holds t n (row_at c.args.flags.now c.args.arm) (row_at c.args.flags.now c.args.other)) flags in let row : List Bool = c.label_at_once.result in c.args.node ≡ n
     → (AtOnce (row) n → Wanted flags n) → Wanted flags c.args.node)
 settled-4 c flags e wanted = let AtOnce : List Bool → Node → Type 0 = λ flags n. let t = table_in c.args.table.now in
-    Flags t.states (λ s. at_once n (row_at c.args.flags.now c.args.arm) (row_at c.args.flags.now c.args.other) s (steps_from t s)) flags in let Wanted : List Bool → Node → Type 0 = λ flags n. let t = table_in c.args.table.now in
-    Flags t.states (node_holds t n (row_at c.args.flags.now c.args.arm) (row_at c.args.flags.now c.args.other)) flags in let row : List Bool = c.label_at_once.result in let at-once : AtOnce (row) c.args.node = let a = c.args in
+    Flags t.states (λ s. at_once n (row_at c.args.flags.now c.args.arm) (row_at c.args.flags.now c.args.other) s (steps_from t s)) flags in
+    let Wanted : List Bool → Node → Type 0 = λ flags n. let t = table_in c.args.table.now in
+    Flags t.states (node_holds t n (row_at c.args.flags.now c.args.arm) (row_at c.args.flags.now c.args.other)) flags in
+    let row : List Bool = c.label_at_once.result in let at-once : AtOnce (row) c.args.node = let a = c.args in
     let t = table_in a.table.now in
     let once : ℕ → Bool = λ s. at_once a.node (row_at a.flags.now a.arm) (row_at a.flags.now a.other) s (steps_in a.steps.now a.firsts.now s) in
     let found = subst (λ n. Flags n once (row)) c.state_count.ensures.count c.label_at_once.ensures in
@@ -156,12 +172,15 @@ returns-in-Ex c =
     settled-4 c _ c.in-Ex.is (λ once. once)
 
 settled-5 : (c : goal.In-Ax) (flags : List Bool) {n : Node} → (let AtOnce : List Bool → Node → Type 0 = λ flags n. let t = table_in c.args.table.now in
-    Flags t.states (λ s. at_once n (row_at c.args.flags.now c.args.arm) (row_at c.args.flags.now c.args.other) s (steps_from t s)) flags in let Wanted : List Bool → Node → Type 0 = λ flags n. let t = table_in c.args.table.now in
+    Flags t.states (λ s. at_once n (row_at c.args.flags.now c.args.arm) (row_at c.args.flags.now c.args.other) s (steps_from t s)) flags in
+    let Wanted : List Bool → Node → Type 0 = λ flags n. let t = table_in c.args.table.now in
     Flags t.states (node_holds t n (row_at c.args.flags.now c.args.arm) (row_at c.args.flags.now c.args.other)) flags in let row : List Bool = c.label_at_once.result in c.args.node ≡ n
     → (AtOnce (row) n → Wanted flags n) → Wanted flags c.args.node)
 settled-5 c flags e wanted = let AtOnce : List Bool → Node → Type 0 = λ flags n. let t = table_in c.args.table.now in
-    Flags t.states (λ s. at_once n (row_at c.args.flags.now c.args.arm) (row_at c.args.flags.now c.args.other) s (steps_from t s)) flags in let Wanted : List Bool → Node → Type 0 = λ flags n. let t = table_in c.args.table.now in
-    Flags t.states (node_holds t n (row_at c.args.flags.now c.args.arm) (row_at c.args.flags.now c.args.other)) flags in let row : List Bool = c.label_at_once.result in let at-once : AtOnce (row) c.args.node = let a = c.args in
+    Flags t.states (λ s. at_once n (row_at c.args.flags.now c.args.arm) (row_at c.args.flags.now c.args.other) s (steps_from t s)) flags in
+    let Wanted : List Bool → Node → Type 0 = λ flags n. let t = table_in c.args.table.now in
+    Flags t.states (node_holds t n (row_at c.args.flags.now c.args.arm) (row_at c.args.flags.now c.args.other)) flags in
+    let row : List Bool = c.label_at_once.result in let at-once : AtOnce (row) c.args.node = let a = c.args in
     let t = table_in a.table.now in
     let once : ℕ → Bool = λ s. at_once a.node (row_at a.flags.now a.arm) (row_at a.flags.now a.other) s (steps_in a.steps.now a.firsts.now s) in
     let found = subst (λ n. Flags n once (row)) c.state_count.ensures.count c.label_at_once.ensures in
@@ -189,12 +208,15 @@ returns-in-Ax c =
     settled-5 c _ c.in-Ax.is (λ once. once)
 
 settled-6 : (c : goal.After-until) (flags : List Bool) {n : Node} → (let AtOnce : List Bool → Node → Type 0 = λ flags n. let t = table_in c.args.table.now in
-    Flags t.states (λ s. at_once n (row_at c.args.flags.now c.args.arm) (row_at c.args.flags.now c.args.other) s (steps_from t s)) flags in let Wanted : List Bool → Node → Type 0 = λ flags n. let t = table_in c.args.table.now in
+    Flags t.states (λ s. at_once n (row_at c.args.flags.now c.args.arm) (row_at c.args.flags.now c.args.other) s (steps_from t s)) flags in
+    let Wanted : List Bool → Node → Type 0 = λ flags n. let t = table_in c.args.table.now in
     Flags t.states (node_holds t n (row_at c.args.flags.now c.args.arm) (row_at c.args.flags.now c.args.other)) flags in let row : List Bool = c.label_at_once.result in c.args.node ≡ n
     → (AtOnce (row) n → Wanted flags n) → Wanted flags c.args.node)
 settled-6 c flags e wanted = let AtOnce : List Bool → Node → Type 0 = λ flags n. let t = table_in c.args.table.now in
-    Flags t.states (λ s. at_once n (row_at c.args.flags.now c.args.arm) (row_at c.args.flags.now c.args.other) s (steps_from t s)) flags in let Wanted : List Bool → Node → Type 0 = λ flags n. let t = table_in c.args.table.now in
-    Flags t.states (node_holds t n (row_at c.args.flags.now c.args.arm) (row_at c.args.flags.now c.args.other)) flags in let row : List Bool = c.label_at_once.result in let at-once : AtOnce (row) c.args.node = let a = c.args in
+    Flags t.states (λ s. at_once n (row_at c.args.flags.now c.args.arm) (row_at c.args.flags.now c.args.other) s (steps_from t s)) flags in
+    let Wanted : List Bool → Node → Type 0 = λ flags n. let t = table_in c.args.table.now in
+    Flags t.states (node_holds t n (row_at c.args.flags.now c.args.arm) (row_at c.args.flags.now c.args.other)) flags in
+    let row : List Bool = c.label_at_once.result in let at-once : AtOnce (row) c.args.node = let a = c.args in
     let t = table_in a.table.now in
     let once : ℕ → Bool = λ s. at_once a.node (row_at a.flags.now a.arm) (row_at a.flags.now a.other) s (steps_in a.steps.now a.firsts.now s) in
     let found = subst (λ n. Flags n once (row)) c.state_count.ensures.count c.label_at_once.ensures in
@@ -223,12 +245,15 @@ returns-in-Until c =
     settled-6 c _ c.in-Until.is (λ once. until_flags _ in_range _ _ _ _ once c.until.ensures)
 
 settled-7 : (c : goal.After-until-in-UntilThen) (flags : List Bool) {n : Node} → (let AtOnce : List Bool → Node → Type 0 = λ flags n. let t = table_in c.args.table.now in
-    Flags t.states (λ s. at_once n (row_at c.args.flags.now c.args.arm) (row_at c.args.flags.now c.args.other) s (steps_from t s)) flags in let Wanted : List Bool → Node → Type 0 = λ flags n. let t = table_in c.args.table.now in
+    Flags t.states (λ s. at_once n (row_at c.args.flags.now c.args.arm) (row_at c.args.flags.now c.args.other) s (steps_from t s)) flags in
+    let Wanted : List Bool → Node → Type 0 = λ flags n. let t = table_in c.args.table.now in
     Flags t.states (node_holds t n (row_at c.args.flags.now c.args.arm) (row_at c.args.flags.now c.args.other)) flags in let row : List Bool = c.label_at_once.result in c.args.node ≡ n
     → (AtOnce (row) n → Wanted flags n) → Wanted flags c.args.node)
 settled-7 c flags e wanted = let AtOnce : List Bool → Node → Type 0 = λ flags n. let t = table_in c.args.table.now in
-    Flags t.states (λ s. at_once n (row_at c.args.flags.now c.args.arm) (row_at c.args.flags.now c.args.other) s (steps_from t s)) flags in let Wanted : List Bool → Node → Type 0 = λ flags n. let t = table_in c.args.table.now in
-    Flags t.states (node_holds t n (row_at c.args.flags.now c.args.arm) (row_at c.args.flags.now c.args.other)) flags in let row : List Bool = c.label_at_once.result in let at-once : AtOnce (row) c.args.node = let a = c.args in
+    Flags t.states (λ s. at_once n (row_at c.args.flags.now c.args.arm) (row_at c.args.flags.now c.args.other) s (steps_from t s)) flags in
+    let Wanted : List Bool → Node → Type 0 = λ flags n. let t = table_in c.args.table.now in
+    Flags t.states (node_holds t n (row_at c.args.flags.now c.args.arm) (row_at c.args.flags.now c.args.other)) flags in
+    let row : List Bool = c.label_at_once.result in let at-once : AtOnce (row) c.args.node = let a = c.args in
     let t = table_in a.table.now in
     let once : ℕ → Bool = λ s. at_once a.node (row_at a.flags.now a.arm) (row_at a.flags.now a.other) s (steps_in a.steps.now a.firsts.now s) in
     let found = subst (λ n. Flags n once (row)) c.state_count.ensures.count c.label_at_once.ensures in

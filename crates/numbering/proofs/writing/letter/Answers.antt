@@ -14,4 +14,5 @@ returns-then-c-columns c =
 pub returns-else-c-columns : goal.returns-else-c-columns
 returns-else-c-columns c =
     let a = c.args in
-    let other : suc a.c < a.columns = omega (arith, c.if-c-columns.false, c.requires.0) in record { value = sym (letter_before a.columns a.c other); upper_bound = omega (arith, c.requires.0, c.requires.1) }
+    let other : suc a.c < a.columns = omega (arith, c.if-c-columns.false, c.requires.0) in
+    record { value = sym (letter_before a.columns a.c other); upper_bound = omega (arith, c.requires.0, c.requires.1) }

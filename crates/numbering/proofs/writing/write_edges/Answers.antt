@@ -41,7 +41,14 @@ write_row-end-requires c =
     left_as (turn ∙ ap (λ b. row b ++ rest) (sym c.wide-block.ensures)) c.loop-i.invariant.2 in
     let a = c.args in
     let there = c.loop-i-test.true in
-    let fits = subst (RowFits a.next.now a.blocks.now a.numbers.now a.n a.columns) (sym c.wide-block.ensures) (c.requires.by_index (i) there) in record { n_le_most_sets = c.requires.n_le_most_sets; row_lt_most_sets = (omega (arith, there, c.requires.count_le_most_sets.0), c.requires.count_le_most_sets.1); row_fits = fits; columns_in_bounds = part_room (row c.wide-block.result) (rest) (left) }
+    let fits = subst (RowFits a.next.now a.blocks.now a.numbers.now a.n a.columns) (sym c.wide-block.ensures) (c.requires.by_index (i) there) in
+    record {
+      n_le_most_sets = c.requires.n_le_most_sets;
+      row_lt_most_sets =
+          (omega (arith, there, c.requires.count_le_most_sets.0), c.requires.count_le_most_sets.1);
+      row_fits = fits;
+      columns_in_bounds = part_room (row c.wide-block.result) (rest) (left);
+    }
 
 pub overflow_add-i : goal.overflow_add-i
 overflow_add-i c =

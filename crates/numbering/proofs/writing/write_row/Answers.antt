@@ -33,7 +33,14 @@ write_step-end-requires c =
     let l = c.loop-c in
     let there = c.loop-c-test.true in
     let fits = c.requires.row_fits in
-    let few = c.requires.row_lt_most_sets.1 in record { n_le_most_sets = c.requires.n_le_most_sets; row_lt_most_sets = (c.requires.row_lt_most_sets.0, (omega (arith, fits.block, there, few), (there, few))); numbered = fits.numbered l.c there; c_in_bounds = part_room (this) (from (l.c + 1)) (left) }
+    let few = c.requires.row_lt_most_sets.1 in
+    record {
+      n_le_most_sets = c.requires.n_le_most_sets;
+      row_lt_most_sets =
+          (c.requires.row_lt_most_sets.0, (omega (arith, fits.block, there, few), (there, few)));
+      numbered = fits.numbered l.c there;
+      c_in_bounds = part_room (this) (from (l.c + 1)) (left);
+    }
 
 pub overflow_add-c : goal.overflow_add-c
 overflow_add-c c =

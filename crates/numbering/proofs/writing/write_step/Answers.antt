@@ -34,7 +34,8 @@ pub overflow_sub-number : goal.overflow_sub-number
 overflow_sub-number c =
     let leads : let a = c.args in get_or a.next.now (a.first + a.c) 0 < a.n = omega (arith, c.if-n-target.false, c.wide-target.ensures) in
     let block-is : let a = c.args in c.wide-block.result ≡ goal a.next.now a.blocks.now a.n (a.first + a.c) = c.wide-block.ensures ∙ ap (λ k. get_or c.args.blocks.now k 0) c.wide-target.ensures in
-    let number_is : let a = c.args in c.wide-number.result ≡ get_or a.numbers.now (goal a.next.now a.blocks.now a.n (a.first + a.c)) 0 = c.wide-number.ensures ∙ ap (λ k. get_or c.args.numbers.now k 0) (block-is) in
+    let number_is : let a = c.args in c.wide-number.result ≡ get_or a.numbers.now (goal a.next.now a.blocks.now a.n (a.first + a.c)) 0 =
+    c.wide-number.ensures ∙ ap (λ k. get_or c.args.numbers.now k 0) (block-is) in
     let number-some : (0 < c.wide-number.result) × (c.wide-number.result ≤ most_sets) = let (x, y) = c.requires.numbered (leads) in (omega (arith, number_is), omega (arith, number_is)) in
     omega (arith, (number-some).0)
 
@@ -42,16 +43,23 @@ pub put_step-requires : goal.put_step-requires
 put_step-requires c =
     let leads : let a = c.args in get_or a.next.now (a.first + a.c) 0 < a.n = omega (arith, c.if-n-target.false, c.wide-target.ensures) in
     let block-is : let a = c.args in c.wide-block.result ≡ goal a.next.now a.blocks.now a.n (a.first + a.c) = c.wide-block.ensures ∙ ap (λ k. get_or c.args.blocks.now k 0) c.wide-target.ensures in
-    let number_is : let a = c.args in c.wide-number.result ≡ get_or a.numbers.now (goal a.next.now a.blocks.now a.n (a.first + a.c)) 0 = c.wide-number.ensures ∙ ap (λ k. get_or c.args.numbers.now k 0) (block-is) in
+    let number_is : let a = c.args in c.wide-number.result ≡ get_or a.numbers.now (goal a.next.now a.blocks.now a.n (a.first + a.c)) 0 =
+    c.wide-number.ensures ∙ ap (λ k. get_or c.args.numbers.now k 0) (block-is) in
     let number-some : (0 < c.wide-number.result) × (c.wide-number.result ≤ most_sets) = let (x, y) = c.requires.numbered (leads) in (omega (arith, number_is), omega (arith, number_is)) in
     let a = c.args in
-    let three = step-one a.next.now a.blocks.now a.numbers.now a.n a.columns a.row a.first a.c (leads) in record { at_in_bounds = omega (arith, ap length three, c.requires.c_in_bounds); row_bound = (omega (arith, c.requires.row_lt_most_sets.0), (c.letter.ensures.upper_bound, omega (arith, number-some))) }
+    let three = step-one a.next.now a.blocks.now a.numbers.now a.n a.columns a.row a.first a.c (leads) in
+    record {
+      at_in_bounds = omega (arith, ap length three, c.requires.c_in_bounds);
+      row_bound =
+          (omega (arith, c.requires.row_lt_most_sets.0), (c.letter.ensures.upper_bound, omega (arith, number-some)));
+    }
 
 pub returns : goal.returns
 returns c =
     let leads : let a = c.args in get_or a.next.now (a.first + a.c) 0 < a.n = omega (arith, c.if-n-target.false, c.wide-target.ensures) in
     let block-is : let a = c.args in c.wide-block.result ≡ goal a.next.now a.blocks.now a.n (a.first + a.c) = c.wide-block.ensures ∙ ap (λ k. get_or c.args.blocks.now k 0) c.wide-target.ensures in
-    let number_is : let a = c.args in c.wide-number.result ≡ get_or a.numbers.now (goal a.next.now a.blocks.now a.n (a.first + a.c)) 0 = c.wide-number.ensures ∙ ap (λ k. get_or c.args.numbers.now k 0) (block-is) in
+    let number_is : let a = c.args in c.wide-number.result ≡ get_or a.numbers.now (goal a.next.now a.blocks.now a.n (a.first + a.c)) 0 =
+    c.wide-number.ensures ∙ ap (λ k. get_or c.args.numbers.now k 0) (block-is) in
     let a = c.args in
     let letter-is = c.letter.ensures.value in
     let three = step-one a.next.now a.blocks.now a.numbers.now a.n a.columns a.row a.first a.c (leads) in

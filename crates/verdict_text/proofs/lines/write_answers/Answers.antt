@@ -7,7 +7,8 @@ use Rattle.verdict_text.proofs.lines.write_answers.Goals as goal
 
 pub write_entries-requires : goal.write_entries-requires
 write_entries-requires c =
-    let first_ends : c.write_pair-first.result ≡ 13 = c.write_pair-first.ensures.ends ∙ omega (arith, pair_wide c.args.joint c.args.count (omega (arith, c.requires.joint_bound)) (omega (arith, c.requires.joint_bound))) in
+    let first_ends : c.write_pair-first.result ≡ 13 =
+    c.write_pair-first.ensures.ends ∙ omega (arith, pair_wide c.args.joint c.args.count (omega (arith, c.requires.joint_bound)) (omega (arith, c.requires.joint_bound))) in
     record {
       listed = c.requires.count_in_bounds.0;
       answered = c.requires.count_in_bounds.1;
@@ -16,7 +17,8 @@ write_entries-requires c =
 
 pub returns : goal.returns
 returns c =
-    let first_ends : c.write_pair-first.result ≡ 13 = c.write_pair-first.ensures.ends ∙ omega (arith, pair_wide c.args.joint c.args.count (omega (arith, c.requires.joint_bound)) (omega (arith, c.requires.joint_bound))) in
+    let first_ends : c.write_pair-first.result ≡ 13 =
+    c.write_pair-first.ensures.ends ∙ omega (arith, pair_wide c.args.joint c.args.count (omega (arith, c.requires.joint_bound)) (omega (arith, c.requires.joint_bound))) in
     let a = c.args in
     let entries = c.write_entries.ensures in
     all-written a.joint a.count a.starts.now a.answers.now a.out.now

@@ -29,8 +29,11 @@ loop-s-preserved c =
     let loop = c.loop-s in
     let taken = c.loop-s-test.true in
     let first = c.next_state-s-in-loop-s.ensures in
-    let more = bit_or loop.found (get_or frontier loop.s 0) in
-    (first.found, loop.invariant.1 ∙ left_turn (places_added frontier) 256 (has_state frontier) (idle frontier) loop.found more taken (ap (λ b. cond b more loop.found) (loop.invariant.0 taken)) first)
+    let more = bit_or loop.found (get_or frontier loop.s 0) in (
+      first.found,
+      loop.invariant.1 ∙ left_turn (places_added frontier) 256 (has_state frontier) (idle frontier) loop.found more taken
+          (ap (λ b. cond b more loop.found) (loop.invariant.0 taken)) first,
+    )
 
 pub returns : goal.returns
 returns c =
