@@ -8,13 +8,11 @@ use Rattle.smallest_lines.proofs.ask.Goals as goal
 pub returns-in-Refused : goal.returns-in-Refused
 returns-in-Refused c =
     let a = c.args in
-    let left = c.read_both-ready.new.1.1 in
     refused_texts a.tabletext.now a.formulatext.now a.automaton.now _ _
     (was_refused a.tabletext.now a.formulatext.now c.read_both-ready.new.table c.read_both-ready.new.formula c.read_both-ready.ensures _ _ c.in-Refused.is)
 
 pub returns-in-Ready : goal.returns-in-Ready
 returns-in-Ready c =
     let a = c.args in
-    let left = c.read_both-ready.new.1.1 in
     let was = was_read a.tabletext.now a.formulatext.now c.read_both-ready.new.table c.read_both-ready.new.formula c.read_both-ready.ensures c.in-Ready.is in
     asked_texts a.tabletext.now a.formulatext.now was a.automaton.now (omega arith) (omega arith) (omega arith) c.find.ensures
