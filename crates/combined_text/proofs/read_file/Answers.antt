@@ -3,7 +3,6 @@ use borrow.Author.Rules.{rules}
 use Rattle.explaining.proofs.BothTexts.{table-refused, table-read}
 use Rattle.combined_text.proofs.read_file.Goals as goal
 
--- `read_file` meets its contract: the refusal of the reading, or the table that was read, prepared.
 pub returns : goal.returns
 returns c =
     let a = c.args in

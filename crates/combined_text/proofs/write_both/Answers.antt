@@ -18,15 +18,21 @@ use Rattle.combined_text.proofs.write_both.Goals as goal
 
 pub returns-then-said-ne0 : goal.returns-then-said-ne0
 returns-then-said-ne0 c =
-    let said : Says (λ (u : Unit {0}). 0) (combine_replied c.args.first.now c.args.second.now (replicate table_length 0)) c.combine_answer-said.result = said_of c.combine_answer-said.ensures c.combine.ensures.result_value in
-    let refused-so : (h : BothHeld c.args.first.now c.args.second.now) → (c.combine_answer-said.result.number ≡ 0 → ⊥) → combining h.f h.s ≡ refusal c.combine_answer-said.result.number c.combine_answer-said.result.figure = λ h. combining-refused c.args.first.now c.args.second.now h (replicate table_length 0) (omega arith) c.combine_answer-said.result said in
+    let said : Says (λ (u : Unit {0}). 0) (combine_replied c.args.first.now c.args.second.now (replicate table_length 0))
+    c.combine_answer-said.result = said_of c.combine_answer-said.ensures c.combine.ensures.result_value in
+    let refused-so : (h : BothHeld c.args.first.now c.args.second.now) → (c.combine_answer-said.result.number ≡ 0 → ⊥) →
+    combining h.f h.s ≡ refusal c.combine_answer-said.result.number c.combine_answer-said.result.figure = λ h.
+    combining-refused c.args.first.now c.args.second.now h (replicate table_length 0) (omega arith) c.combine_answer-said.result said in
     λ h. subst (λ (r : Reply Table). TextWritten (unless_refused 0 r table_text) c.args.out.now c.write_refused.new.out c.write_refused.result)
     (sym (refused-so h (λ e. omega (arith, c.if-said-ne0.true)))) c.write_refused.ensures
 
 pub returns : goal.returns
 returns c =
-    let said : Says (λ (u : Unit {0}). 0) (combine_replied c.args.first.now c.args.second.now (replicate table_length 0)) c.combine_answer-said.result = said_of c.combine_answer-said.ensures c.combine.ensures.result_value in
-    let held : (h : BothHeld c.args.first.now c.args.second.now) → c.combine_answer-said.result.number ≡ 0 → CombinedHeld h.f h.s c.combine.new.combined = λ h zero. combining-held c.args.first.now c.args.second.now h (replicate table_length 0) (omega arith) c.combine_answer-said.result said zero _ c.combine.ensures.combined_after in
+    let said : Says (λ (u : Unit {0}). 0) (combine_replied c.args.first.now c.args.second.now (replicate table_length 0))
+    c.combine_answer-said.result = said_of c.combine_answer-said.ensures c.combine.ensures.result_value in
+    let held : (h : BothHeld c.args.first.now c.args.second.now) → c.combine_answer-said.result.number ≡ 0 →
+    CombinedHeld h.f h.s c.combine.new.combined = λ h zero.
+    combining-held c.args.first.now c.args.second.now h (replicate table_length 0) (omega arith) c.combine_answer-said.result said zero _ c.combine.ensures.combined_after in
     λ h. let x = held h (omega (arith, c.if-said-ne0.false)) in
     subst (λ (r : Reply Table). TextWritten (unless_refused 0 r table_text) c.args.out.now c.table_text.new.text c.text_answer-written.result.figure) (sym x.is)
     (text-left c.combine.new.combined x.t x.held c.args.out.now c.requires.1 c.text_answer-written.result

@@ -18,7 +18,8 @@ returns-then-two-ne0 c =
     let a = c.args in
     let x = first-held in
     let written = second-refused a.firstfile.now a.secondfile.now a.out.now _ _ x.t x.read _ _
-    (c.read_file-two.ensures.refused (λ e. omega (arith, c.if-two-ne0.true))) c.write_refused-then-two-ne0.ensures in record { text_written = written; prefix_length = written-counts written (omega arith) }
+    (c.read_file-two.ensures.refused (λ e. omega (arith, c.if-two-ne0.true))) c.write_refused-then-two-ne0.ensures in
+    record { text_written = written; prefix_length = written-counts written (omega arith) }
 
 pub write_both-requires : goal.write_both-requires
 write_both-requires c =

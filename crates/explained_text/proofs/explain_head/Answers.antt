@@ -7,7 +7,6 @@ use Rattle.lts.specs.Sizes.{table_length}
 use Rattle.explained_text.proofs.Replied.{replied}
 use Rattle.explained_text.proofs.explain_head.Goals as goal
 
--- `explain_head` meets its contract: what `explain` promises, of buffers that are long enough.
 pub slice_bounds-explain-end : goal.slice_bounds-explain-end
 slice_bounds-explain-end c =
     let a = c.args in

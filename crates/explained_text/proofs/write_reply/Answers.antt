@@ -9,10 +9,10 @@ use Rattle.explaining.specs.declared.ExplainReply.{ExplainReply}
 use Rattle.files.proofs.Counts.{written-counts}
 use Rattle.explained_text.proofs.write_reply.Goals as goal
 
--- `write_reply` meets its contract: the listing, or the refusal's line, and no more bytes than the buffer has.
 pub write_listing-requires : goal.write_listing-requires
 write_listing-requires c =
-    let few = subst (λ (r : ExplainReply). Few (explain_reply r)) c.in-Explained.is c.requires in record { row_length_in_bounds = (omega (arith, few.0), omega (arith, few.1), omega (arith, few.0)); edgecount_in_bounds = omega (arith, few.0, few.1) }
+    let few = subst (λ (r : ExplainReply). Few (explain_reply r)) c.in-Explained.is c.requires in
+    record { row_length_in_bounds = (omega (arith, few.0), omega (arith, few.1), omega (arith, few.0)); edgecount_in_bounds = omega (arith, few.0, few.1) }
 
 pub returns-in-Explained : goal.returns-in-Explained
 returns-in-Explained c =

@@ -8,7 +8,6 @@ use Rattle.lts.specs.Sizes.{table_length}
 use Rattle.explaining.proofs.Promised.{promised_refusal, promised_explanation, short-table, short-formula}
 use Rattle.explaining.proofs.explain.Goals as goal
 
--- `explain` meets its contract: 14 for a buffer that is too short, and else what `explain_into` answers and leaves.
 pub returns-then-table-lt-TABLE_LENGTH : goal.returns-then-table-lt-TABLE_LENGTH
 returns-then-table-lt-TABLE_LENGTH c =
     let a = c.args in

@@ -11,7 +11,6 @@ use Rattle.formula_line.specs.LineText.{written_back}
 use Rattle.formula_line.specs.inner.FileLine.{counted_line, file_line}
 use Rattle.formula_line.proofs.write_line_of.Goals as goal
 
--- `write_line_of` meets its contract: the line of what was read, with the length that was counted.
 pub slice_bounds-write_line-end : goal.slice_bounds-write_line-end
 slice_bounds-write_line-end c =
     let a = c.args in

@@ -9,7 +9,6 @@ use Rattle.deterministic.specs.SmallestAsked.{cleared}
 use Rattle.smallest.proofs.Laws.Zeros.{zero_more}
 use Rattle.smallest.proofs.clear.Given as goal
 
--- `clear` meets its contract: one byte more each turn.
 abbrev pub invariant-loop-i : goal.invariant-loop-i
 invariant-loop-i l = (l.i ≤ work_length) × (length l.work ≡ length l.initial.work) × (l.work ≡ overwritten (replicate l.i 0) l.initial.work)
 

@@ -4,7 +4,6 @@ use native.Mathlib.Omega.{arith}
 use Rattle.smallest.proofs.Laws.Entry.{short, short-table, short-formula, short_out, short-work, answered}
 use Rattle.smallest.proofs.smallest.Goals as goal
 
--- `smallest` meets its contract: 14 for each buffer, and else what is answered, with the work buffer cleared.
 pub returns-then-table-lt-TABLE_LENGTH : goal.returns-then-table-lt-TABLE_LENGTH
 returns-then-table-lt-TABLE_LENGTH c =
     let w = short _ _ _ _ _ _ _ (short-table _ _ _ _ _ _ c.if-table-lt-TABLE_LENGTH.true) in

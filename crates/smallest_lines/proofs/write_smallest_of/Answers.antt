@@ -11,7 +11,6 @@ use Rattle.smallest_lines.specs.SmallestText.{lent_smallest}
 use Rattle.smallest_lines.specs.inner.FileText.{counted_text, file_text}
 use Rattle.smallest_lines.proofs.write_smallest_of.Goals as goal
 
--- `write_smallest_of` meets its contract: the text of what was read, with the length that was counted.
 pub slice_bounds-write_text-end : goal.slice_bounds-write_text-end
 slice_bounds-write_text-end c =
     let a = c.args in

@@ -10,7 +10,8 @@ pub returns-then-said-ne0 : goal.returns-then-said-ne0
 returns-then-said-ne0 c =
     let call = c.write_refused in
     let a = c.args in
-    let written = refused-text a.tablefile.now a.text.now _ _ c.ask-said.ensures a.counted (λ e. omega (arith, c.if-said-ne0.true)) call.ensures in record { text_written = written; prefix_length = written-counts written (omega arith) }
+    let written = refused-text a.tablefile.now a.text.now _ _ c.ask-said.ensures a.counted (λ e. omega (arith, c.if-said-ne0.true)) call.ensures in
+    record { text_written = written; prefix_length = written-counts written (omega arith) }
 
 pub write_smallest-requires : goal.write_smallest-requires
 write_smallest-requires c =

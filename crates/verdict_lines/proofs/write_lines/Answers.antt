@@ -12,18 +12,21 @@ use Rattle.verdict_lines.proofs.write_lines.Goals as goal
 
 pub slice_bounds-starts-end : goal.slice_bounds-starts-end
 slice_bounds-starts-end c =
-    let fits : c.read_list-count.result ≤ length c.read_list-count.new.starts = omega (arith, c.requires.0, entries-count c.args.list.now, c.read_list-count.ensures.few, c.read_list-count.ensures.places) in
+    let fits : c.read_list-count.result ≤ length c.read_list-count.new.starts =
+    omega (arith, c.requires.0, entries-count c.args.list.now, c.read_list-count.ensures.few, c.read_list-count.ensures.places) in
     fits
 
 pub slice_bounds-ask-end : goal.slice_bounds-ask-end
 slice_bounds-ask-end c =
-    let fits : c.read_list-count.result ≤ length c.read_list-count.new.starts = omega (arith, c.requires.0, entries-count c.args.list.now, c.read_list-count.ensures.few, c.read_list-count.ensures.places) in
+    let fits : c.read_list-count.result ≤ length c.read_list-count.new.starts =
+    omega (arith, c.requires.0, entries-count c.args.list.now, c.read_list-count.ensures.few, c.read_list-count.ensures.places) in
     sym (length-take-le c.read_list-count.result c.read_list-count.new.starts (fits))
 
 pub returns-then-said-ne0 : goal.returns-then-said-ne0
 returns-then-said-ne0 c =
     let call = c.write_refused in
-    let written = refused-lines _ _ _ _ _ _ _ c.read_list-count.ensures c.ask-said.ensures _ (λ e. omega (arith, c.if-said-ne0.true)) call.ensures in record { text_written = written; prefix_length = written-counts written (omega arith) }
+    let written = refused-lines _ _ _ _ _ _ _ c.read_list-count.ensures c.ask-said.ensures _ (λ e. omega (arith, c.if-said-ne0.true)) call.ensures in
+    record { text_written = written; prefix_length = written-counts written (omega arith) }
 
 pub returns-then-count-entry_count : goal.returns-then-count-entry_count
 returns-then-count-entry_count c =
@@ -34,9 +37,11 @@ returns-then-count-entry_count c =
 
 pub write_answers-requires : goal.write_answers-requires
 write_answers-requires c =
-    let fits : c.read_list-count.result ≤ length c.read_list-count.new.starts = omega (arith, c.requires.0, entries-count c.args.list.now, c.read_list-count.ensures.few, c.read_list-count.ensures.places) in
+    let fits : c.read_list-count.result ≤ length c.read_list-count.new.starts =
+    omega (arith, c.requires.0, entries-count c.args.list.now, c.read_list-count.ensures.few, c.read_list-count.ensures.places) in
     let zero : c.ask-said.result.number ≡ 0 = omega (arith, c.if-said-ne0.false) in
-    let listed = was_listed _ _ _ _ _ _ _ c.read_list-count.ensures c.ask-said.ensures 0 (zero) in record { joint_bound = (listed.small, listed.few); count_in_bounds = (fits, omega (arith, listed.few, c.ask-said.auto.answers), c.requires.1) }
+    let listed = was_listed _ _ _ _ _ _ _ c.read_list-count.ensures c.ask-said.ensures 0 (zero) in
+    record { joint_bound = (listed.small, listed.few); count_in_bounds = (fits, omega (arith, listed.few, c.ask-said.auto.answers), c.requires.1) }
 
 pub returns : goal.returns
 returns c =

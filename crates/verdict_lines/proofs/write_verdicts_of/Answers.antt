@@ -12,7 +12,6 @@ use Rattle.verdict_text.specs.inner.Sizes.{list_length}
 use Rattle.verdict_lines.specs.inner.FileLines.{counted_lines, file_lines}
 use Rattle.verdict_lines.proofs.write_verdicts_of.Goals as goal
 
--- `write_verdicts_of` meets its contract: the lines of what was read, with the length that was counted.
 pub slice_bounds-write_lines-end : goal.slice_bounds-write_lines-end
 slice_bounds-write_lines-end c =
     let a = c.args in

@@ -3,7 +3,6 @@ use borrow.Author.Rules.{rules}
 use Rattle.explaining.proofs.Answers.{said_of}
 use Rattle.explainer.proofs.exports.explainer_combine.Goals as goal
 
--- `explainer_combine` meets its contract: what is said of the tables that were combined, and what is left of the third buffer.
 pub returns : goal.returns
 returns c =
     let line = c.combine in

@@ -3,7 +3,6 @@ use borrow.Author.Rules.{rules}
 use Rattle.explaining.proofs.Answers.{said_of}
 use Rattle.explainer.proofs.exports.explainer_read_formula.Goals as goal
 
--- `explainer_read_formula` meets its contract: what is said of the formula that was read, and what is left of its buffer.
 pub returns : goal.returns
 returns c =
     let read = c.read_formula in

@@ -3,7 +3,6 @@ use borrow.Author.Rules.{rules}
 use Rattle.explaining.proofs.Answers.{said_of}
 use Rattle.explainer.proofs.exports.explainer_read_table.Goals as goal
 
--- `explainer_read_table` meets its contract: what is said of the table that was read, and what is left of its buffer.
 pub returns : goal.returns
 returns c =
     let read = c.read_table in

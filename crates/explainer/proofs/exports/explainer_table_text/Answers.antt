@@ -3,7 +3,6 @@ use borrow.Author.Rules.{rules}
 use Rattle.explaining.proofs.Answers.{said_of}
 use Rattle.explainer.proofs.exports.explainer_table_text.Goals as goal
 
--- `explainer_table_text` meets its contract: what is said of the text that was written, and what is left of its buffer.
 pub returns : goal.returns
 returns c =
     let line = c.table_text in

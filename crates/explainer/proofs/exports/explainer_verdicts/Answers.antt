@@ -3,7 +3,6 @@ use borrow.Author.Rules.{rules}
 use Rattle.explaining.proofs.Answers.{said_of}
 use Rattle.explainer.proofs.exports.explainer_verdicts.Goals as goal
 
--- `explainer_verdicts` meets its contract: what is said of the list, and what is left of its buffer.
 pub returns : goal.returns
 returns c =
     let list = c.verdicts in

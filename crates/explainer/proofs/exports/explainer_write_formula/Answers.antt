@@ -3,7 +3,6 @@ use borrow.Author.Rules.{rules}
 use Rattle.explaining.proofs.Answers.{said_of}
 use Rattle.explainer.proofs.exports.explainer_write_formula.Goals as goal
 
--- `explainer_write_formula` meets its contract: what is said of the text that was written, and what is left of its buffer.
 pub returns : goal.returns
 returns c =
     let line = c.write_formula in

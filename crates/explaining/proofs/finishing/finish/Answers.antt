@@ -5,7 +5,6 @@ use native.Mathlib.Omega.{arith}
 use Rattle.explaining.proofs.Ending.{both_hold, refused_said, row-there, explained_said, copied}
 use Rattle.explaining.proofs.finishing.finish.Goals as goal
 
--- `finish` meets its contract: a refusal of building leaves the prepared bytes where they are; else they are copied.
 pub built-reply-requires : goal.built-reply-requires
 built-reply-requires c =
     let (x, held) = c.requires.holds_both in let w = both_hold c.args.t.now c.args.f.now x held in
