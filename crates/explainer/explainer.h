@@ -1,5 +1,5 @@
 /* The sequence explainer, for C and C++. Link libexplainer.a (`bin/build library`; `bin/install PREFIX` puts it with a pkg-config file
-   where a build finds it). It needs memcpy and memset of the C library, and nothing else.
+   where a build finds it). It needs memcpy, memmove and memset of the C library, and nothing else.
 
    RETURN. Each function returns 0 if it accepts, or the number of a refusal, and writes *figure: of a refusal its figure, else a value that
    each function names. A refusal leaves every lent byte and every other value as it was, but for a work buffer. Every call returns, on every
