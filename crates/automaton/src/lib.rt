@@ -2,3 +2,10 @@
 #![tactic(auto)]
 
 pub mod sizes;
+
+// How many rows and edges an automaton has, or were found of it so far.
+#[derive(Clone, Copy)]
+pub struct Totals {
+    pub rows: usize,
+    pub edges: usize,
+}

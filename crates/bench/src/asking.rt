@@ -7,7 +7,7 @@ use explaining::explain;
 use explanations::sizes::{EDGES_LENGTH, ROWS_LENGTH, TEXT_LENGTH};
 use lts::sizes::TABLE_LENGTH;
 use std::io;
-use words::{WordReply, accepts};
+use words::{WordRefusal, accepts};
 
 fn print_letters(rt: &impl Print, letters: &[u8]) -> io::Result<()> {
     for letter in letters {
@@ -16,11 +16,11 @@ fn print_letters(rt: &impl Print, letters: &[u8]) -> io::Result<()> {
     Ok(())
 }
 
-fn print_answer(rt: &impl Print, reply: WordReply) -> io::Result<()> {
+fn print_answer(rt: &impl Print, reply: Result<bool, WordRefusal>) -> io::Result<()> {
     match reply {
-        WordReply::Accepted => rt.write_all(b": 1\n"),
-        WordReply::NotAccepted => rt.write_all(b": 0\n"),
-        _ => rt.write_all(b": refused\n"),
+        Ok(true) => rt.write_all(b": 1\n"),
+        Ok(false) => rt.write_all(b": 0\n"),
+        Err(_) => rt.write_all(b": refused\n"),
     }
 }
 
@@ -36,14 +36,12 @@ fn word_end(words: &[u8], from: usize) -> usize
     requires { from < length words.now }
     ensures { (from ≤ result) × (result ≤ length words.now) }
 {
-    let mut i = from;
-    while i < words.len() {
+    for i in from..words.len() {
         if words[i] == 255 {
             return i;
         }
-        i += 1;
     }
-    i
+    words.len()
 }
 
 fn ask(rt: &impl Print, table: &[u8], formula: &[u8], words: &[u8]) -> io::Result<()> {

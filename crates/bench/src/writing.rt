@@ -1,7 +1,8 @@
 // Text to standard output; what `explain` answered, as text.
-use explaining::ExplainReply;
+use explaining::explained::Explained;
 use explanations::sizes::{EDGES_LENGTH, ROWS_LENGTH, TEXT_LENGTH};
 use listing_text::{write_listing, write_refusal};
+use replies::Answer;
 use std::io;
 
 fn print_start(rt: &impl Print, text: &[u8], end: usize) -> io::Result<()> {
@@ -13,25 +14,19 @@ fn print_start(rt: &impl Print, text: &[u8], end: usize) -> io::Result<()> {
 
 // Counts above what was lent are no answer of `explain`; nothing is written of such.
 fn write_explained(
-    verdict: u64,
-    class: u64,
-    rowcount: u64,
-    edgecount: u64,
+    explained: Explained,
     rows: &[u8; ROWS_LENGTH],
     edges: &[u8; EDGES_LENGTH],
     out: &mut [u8; TEXT_LENGTH],
 ) -> usize {
-    if rowcount > 1024 {
-        return 0;
-    }
-    if edgecount > 4096 {
+    if explained.rows > 1024 || explained.edges > 4096 {
         return 0;
     }
     write_listing(
-        verdict,
-        class,
-        rowcount as usize,
-        edgecount as usize,
+        explained.verdict,
+        explained.class,
+        explained.rows as usize,
+        explained.edges as usize,
         rows,
         edges,
         out,
@@ -40,22 +35,20 @@ fn write_explained(
 
 // Writes the listing or the refusal's line at the start of `out`, and answers its length.
 fn write_reply(
-    reply: ExplainReply,
+    reply: Result<Explained, Answer>,
     rows: &[u8; ROWS_LENGTH],
     edges: &[u8; EDGES_LENGTH],
     out: &mut [u8; TEXT_LENGTH],
 ) -> usize {
     match reply {
-        ExplainReply::Refused(number, figure) => write_refusal(number, figure, out),
-        ExplainReply::Explained(verdict, class, rowcount, edgecount) => {
-            write_explained(verdict, class, rowcount, edgecount, rows, edges, out)
-        }
+        Ok(explained) => write_explained(explained, rows, edges, out),
+        Err(refused) => write_refusal(refused.number, refused.figure, out),
     }
 }
 
 pub fn print_reply(
     rt: &impl Print,
-    reply: ExplainReply,
+    reply: Result<Explained, Answer>,
     rows: &[u8; ROWS_LENGTH],
     edges: &[u8; EDGES_LENGTH],
     out: &mut [u8; TEXT_LENGTH],

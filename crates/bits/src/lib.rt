@@ -1,8 +1,25 @@
-// Going through the places of a mask, a number of 64 bits, from the lowest on.
+// The places of a mask, a number of 64 bits: whether it has one, one alone, and going through them from the lowest on.
 #![tactic(auto)]
 
-ghost use Rattle.std.specs.Prelude.{◌≡◌, ◌-◌, ◌^◌};
+ghost use Rattle.std.specs.Prelude.{◌≡◌, ◌-◌, ◌^◌, ◌<◌};
 ghost use Rattle.std.specs.Int.Count.{count_trailing_zeros};
+ghost use Rattle.bits.specs.inner.Bits.{bit_at};
+
+// Whether place k is in a mask.
+pub fn has(mask: u64, k: usize) -> bool
+    requires { k < 64 }
+    ensures { result ≡ bit_at mask k }
+{
+    (mask >> k) % 2 == 1
+}
+
+// The mask that has place k alone.
+pub fn bit(k: usize) -> u64
+    requires { k < 64 }
+    ensures { result ≡ 2 ^ k }
+{
+    1u64 << k
+}
 
 // The lowest place of a mask that has one.
 pub fn lowest(mask: u64) -> usize

@@ -3,15 +3,9 @@ ghost use Rattle.std.specs.Prelude.{◌≡◌, cond, ◌+◌, ◌*◌, ◌<◌, 
 ghost use Rattle.deterministic.specs.Sizes.{most_sets, most_letters};
 ghost use Rattle.block_numbers.specs.inner.Found.{Inside, Fits, added, Rows, Within, leads, taken, taken_from, count_from, IsFound};
 
+use automaton::Totals;
 use deterministic::sizes::{LETTERS, NEXT, SETS};
 use table_steps::wide;
-
-// The rows and the edges so far.
-#[derive(Drop)]
-pub struct Totals {
-    pub rows: usize,
-    pub edges: usize,
-}
 
 // A block becomes the last row, if it is none yet.
 fn enter(rows: &mut [u16; SETS], numbers: &mut [u16; SETS], block: usize, count: usize) -> usize
@@ -79,12 +73,11 @@ fn find_row(
     ensures edges_value { result.edges ≡ t.edges + count_from next.now blocks.now n (get_or rows.old i 0 * most_letters) columns }
 {
     let block = wide(rows[i]);
-    let mut at = block * LETTERS;
-    let end = at + columns;
+    let first = block * LETTERS;
+    let end = first + columns;
     let mut totals = t;
-    while at < end {
+    for at in first..end {
         totals = find_step(next, blocks, rows, numbers, n, at, totals);
-        at += 1;
     }
     totals
 }

@@ -3,7 +3,6 @@ pub mod Bytes
 pub mod Columns
 pub mod ColumnsRead
 pub mod Compared
-pub mod Copying
 pub mod Decimal
 pub mod Figures
 pub mod Kept

@@ -11,10 +11,8 @@ pub fn keep_columns(kept: &mut [u8], count: usize)
     requires { (count ≤ 10000) × (count * 6 ≤ length kept.old) }
     ensures { ColumnsKept count kept.new }
 {
-    let mut n: usize = 0;
-    while n < count {
+    for n in 0..count {
         write_small(n, kept, n * 6);
-        n += 1;
     }
 }
 
@@ -24,16 +22,5 @@ pub fn copy_column(kept: &[u8], n: usize, out: &mut [u8], at: usize)
     ensures { out.new ≡ pasted out.old at (column n) }
 {
     let i = n * 6;
-    let first = kept[i];
-    let second = kept[i + 1];
-    let third = kept[i + 2];
-    let fourth = kept[i + 3];
-    let fifth = kept[i + 4];
-    let sixth = kept[i + 5];
-    out[at] = first;
-    out[at + 1] = second;
-    out[at + 2] = third;
-    out[at + 3] = fourth;
-    out[at + 4] = fifth;
-    out[at + 5] = sixth;
+    out[at..at + 6].copy_from_slice(&kept[i..i + 6]);
 }

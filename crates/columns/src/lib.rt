@@ -12,19 +12,11 @@ ghost use Rattle.columns.specs.inner.Read.{column_at, lead};
 
 use crate::small::small_at;
 
-// What six columns hold: a number, if they are its column.
-#[derive(Drop)]
-pub enum Column {
-    Number(usize),
-    Bad,
-}
-
 // A byte that is no digit may give any number here: whether the bytes are a column is tested by `is_column`.
 fn digit(b: u8) -> usize
     ensures { (result ≡ b - 48) × (result < 208) }
 {
-    let n = b as usize;
-    if n < 48 { 0 } else { n - 48 }
+    (b as usize).saturating_sub(48)
 }
 
 fn value_at(text: &[u8], at: usize) -> usize
@@ -32,18 +24,17 @@ fn value_at(text: &[u8], at: usize) -> usize
     ensures { result ≡ value_at at text.now }
 {
     let mut n: usize = 0;
-    let mut i: usize = 0;
-    while i < 6 {
+    for i in 0..6 {
         n = n * 10 + digit(text[at + i]);
-        i += 1;
     }
     n
 }
 
-fn leading(n: usize) -> usize
+// A figure before the last one, if n is what the digits behind it leave: a blank, if that is nothing.
+fn leading(n: usize) -> u8
     ensures { result ≡ lead n }
 {
-    if n == 0 { 32 } else { 48 + n % 10 }
+    if n == 0 { 32 } else { (48 + n % 10) as u8 }
 }
 
 // Whether the six bytes at `at` are the column of v, compared from the last one.
@@ -55,38 +46,30 @@ fn is_column(text: &[u8], at: usize, v: usize) -> bool
         return false;
     }
     let mut n = v / 10;
-    let mut i: usize = 5;
-    while 0 < i {
-        i -= 1;
-        if text[at + i] as usize != leading(n) {
+    for i in (0..5).rev() {
+        if text[at + i] != leading(n) {
             return false;
         }
-        n = n / 10;
+        n /= 10;
     }
     true
 }
 
-// The number in the six columns at `at`.
-pub fn read_column(text: &[u8], at: usize) -> Column
+// The number in the six columns at `at`, if they are its column.
+pub fn read_column(text: &[u8], at: usize) -> Option<usize>
     ensures { result ≡ column_at text.now at }
 {
-    if text.len() < 6 {
-        return Column::Bad;
-    }
-    if text.len() - 6 < at {
-        return Column::Bad;
+    if text.len() < 6 || text.len() - 6 < at {
+        return None;
     }
     let small = small_at(text, at);
     if small < 1000 {
-        return Column::Number(small);
+        return Some(small);
     }
     let v = value_at(text, at);
-    if 1000000 <= v {
-        return Column::Bad;
-    }
-    if is_column(text, at, v) {
-        Column::Number(v)
+    if v < 1000000 && is_column(text, at, v) {
+        Some(v)
     } else {
-        Column::Bad
+        None
     }
 }

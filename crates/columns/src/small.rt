@@ -2,19 +2,12 @@
 ghost use Rattle.std.specs.Prelude.{◌≡◌, ◌+◌, ◌*◌, ◌<◌, ◌≤◌, length, get_or};
 ghost use Rattle.columns.specs.inner.Small.{four_of, least_small, DigitsOf, SmallIn, SmallAt};
 
-fn wide(byte: u8) -> usize
-    ensures value { result ≡ byte }
-    ensures upper_bound { result < 256 }
-{
-    byte as usize
-}
-
 // The first two of the six bytes at `at`, as one number.
 fn first_two(text: &[u8], at: usize) -> usize
     requires { at + 6 ≤ length text.now }
     ensures { result ≡ get_or text.now at 0 * 256 + get_or text.now (at + 1) 0 }
 {
-    wide(text[at]) * 256 + wide(text[at + 1])
+    usize::from(text[at]) * 256 + usize::from(text[at + 1])
 }
 
 // The last four. Each byte is put behind those before it: this becomes one load.
@@ -23,9 +16,9 @@ fn last_four(text: &[u8], at: usize) -> usize
     ensures { result ≡ four_of (get_or text.now (at + 2) 0) (get_or text.now (at + 3) 0) (get_or text.now (at + 4) 0)
         (get_or text.now (at + 5) 0) }
 {
-    let two = wide(text[at + 2]) * 256 + wide(text[at + 3]);
-    let three = two * 256 + wide(text[at + 4]);
-    three * 256 + wide(text[at + 5])
+    let two = usize::from(text[at + 2]) * 256 + usize::from(text[at + 3]);
+    let three = two * 256 + usize::from(text[at + 4]);
+    three * 256 + usize::from(text[at + 5])
 }
 
 // As many zeros as a number has digits, and what the largest number of that many digits has above them.

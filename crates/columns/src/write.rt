@@ -2,8 +2,9 @@
 ghost use Rattle.std.specs.Prelude.{◌≡◌, ◌+◌, ◌≤◌, ◌<◌, length, take};
 ghost use Rattle.columns.specs.Columns.{column};
 ghost use Rattle.columns.specs.Lines.{numbers_line};
-ghost use Rattle.columns.specs.inner.Read.{lead};
 ghost use Rattle.columns.specs.inner.Write.{Spread, pasted};
+
+use crate::leading;
 
 // A number's column: the bytes from `from` on.
 #[derive(Drop)]
@@ -22,15 +23,12 @@ fn spread(n: u64) -> Figures
     while 0 < rest {
         from -= 1;
         bytes[from] = (48 + rest % 10) as u8;
-        rest = rest / 10;
+        rest /= 10;
     }
     if 14 < from {
         from = 14;
     }
-    Figures {
-        bytes: bytes,
-        from: from,
-    }
+    Figures { bytes, from }
 }
 
 // Writes n in six columns, or in as many as it has digits, at `at`, and answers where they end.
@@ -40,15 +38,10 @@ fn write_column(n: u64, out: &mut [u8], at: usize) -> usize
     ensures out_after { out.new ≡ pasted out.old at (column n) }
     ensures upper_bound { result ≤ at + 20 }
 {
-    let figures = spread(n);
-    let from = figures.from;
-    let bytes = figures.bytes;
-    let mut i: usize = 0;
-    while i < 20 - from {
-        out[at + i] = bytes[from + i];
-        i += 1;
-    }
-    at + (20 - from)
+    let Figures { bytes, from } = spread(n);
+    let end = at + (20 - from);
+    out[at..end].copy_from_slice(&bytes[from..]);
+    end
 }
 
 // Writes the first `count` of the values as a line of numbers at `at`, and answers where the line ends.
@@ -59,20 +52,11 @@ pub fn write_numbers(values: [u64; 4], count: usize, out: &mut [u8], at: usize) 
     ensures upper_bound { result ≤ at + 81 }
 {
     let mut end = at;
-    let mut i: usize = 0;
-    while i < count {
+    for i in 0..count {
         end = write_column(values[i], out, end);
-        i += 1;
     }
     out[end] = 10;
     end + 1
-}
-
-// A figure before the last one, if n is what the digits behind it leave: a blank, if that is nothing.
-fn lead_byte(n: usize) -> u8
-    ensures { result ≡ lead n }
-{
-    if n == 0 { 32 } else { (48 + n % 10) as u8 }
 }
 
 // Writes n, which is below 10,000, in six columns at `at`.
@@ -80,13 +64,13 @@ pub fn write_small(n: usize, out: &mut [u8], at: usize)
     requires { (n < 10000) × (at + 6 ≤ length out.old) }
     ensures { out.new ≡ pasted out.old at (column n) }
 {
-    let thousands = lead_byte(n / 1000);
-    let hundreds = lead_byte(n / 100);
-    let tens = lead_byte(n / 10);
-    out[at] = 32;
-    out[at + 1] = 32;
-    out[at + 2] = thousands;
-    out[at + 3] = hundreds;
-    out[at + 4] = tens;
-    out[at + 5] = (48 + n % 10) as u8;
+    let figures = [
+        32,
+        32,
+        leading(n / 1000),
+        leading(n / 100),
+        leading(n / 10),
+        (48 + n % 10) as u8,
+    ];
+    out[at..at + 6].copy_from_slice(&figures);
 }

@@ -11,7 +11,7 @@ ghost use Rattle.combined_text.specs.inner.Reading.{FileRead, BothHeld, BothWrit
 use columns::write::write_numbers;
 use combine::combine;
 use lts::sizes::{LONGEST_TABLE_TEXT, TABLE_LENGTH};
-use replies::{Answer, table_answer};
+use replies::{Answer, accepted, table_answer};
 use table_text::read_table;
 use writing_replies::{combine_answer, text_answer};
 
@@ -27,11 +27,11 @@ fn write_refused(file: u64, number: u32, figure: u64, out: &mut [u8]) -> usize
 }
 
 // Reads a file's table.
-fn read_file(file: &[u8], table: &mut [u8]) -> Answer
+fn read_file(file: &[u8], table: &mut [u8]) -> Result<u64, Answer>
     requires { length table.old ≡ table_length }
     ensures { FileRead file.now table.new result }
 {
-    table_answer(read_table(file, table))
+    accepted(table_answer(read_table(file, table)))
 }
 
 // Two prepared tables, combined and written.
@@ -41,8 +41,9 @@ fn write_both(first: &[u8], second: &[u8], out: &mut [u8]) -> usize
 {
     let mut combined = [0u8; TABLE_LENGTH];
     let said = combine_answer(combine(first, second, &mut combined));
-    if said.number != 0 {
-        return write_refused(0, said.number, said.figure, out);
+    match accepted(said) {
+        Ok(_) => {}
+        Err(refused) => return write_refused(0, refused.number, refused.figure, out),
     }
     let written = text_answer(write_table::table_text(&combined, out));
     written.figure as usize
@@ -55,14 +56,14 @@ fn write_files(firstfile: &[u8], secondfile: &[u8], out: &mut [u8]) -> usize
     ensures prefix_length { PrefixLength result out.new }
 {
     let mut first = [0u8; TABLE_LENGTH];
-    let one = read_file(firstfile, &mut first);
-    if one.number != 0 {
-        return write_refused(1, one.number, one.figure, out);
+    match read_file(firstfile, &mut first) {
+        Ok(_) => {}
+        Err(one) => return write_refused(1, one.number, one.figure, out),
     }
     let mut second = [0u8; TABLE_LENGTH];
-    let two = read_file(secondfile, &mut second);
-    if two.number != 0 {
-        return write_refused(2, two.number, two.figure, out);
+    match read_file(secondfile, &mut second) {
+        Ok(_) => {}
+        Err(two) => return write_refused(2, two.number, two.figure, out),
     }
     write_both(&first, &second, out)
 }

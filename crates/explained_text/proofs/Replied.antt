@@ -2,6 +2,7 @@
 use mathlib.Core.Path.{◌≡◌, refl, sym, ◌∙◌, subst}
 use mathlib.Core.List.{List, []}
 use Prim.Native.Nat.{ℕ, ◌≤◌}
+use Rattle.std.proofs.Common.{Result}
 use native.Mathlib.Omega.{arith}
 use lib.ListN.{length}
 use Rattle.actl.specs.Sizes.{formula_length}
@@ -20,7 +21,8 @@ use Rattle.explained_text.specs.inner.Replied.{Replied}
 use Rattle.files.specs.inner.Writing.{reply_text, Few}
 use Rattle.explanations.specs.Printed.{printed}
 use Rattle.explanations.specs.inner.Printed.{with_length}
-use Rattle.explaining.specs.declared.ExplainReply.{ExplainReply}
+use Rattle.explaining.specs.declared.explained.Explained.{Explained}
+use Rattle.replies.specs.declared.Answer.{Answer}
 use Rattle.explanations.proofs.Demands.{Accepted, explanation-accepted}
 use Rattle.explaining.specs.Outcome.{Outcome}
 use Rattle.explaining.proofs.Into.{same_outcome}
@@ -32,7 +34,7 @@ module _ (table_text text rows edges : List ℕ) where
   E = explanation table_text text rows edges
 
   pub replied : {table formula : List ℕ} → table_length ≤ length table → formula_length ≤ length formula
-      → {r : ExplainReply} {table' formula' rows' edges' : List ℕ}
+      → {r : Result Explained Answer} {table' formula' rows' edges' : List ℕ}
       → Outcome (explaining table_text text table formula rows edges) r table table' formula formula' rows rows' edges edges'
       → Replied table_text text r rows rows' edges edges'
   replied {table} {formula} long wide s =
@@ -49,7 +51,7 @@ module _ (table_text text rows edges : List ℕ) where
       subst (λ (L : Listing). SmallEdges L) (sym a.is-listing)
       (small-edges e.table e.formula (text-of-read table_text e.table a.read_table_lem).1 (formed-has-class form) form.few)
 
-  module _ {r : ExplainReply} {rows' edges' : List ℕ} (told : Replied table_text text r rows rows' edges edges') where
+  module _ {r : Result Explained Answer} {rows' edges' : List ℕ} (told : Replied table_text text r rows rows' edges edges') where
     pub few-counts : length rows ≡ rows_length → length edges ≡ edges_length → Few (explain_reply r)
     few-counts i j = subst Few (sym told.reply) (by E refl)
       where

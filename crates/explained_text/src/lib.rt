@@ -2,8 +2,6 @@
 // what crate `files` keeps.
 #![tactic(auto)]
 
-ghost use Rattle.std.specs.Prelude.{◌≤◌, take};
-ghost use Rattle.explanations.specs.inner.Sizes.{kept_length};
 ghost use Rattle.explanations.specs.inner.Printed.{TextWritten};
 ghost use Rattle.explaining.specs.Replies.{explain_reply};
 ghost use Rattle.files.specs.inner.Files.{files_text};
@@ -11,14 +9,16 @@ ghost use Rattle.files.specs.inner.Writing.{reply_text, Few, PrefixLength};
 ghost use Rattle.explained_text.specs.inner.Replied.{Replied};
 
 use actl::sizes::FORMULA_LENGTH;
-use explaining::{ExplainReply, explain};
+use explaining::explain;
+use explaining::explained::Explained;
 use explanations::sizes::{EDGES_LENGTH, KEPT, ROWS_LENGTH, TEXT_LENGTH};
-use files::{Scanned, least, text_length, write_refused};
+use files::{Scanned, kept_text, text_length, write_refused};
 use listing_text::write_listing;
 use lts::sizes::TABLE_LENGTH;
+use replies::Answer;
 
 fn write_reply(
-    reply: ExplainReply,
+    reply: Result<Explained, Answer>,
     length: usize,
     rows: &[u8; ROWS_LENGTH],
     edges: &[u8; EDGES_LENGTH],
@@ -30,42 +30,32 @@ fn write_reply(
     ensures prefix_length { PrefixLength result out.new }
 {
     match reply {
-        ExplainReply::Explained(verdict, class, rowcount, edgecount) => write_listing(
-            verdict,
-            class,
-            rowcount as usize,
-            edgecount as usize,
+        Ok(explained) => write_listing(
+            explained.verdict,
+            explained.class,
+            explained.rows as usize,
+            explained.edges as usize,
             rows,
             edges,
             out,
         ),
-        ExplainReply::Refused(number, figure) => write_refused(number, figure, length, out),
+        Err(refused) => write_refused(refused.number, refused.figure, length, out),
     }
 }
 
-// Explains the table and the first `n` bytes of the formula's text into places of the program's lengths.
+// Explains the table and the formula's text into places of the program's lengths.
 fn explain_head(
     tablefile: &[u8],
-    head: &[u8; KEPT],
-    n: usize,
+    text: &[u8],
     rows: &mut [u8],
     edges: &mut [u8],
-) -> ExplainReply
-    requires { n ≤ kept_length }
-    ensures { Replied tablefile.now (take n head.now) result
+) -> Result<Explained, Answer>
+    ensures { Replied tablefile.now text.now result
         rows.old rows.new edges.old edges.new }
 {
     let mut table = [0u8; TABLE_LENGTH];
     let mut formula = [0u8; FORMULA_LENGTH];
-    let whole = &head[..];
-    explain(
-        tablefile,
-        &whole[..n],
-        &mut table,
-        &mut formula,
-        rows,
-        edges,
-    )
+    explain(tablefile, text, &mut table, &mut formula, rows, edges)
 }
 
 // Writes what the program writes at the start of `out`, and answers its length.
@@ -81,7 +71,7 @@ pub fn explain_files(
     let mut rows = [0u8; ROWS_LENGTH];
     let mut edges = [0u8; EDGES_LENGTH];
     let length = text_length(scanned);
-    let n = least(length, KEPT);
-    let reply = explain_head(tablefile, head, n, &mut rows, &mut edges);
+    let text = kept_text(head, length);
+    let reply = explain_head(tablefile, text, &mut rows, &mut edges);
     write_reply(reply, length, &rows, &edges, out)
 }

@@ -1,6 +1,7 @@
 -- What the C function of `explain` returns, writes and leaves, out of the promise of `explain`.
 use mathlib.Core.List.{List}
 use Prim.Native.Nat.{ℕ}
+use Rattle.std.proofs.Common.{Result}
 use Rattle.lts.specs.Reply.{Reply}
 use Rattle.explanations.specs.Explanation.{Summary, explaining}
 use Rattle.replies.specs.inner.Says.{Says}
@@ -9,11 +10,11 @@ use Rattle.explainer.specs.Interface.{Returned}
 use Rattle.explaining.specs.Promise.{Promise}
 use Rattle.explaining.specs.Replies.{explain_reply}
 use Rattle.explaining.specs.inner.Values.{ValuesLeft}
-use Rattle.explaining.specs.declared.ExplainReply.{ExplainReply}
+use Rattle.explaining.specs.declared.explained.Explained.{Explained}
 use Rattle.explaining.specs.declared.explained.Values.{Values}
 use Rattle.explaining.proofs.Answers.{said_of, kept_of}
 
-module _ {table_text formula_text table table' formula formula' rows rows' edges edges' : List ℕ} {r : ExplainReply}
+module _ {table_text formula_text table table' formula formula' rows rows' edges edges' : List ℕ} {r : Result Explained Answer}
     (p : Promise table_text formula_text table table' formula formula' rows rows' edges edges' r) where
   pub returned : {a : Answer} → Says (λ s. s.rows) (explain_reply r) a → {before after : Values} → ValuesLeft (explain_reply r) before after
       → Returned (explaining table_text formula_text table formula rows edges) a.number a.figure

@@ -1,10 +1,11 @@
 -- What the C function of `explain` returns, writes and leaves.
-use Rattle.std.specs.Prelude.{◌≡◌, List, ℕ}
+use Rattle.std.specs.Prelude.{◌≡◌, List, ℕ, Result}
 use Rattle.lts.specs.Reply.{Reply}
 use Rattle.explanations.specs.Explanation.{Explanation, explain_replied, table_explained, formula_explained, rows_explained, edges_explained}
 use Rattle.replies.specs.Interface.{number_in, figure_in, kept_in}
 use Rattle.explaining.specs.Promise.{Promise}
-use Rattle.explaining.specs.declared.ExplainReply.{ExplainReply}
+use Rattle.explaining.specs.declared.explained.Explained.{Explained}
+use Rattle.replies.specs.declared.Answer.{Answer}
 
 -- "accepted, `*figure` is the row count and the three others are written; refused, `*figure` is the figure and the others stay"
 -- The number and the figure; verdict, class and count of edges, before and after; each lent buffer, before and after.
@@ -22,4 +23,4 @@ pub record Returned (e : Reply Explanation) (number figure verdict verdict' clas
 -- And all that `explain` promises, of some reply with this number and these values (`outcome` says which).
 abbrev pub Promised : (table_text formula_text table table' formula formula' rows rows' edges edges' : List ℕ) → Type 0
 Promised table_text formula_text table table' formula formula' rows rows' edges edges' =
-    (r : ExplainReply) × Promise table_text formula_text table table' formula formula' rows rows' edges edges' r
+    (r : Result Explained Answer) × Promise table_text formula_text table table' formula formula' rows rows' edges edges' r

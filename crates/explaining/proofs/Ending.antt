@@ -6,6 +6,7 @@ use Prim.Native.Nat.{ℕ, ◌≤◌}
 use native.Mathlib.Omega.{arith}
 use lib.ListN.{length, take, drop}
 use lib.Seq.{take-length}
+use Rattle.std.proofs.Common.{Result, Ok, Err}
 use Rattle.lts.specs.Reply.{Reply, accepted, refusal, overwritten, left_in, answers}
 use Rattle.lts.specs.Steps.{Table, labels}
 use Rattle.lts.specs.inner.Range.{InRange}
@@ -27,8 +28,9 @@ use Rattle.automaton.specs.Build.{fitted, counts}
 use Rattle.automaton.proofs.Accepted.{prepared_in_range, formed-has-class, fitted-accepted}
 use Rattle.building.specs.Replies.{build_reply}
 use Rattle.building.specs.inner.LaidOut.{LaidOut}
-use Rattle.building.specs.declared.BuildReply.{BuildReply}
-use Rattle.building.specs.declared.BuildReply.TheVariants as replies
+use Rattle.automaton.specs.declared.Totals.{Totals}
+use Rattle.building.specs.declared.BuildRefusal.{BuildRefusal}
+use Rattle.building.specs.declared.BuildRefusal.TheVariants as refused
 use Rattle.replies.specs.Interface.{edges_in}
 use Rattle.replies.specs.inner.Says.{Says}
 use Rattle.replies.specs.declared.Answer.{Answer}
@@ -36,7 +38,6 @@ use Rattle.explanations.specs.Explanation.{Explanation}
 use Rattle.explanations.specs.inner.BothTexts.{Read, HoldsBoth, listing_of, ClassIn}
 use Rattle.explaining.specs.Outcome.{Outcome}
 use Rattle.explaining.specs.inner.Told.{verdict_told}
-use Rattle.explaining.specs.declared.ExplainReply.TheVariants.{Explained, Refused}
 use Rattle.explaining.proofs.Answers.{said_of, kept_of}
 use Rattle.explaining.proofs.Into.{same_outcome}
 use Rattle.explaining.proofs.Told.{some_row_lem, verdict-told}
@@ -47,11 +48,11 @@ unprepared-not-zero TableForeign e = omega arith
 unprepared-not-zero FormulaForeign e = omega arith
 unprepared-not-zero (BufferShort needed) e = omega arith
 
-never_zero : (b : BuildReply) (n g : ℕ) → build_reply b ≡ refusal n g → n ≡ 0 → ⊥
-never_zero (replies.Built m k) n g e z = let q : ◌≡◌ {A = ℕ} 0 1 = cc in omega arith
-never_zero (replies.RowsShort m) n g e z = let q : 11 ≡ n = cc in omega arith
-never_zero (replies.EdgesShort m) n g e z = let q : 12 ≡ n = cc in omega arith
-never_zero (replies.Refused why) n g e z = let q : unprepared_number why ≡ n = cc in unprepared-not-zero why (q ∙ z)
+never_zero : (b : Result Totals BuildRefusal) (n g : ℕ) → build_reply b ≡ refusal n g → n ≡ 0 → ⊥
+never_zero (Ok m) n g e z = let q : ◌≡◌ {A = ℕ} 0 1 = cc in omega arith
+never_zero (Err (refused.RowsShort m)) n g e z = let q : 11 ≡ n = cc in omega arith
+never_zero (Err (refused.EdgesShort m)) n g e z = let q : 12 ≡ n = cc in omega arith
+never_zero (Err (refused.Unprepared why)) n g e z = let q : unprepared_number why ≡ n = cc in unprepared-not-zero why (q ∙ z)
 
 module _ (t f : List ℕ) (x : Read) (held : HoldsBoth t f x) where
   abbrev L : Listing
@@ -74,7 +75,7 @@ module _ (t f : List ℕ) (x : Read) (held : HoldsBoth t f x) where
   classed = formed-has-class (formulas.prepared-of (labels x.table) f held.is_formula)
 
   -- What was built, and the answer to it.
-  module _ (rows edges rows' edges' : List ℕ) (b : BuildReply)
+  module _ (rows edges rows' edges' : List ℕ) (b : Result Totals BuildRefusal)
       (laid : (F : Formula) → prepared_formula (labels (table_in t)) f ≡ some F → LaidOut (listing (table_in t) F) rows edges b rows' edges')
       {a : Answer} (answered : Says (λ c. c.rows) (build_reply b) a) where
     abbrev explained : Listing → Explanation
@@ -86,17 +87,17 @@ module _ (t f : List ℕ) (x : Read) (held : HoldsBoth t f x) where
     counted : {r : Reply Listing} → fitted L rows edges ≡ r → build_reply b ≡ answers counts r
     counted e = outcome.reply ∙ ap (answers counts) e
 
-    pub refused_said : (a.number ≡ 0 → ⊥) → (table formula : List ℕ)
-        → Outcome (listing_of x rows edges) (Refused a.number a.figure) table table formula formula rows rows' edges edges'
-    refused_said h table formula = by (fitted L rows edges) refl
+    pub refused_said : (a.number ≡ 0 → ⊥) → {b : Answer} → b ≡ a → (table formula : List ℕ)
+        → Outcome (listing_of x rows edges) (Err b) table table formula formula rows rows' edges edges'
+    refused_said h {b} same table formula = by (fitted L rows edges) refl
       where
         by : (r : Reply Listing) → fitted L rows edges ≡ r
-            → Outcome (answers explained r) (Refused a.number a.figure) table table formula formula rows rows' edges edges'
+            → Outcome (answers explained r) (Err b) table table formula formula rows rows' edges edges'
         by (accepted K) e = absurd (h (said_of answered (counted e)).number_said)
         by (refusal n g) e =
             let said = said_of answered (counted e) in
             record {
-              reply = λ i. refusal (said.number_said i) (said.figure_said i);
+              reply = λ i. refusal ((ap (λ (y : Answer). y.number) same ∙ said.number_said) i) ((ap (λ (y : Answer). y.figure) same ∙ said.figure_said) i);
               table_left_lem = refl;
               formula_left_lem = refl;
               rows_left = outcome.rows_left ∙ ap (λ r. left_in rows_bytes r rows) e;
@@ -114,14 +115,14 @@ module _ (t f : List ℕ) (x : Read) (held : HoldsBoth t f x) where
       pub row-there : row_length ≤ length rows
       row-there = omega (arith, (fitted-accepted L rows edges fits).0, some_row_lem x.table x.formula ranged classed)
 
-      pub explained_said : (mark class IsEdge-count told : ℕ) → mark ≡ row_final rows' 0 → ClassIn f class → IsEdge-count ≡ edges_in 0 (build_reply b)
+      pub explained_said : (IsRow-count mark class IsEdge-count told : ℕ) → IsRow-count ≡ a.figure → mark ≡ row_final rows' 0 → ClassIn f class → IsEdge-count ≡ edges_in 0 (build_reply b)
           → told ≡ verdict_told IsEdge-count mark class
           → (table table' formula formula' : List ℕ) → table' ≡ overwritten t table → formula' ≡ overwritten f formula
-          → Outcome (listing_of x rows edges) (Explained told class a.figure IsEdge-count) table table' formula formula' rows rows' edges edges'
-      explained_said mark class IsEdge-count told m c k v table table' formula formula' p q =
+          → Outcome (listing_of x rows edges) (Ok (record { verdict = told; class = class; rows = IsRow-count; edges = IsEdge-count })) table table' formula formula' rows rows' edges edges'
+      explained_said IsRow-count mark class IsEdge-count told n m c k v table table' formula formula' p q =
           let rows_are = outcome.rows_left ∙ ap (λ r. left_in rows_bytes r rows) fits in
           let is-class = c (_) x.formula held.is_formula in
-          let rows-said = (said_of answered (counted fits)).figure_said in
+          let rows-said = n ∙ (said_of answered (counted fits)).figure_said in
           let edges-said = kept_of (λ c. c.edges) 0 k (counted fits) in
           let is-mark = m ∙ ap (λ l. row_final l 0) rows_are in
           let verdict-said = v ∙ (λ i. verdict_told (edges-said i) (is-mark i) (is-class i)) ∙ verdict-told x.table x.formula ranged classed rows in

@@ -2,6 +2,7 @@
 use mathlib.Core.Path.{◌≡◌, sym, ◌∙◌, subst₂, subst₃}
 use mathlib.Core.List.{List}
 use Prim.Native.Nat.{ℕ, ◌≤◌, ◌<◌}
+use Rattle.std.proofs.Common.{Result, Err}
 use lib.Dec.{leb}
 use lib.ListN.{length}
 use borrow.Author.Tests.{le-leb, lt-leb}
@@ -12,8 +13,8 @@ use Rattle.explanations.specs.InOneCall.{FromTexts}
 use Rattle.explanations.specs.Explanation.{Explanation, summary, explain_replied, table_explained, formula_explained, explanation, explaining}
 use Rattle.explaining.specs.Outcome.{Outcome}
 use Rattle.explaining.specs.Promise.{Promise}
-use Rattle.explaining.specs.declared.ExplainReply.{ExplainReply}
-use Rattle.explaining.specs.declared.ExplainReply.TheVariants as replies
+use Rattle.explaining.specs.declared.explained.Explained.{Explained}
+use Rattle.replies.specs.declared.Answer.{Answer}
 use Rattle.explaining.proofs.Into.{same_outcome, refusal-outcome}
 use Rattle.explanations.proofs.Demands.{explain_explains}
 use Rattle.explanations.proofs.Grammatical.{explaining-longest}
@@ -24,7 +25,7 @@ module _ (table_text formula_text table formula rows edges : List ℕ) where
   abbrev E : Reply Explanation
   E = explaining table_text formula_text table formula rows edges
 
-  pub promised : (r : ExplainReply) (table' formula' rows' edges' : List ℕ) → Outcome E r table table' formula formula' rows rows' edges edges'
+  pub promised : (r : Result Explained Answer) (table' formula' rows' edges' : List ℕ) → Outcome E r table table' formula formula' rows rows' edges edges'
       → Promise table_text formula_text table table' formula formula' rows rows' edges edges' r
   promised r table' formula' rows' edges' s = record {
     outcome = s;
@@ -35,8 +36,8 @@ module _ (table_text formula_text table formula rows edges : List ℕ) where
         (explain_explains table_text formula_text table formula rows edges));
   }
 
-  pub promised_refusal : (n g : ℕ) → E ≡ refusal n g → Promise table_text formula_text table table formula formula rows rows edges edges (replies.Refused n g)
-  promised_refusal n g z = promised (replies.Refused n g) table formula rows edges (refusal-outcome n g z)
+  pub promised_refusal : (a : Answer) → E ≡ refusal a.number a.figure → Promise table_text formula_text table table formula formula rows rows edges edges (Err a)
+  promised_refusal a z = promised (Err a) table formula rows edges (refusal-outcome a z)
 
   pub short-table : length table < table_length → E ≡ refusal 14 table_length
   unfolding explaining
@@ -54,7 +55,7 @@ module _ (table_text formula_text table formula rows edges : List ℕ) where
       unless-to (leb table_length (length table)) 14 table_length _ (le-leb table_length (length table) g)
       ∙ unless-to (leb formula_length (length formula)) 14 formula_length _ (le-leb formula_length (length formula) h)
 
-  pub promised_explanation : table_length ≤ length table → formula_length ≤ length formula → (r : ExplainReply) (table' formula' rows' edges' : List ℕ)
+  pub promised_explanation : table_length ≤ length table → formula_length ≤ length formula → (r : Result Explained Answer) (table' formula' rows' edges' : List ℕ)
       → Outcome (explanation table_text formula_text rows edges) r table table' formula formula' rows rows' edges edges'
       → Promise table_text formula_text table table' formula formula' rows rows' edges edges' r
   promised_explanation g h r table' formula' rows' edges' s = promised r table' formula' rows' edges' (same_outcome (long-enough g h) s)

@@ -14,12 +14,12 @@ use Rattle.lts.specs.inner.Range.{InRange}
 use Rattle.lts.specs.Reply.{overwritten}
 use Rattle.lts.proofs.Booleans.{or-true-of, or-true-left, or_true_right, same_truth}
 use Rattle.lts.proofs.Lists.{get_d_mem}
-use Rattle.actl.specs.Formulas.{Formula, tru, not, or, ex, ax, eu, eu_then, nodes, class_of}
+use Rattle.actl.specs.Formulas.{Formula, tru, not, or, ex, ax, eu, eu_then, class_of}
 use Rattle.actl.proofs.Classes.{HasClass}
 use Rattle.satisfaction.specs.inner.Holds.{holds, verdict}
 use Rattle.automaton.specs.Places.{Final}
-use Rattle.automaton.specs.Positions.{Position, at, root_at, Joins, begin, stop, go, CanFinish}
-use Rattle.automaton.specs.Listing.{Listing, Edge}
+use Rattle.automaton.specs.Positions.{Position, root_at, Joins, begin, stop, go, CanFinish}
+use Rattle.automaton.specs.Listing.{Listing}
 use Rattle.automaton.specs.Listed.{Listed, row_at}
 use Rattle.automaton.specs.Bytes.{bit_of, rows_bytes, row_final}
 use Rattle.automaton.specs.inner.Search.{explains, can_finish, node_at, listing}

@@ -6,17 +6,11 @@ ghost use Rattle.explaining.specs.Outcome.{Outcome};
 ghost use Rattle.explaining.specs.inner.Told.{verdict_told};
 ghost use Rattle.explanations.specs.inner.BothTexts.{Read, HoldsBoth, listing_of, ClassIn};
 
-use crate::ExplainReply;
+use crate::explained::Explained;
 use building::building::built;
 use byte_copy::copy;
 use formula_classes::shape_of;
-use replies::{build_answer, build_edges};
-
-fn wide(class: u8) -> u64
-    ensures { result ≡ class }
-{
-    class as u64
-}
+use replies::{Answer, accepted, build_answer, build_edges};
 
 // The class of a prepared formula.
 fn class_of(formula: &[u8]) -> u64
@@ -25,7 +19,7 @@ fn class_of(formula: &[u8]) -> u64
 {
     let shape = shape_of(formula);
     let classes = shape.classes;
-    wide(classes[0])
+    u64::from(classes[0])
 }
 
 // The verdict, by what building wrote: the count of edges and the final mark of row 0.
@@ -45,7 +39,7 @@ pub fn finish(
     formula: &mut [u8],
     rows: &mut [u8],
     edges: &mut [u8],
-) -> ExplainReply
+) -> Result<Explained, Answer>
     requires t_len { (length t.now ≡ table_length) × (length f.now ≡ formula_length) }
     requires table_length_in_bounds { (table_length ≤ length table.old) × (formula_length ≤ length formula.old) }
     requires holds_both { (x : Read) × HoldsBoth t.now f.now x }
@@ -54,15 +48,17 @@ pub fn finish(
         rows.old rows.new edges.old edges.new }
 {
     let reply = built(t, f, rows, edges);
-    let counted = build_answer(reply);
-    if counted.number != 0 {
-        return ExplainReply::Refused(counted.number, counted.figure);
-    }
+    let row_count = accepted(build_answer(reply))?;
     let count = build_edges(reply, 0);
     let class = class_of(f);
     let mark = rows[2];
     let holds = verdict_told(count, mark, class);
     copy(t, table);
     copy(f, formula);
-    ExplainReply::Explained(holds, class, counted.figure, count)
+    Ok(Explained {
+        verdict: holds,
+        class,
+        rows: row_count,
+        edges: count,
+    })
 }

@@ -8,10 +8,12 @@ ghost use Rattle.explanations.specs.Explanation.{explanation};
 ghost use Rattle.explaining.specs.Promise.{Promise};
 ghost use Rattle.explaining.specs.Outcome.{Outcome};
 
+use crate::explained::Explained;
 use crate::finishing::finish;
-pub use crate::readings::{BothRead, read_both};
+pub use crate::readings::read_both;
 use actl::sizes::FORMULA_LENGTH;
 use lts::sizes::TABLE_LENGTH;
+use replies::Answer;
 
 pub mod explained;
 mod finishing;
@@ -22,13 +24,6 @@ const TABLE_FIGURE: u64 = TABLE_LENGTH as u64;
 
 const FORMULA_FIGURE: u64 = FORMULA_LENGTH as u64;
 
-// What `explain` answers: verdict, class, rows and edges, or the number and the figure of a refusal.
-#[derive(Clone, Copy)]
-pub enum ExplainReply {
-    Explained(u64, u64, u64, u64),
-    Refused(u32, u64),
-}
-
 // Reads both texts, each call on what the one before left, and builds: verdict, class, rows and edges, or the refusal of the call that refused.
 pub fn explain(
     tabletext: &[u8],
@@ -37,16 +32,22 @@ pub fn explain(
     formula: &mut [u8],
     rows: &mut [u8],
     edges: &mut [u8],
-) -> ExplainReply
+) -> Result<Explained, Answer>
     ensures { Promise tabletext.now formulatext.now
         table.old table.new formula.old formula.new
         rows.old rows.new edges.old edges.new result }
 {
     if table.len() < TABLE_LENGTH {
-        return ExplainReply::Refused(14, TABLE_FIGURE);
+        return Err(Answer {
+            number: 14,
+            figure: TABLE_FIGURE,
+        });
     }
     if formula.len() < FORMULA_LENGTH {
-        return ExplainReply::Refused(14, FORMULA_FIGURE);
+        return Err(Answer {
+            number: 14,
+            figure: FORMULA_FIGURE,
+        });
     }
     explain_into(table, formula, rows, edges, tabletext, formulatext)
 }
@@ -59,7 +60,7 @@ fn explain_into(
     edges: &mut [u8],
     tabletext: &[u8],
     formulatext: &[u8],
-) -> ExplainReply
+) -> Result<Explained, Answer>
     requires { (table_length ≤ length table.old) × (formula_length ≤ length formula.old) }
     ensures { Outcome (explanation tabletext.now formulatext.now rows.old edges.old) result
         table.old table.new formula.old formula.new
@@ -67,9 +68,6 @@ fn explain_into(
 {
     let mut t = [0u8; TABLE_LENGTH];
     let mut f = [0u8; FORMULA_LENGTH];
-    let ready = read_both(tabletext, formulatext, &mut t, &mut f);
-    match ready {
-        BothRead::Refused(number, figure) => ExplainReply::Refused(number, figure),
-        BothRead::Ready => finish(&t, table, &f, formula, rows, edges),
-    }
+    read_both(tabletext, formulatext, &mut t, &mut f)?;
+    finish(&t, table, &f, formula, rows, edges)
 }

@@ -1,10 +1,10 @@
 // What is kept of a formula file of any length: its first 513 bytes, its length and its last byte. A refusal's line tells that length.
 #![tactic(auto)]
 
-ghost use Rattle.std.specs.Prelude.{◌≡◌, ◌+◌, ◌≤◌, min, length};
+ghost use Rattle.std.specs.Prelude.{◌≡◌, ◌≤◌, min, length, take};
 ghost use Rattle.explanations.specs.inner.Sizes.{kept_length};
 ghost use Rattle.explanations.specs.inner.Printed.{TextWritten};
-ghost use Rattle.files.specs.inner.Scan.{scan_start, largest_count, scanned_after, kept_after};
+ghost use Rattle.files.specs.inner.Scan.{scan_start, scanned_after, kept_after};
 ghost use Rattle.files.specs.inner.Files.{length_without_end};
 ghost use Rattle.files.specs.inner.Writing.{refused_line};
 
@@ -26,31 +26,14 @@ pub fn scan_start() -> Scanned
     Scanned { length: 0, last: 0 }
 }
 
-pub fn least(a: usize, b: usize) -> usize
-    ensures { result ≡ min a b }
-{
-    if a < b { a } else { b }
-}
-
 // Puts the bytes of a chunk that belong to the first 513 into `head`, if `at` bytes came before.
 fn keep(chunk: &[u8], head: &mut [u8], at: usize)
     requires { length head.old ≡ kept_length }
     ensures { head.new ≡ kept_after head.old at chunk.now }
 {
     if at < KEPT {
-        let n = least(chunk.len(), KEPT - at);
+        let n = chunk.len().min(KEPT - at);
         copy(&chunk[..n], &mut head[at..]);
-    }
-}
-
-// The sum, or the largest number where it does not fit.
-fn add(a: usize, b: usize) -> usize
-    ensures { result ≡ min (a + b) largest_count }
-{
-    if b <= usize::MAX - a {
-        a + b
-    } else {
-        usize::MAX
     }
 }
 
@@ -65,7 +48,7 @@ pub fn scan_chunk(chunk: &[u8], head: &mut [u8; KEPT], scanned: Scanned) -> Scan
         return scanned;
     }
     Scanned {
-        length: add(scanned.length, n),
+        length: scanned.length.saturating_add(n),
         last: chunk[n - 1],
     }
 }
@@ -82,6 +65,14 @@ pub fn text_length(scanned: Scanned) -> usize
         return n - 1;
     }
     n
+}
+
+// The formula's text: as much of it as is kept, of `length` bytes.
+pub fn kept_text(head: &[u8; KEPT], length: usize) -> &[u8]
+    ensures { result.now ≡ take (min length kept_length) head.now }
+{
+    let whole = &head[..];
+    &whole[..length.min(KEPT)]
 }
 
 // A refusal's line, about a formula of `counted` bytes.

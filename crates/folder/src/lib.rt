@@ -43,19 +43,17 @@ fn scan_some<I: Read>(input: &mut I, head: &mut [u8; KEPT], scanned: Scanned) ->
     }
 }
 
-// A proved loop has to end, and nothing says that a file does: the loop counts its rounds down, from a number that no file uses up.
+// A proved loop has to end, and nothing says that a file does: the loop has more rounds than any file uses up.
 fn scan_all<I: Read>(input: &mut I, head: &mut [u8; KEPT]) -> Scanned
     ensures { ScannedOn head.old scan_start head.new result }
 {
-    let mut left = u64::MAX;
     let mut scanned = scan_start();
-    while left > 0 {
+    for _ in 0..u64::MAX {
         let portion = scan_some(input, head, scanned);
         scanned = portion.scanned;
         if !portion.more {
             return scanned;
         }
-        left -= 1;
     }
     scanned
 }
@@ -71,30 +69,11 @@ pub fn scan_formula<R: Files>(rt: &R, head: &mut [u8; KEPT]) -> Scanned
 }
 
 // As many bytes of a file as there is room for, and how many they are: none, if it cannot be opened.
-fn read_file<R: Files>(rt: &R, name: &str, table: &mut [u8]) -> usize
+pub fn read_file<R: Files>(rt: &R, name: &str, table: &mut [u8]) -> usize
     ensures { PrefixLength result table.new }
 {
     match fs::open(rt, name) {
         Ok(mut file) => read_full(&mut file, table),
         Err(_) => 0,
     }
-}
-
-pub fn read_table<R: Files>(rt: &R, table: &mut [u8]) -> usize
-    ensures { PrefixLength result table.new }
-{
-    read_file(rt, "table.txt", table)
-}
-
-// The tables that are combined.
-pub fn read_first<R: Files>(rt: &R, table: &mut [u8]) -> usize
-    ensures { PrefixLength result table.new }
-{
-    read_file(rt, "first.txt", table)
-}
-
-pub fn read_second<R: Files>(rt: &R, table: &mut [u8]) -> usize
-    ensures { PrefixLength result table.new }
-{
-    read_file(rt, "second.txt", table)
 }

@@ -1,10 +1,8 @@
 -- The number and the figure of each refusal that every entry over a prepared table and a prepared formula gives first.
-use Rattle.std.specs.Prelude.{ℕ}
+use Rattle.std.specs.Prelude.{ℕ, Result, Ok, Err}
 use Rattle.lts.specs.Reply.{Reply, accepted, refusal}
 use Rattle.formula_check.specs.declared.inputs.Unprepared.{Unprepared}
 use Rattle.formula_check.specs.declared.inputs.Unprepared.TheVariants.{TableForeign, FormulaForeign, BufferShort}
-use Rattle.formula_check.specs.declared.inputs.Inputs.{Inputs}
-use Rattle.formula_check.specs.declared.inputs.Inputs.TheVariants.{Prepared, Refused}
 
 abbrev pub unprepared_number : Unprepared → ℕ
 unprepared_number TableForeign = 10
@@ -19,6 +17,6 @@ unprepared_figure (BufferShort needed) = needed
 abbrev pub unprepared : {A : Type 0} → Unprepared → Reply A
 unprepared why = refusal (unprepared_number why) (unprepared_figure why)
 
-abbrev pub inputs_reply : Inputs → Reply (Unit {0})
-inputs_reply Prepared = accepted tt
-inputs_reply (Refused why) = unprepared why
+abbrev pub inputs_reply : Result (Unit {0}) Unprepared → Reply (Unit {0})
+inputs_reply (Ok held) = accepted tt
+inputs_reply (Err why) = unprepared why

@@ -17,26 +17,20 @@ pub enum Unprepared {
     BufferShort(usize),
 }
 
-#[derive(Drop)]
-pub enum Inputs {
-    Prepared,
-    Refused(Unprepared),
-}
-
-pub fn check_inputs(table: &[u8], formula: &[u8]) -> Inputs
+pub fn check_inputs(table: &[u8], formula: &[u8]) -> Result<(), Unprepared>
     ensures { inputs_reply result ≡ on_prepared table.now formula.now (λ t F. accepted tt) }
 {
     if table.len() < TABLE_LENGTH {
-        return Inputs::Refused(Unprepared::BufferShort(TABLE_LENGTH));
+        return Err(Unprepared::BufferShort(TABLE_LENGTH));
     }
     if formula.len() < FORMULA_LENGTH {
-        return Inputs::Refused(Unprepared::BufferShort(FORMULA_LENGTH));
+        return Err(Unprepared::BufferShort(FORMULA_LENGTH));
     }
     if !table_check::is_prepared(table) {
-        return Inputs::Refused(Unprepared::TableForeign);
+        return Err(Unprepared::TableForeign);
     }
     if !is_prepared(label_count(table), formula) {
-        return Inputs::Refused(Unprepared::FormulaForeign);
+        return Err(Unprepared::FormulaForeign);
     }
-    Inputs::Prepared
+    Ok(())
 }

@@ -1,12 +1,11 @@
 // Walking a formula's nodes for numbering and classes: over their kinds in node order, from a node into its arms.
 #![tactic(auto)]
 
-ghost use Rattle.std.specs.Prelude.{◌≡◌, ◌+◌, ◌*◌, ◌<◌, ◌≤◌, length, get_or, set, take};
-ghost use Rattle.std.proofs.Math.Option.{none};
+ghost use Rattle.std.specs.Prelude.{◌≡◌, ◌≢◌, ℕ, ◌+◌, ◌*◌, ◌<◌, ◌≤◌, length, get_or, set, slice_index, take, EachIndex, MatchOption};
 ghost use Rattle.actl.specs.Sizes.{most_nodes, formula_length};
 ghost use Rattle.actl.specs.Formulas.{class_of_or};
-ghost use Rattle.actl.specs.inner.Walk.{class_from, class_of_arm, kind_at, kinds_in, last_none};
-ghost use Rattle.formula_classes.specs.inner.WalkReplies.{Walks, classless_node, IsHighest, IsShape};
+ghost use Rattle.actl.specs.inner.Walk.{class_from, class_of_arm, kind_at, kinds_in};
+ghost use Rattle.formula_classes.specs.inner.WalkReplies.{Walks, IsHighest, IsShape};
 ghost use Rattle.formula_classes.specs.inner.Phases.{Room, NodeNoted, HasArm, RightWalks};
 ghost use Rattle.lts.specs.inner.Answers.{Decides};
 ghost use Rattle.actl.specs.inner.Check.{SpelledClassed};
@@ -28,17 +27,11 @@ const CLASSES: [[u8; 4]; 10] = [
     [0, 1, 0, 1], // EU[A;B]
 ];
 
-// What stands at a node: nothing that is a formula, or one that ends before a node and is such an arm.
-#[derive(Drop)]
-enum Walked {
-    Broken,
-    Node(usize, u8),
-}
-
-#[derive(Drop)]
-pub enum Classless {
-    Nowhere,
-    At(usize),
+// A node that stands for a formula: the node before which that ends, and what it is as an arm.
+#[derive(Clone, Copy)]
+struct Walked {
+    end: usize,
+    arm: u8,
 }
 
 #[derive(Drop)]
@@ -74,7 +67,7 @@ fn note(ends: &mut [u8], classes: &mut [u8], k: usize, end: usize, class: u8, ar
 {
     ends[k] = end as u8;
     classes[k] = class;
-    Walked::Node(end, arm)
+    Walked { end, arm }
 }
 
 // The kind of node k, or 0 if there is no such node or it has no kind.
@@ -93,35 +86,39 @@ fn kind_at(kinds: &[u8], k: usize) -> u8
 
 // 01: "a node before its arms, the left arm before the right": the arms of node k have higher numbers, so each call has fewer nodes left.
 #[cycle(walk_walk_arms_walk_right)]
-fn walk(kinds: &[u8], k: usize, ends: &mut [u8], classes: &mut [u8]) -> Walked
+fn walk(kinds: &[u8], k: usize, ends: &mut [u8], classes: &mut [u8]) -> Option<Walked>
     requires { Room kinds.now ends.old classes.old }
     ensures { Walks kinds.now ends.old ends.new classes.old classes.new k result }
 {
     let kind = kind_at(kinds, k);
     if kind == 0 {
-        return Walked::Broken;
+        return None;
     }
     if kind == 1 {
-        return note(ends, classes, k, k + 1, class_from(1, 0), 3);
+        return Some(note(ends, classes, k, k + 1, class_from(1, 0), 3));
     }
     walk_arms(kinds, k, kind, ends, classes)
 }
 
 // Node k, which has an arm, or two.
 #[cycle(walk_walk_arms_walk_right)]
-fn walk_arms(kinds: &[u8], k: usize, kind: u8, ends: &mut [u8], classes: &mut [u8]) -> Walked
+fn walk_arms(
+    kinds: &[u8],
+    k: usize,
+    kind: u8,
+    ends: &mut [u8],
+    classes: &mut [u8],
+) -> Option<Walked>
     requires room { Room kinds.now ends.old classes.old }
     requires has_arm { HasArm kinds.now k kind }
     ensures { Walks kinds.now ends.old ends.new classes.old classes.new k result }
 {
-    let Walked::Node(middle, left) = walk(kinds, k + 1, ends, classes) else {
-        return Walked::Broken;
-    };
+    let left = walk(kinds, k + 1, ends, classes)?;
     if kind == 3 {
-        return walk_right(kinds, k, middle, left, ends, classes);
+        return walk_right(kinds, k, left, ends, classes);
     }
-    let class = class_from(kind, left);
-    note(ends, classes, k, middle, class, class)
+    let class = class_from(kind, left.arm);
+    Some(note(ends, classes, k, left.end, class, class))
 }
 
 // The right arm of node k, which is `|`, and then the node itself.
@@ -129,38 +126,26 @@ fn walk_arms(kinds: &[u8], k: usize, kind: u8, ends: &mut [u8], classes: &mut [u
 fn walk_right(
     kinds: &[u8],
     k: usize,
-    middle: usize,
-    left: u8,
+    left: Walked,
     ends: &mut [u8],
     classes: &mut [u8],
-) -> Walked
+) -> Option<Walked>
     requires room { Room kinds.now ends.old classes.old }
-    requires k_lt_middle { (k < middle) × (left < 4) }
-    ensures { RightWalks kinds.now ends.old ends.new classes.old classes.new k middle left result }
+    requires k_lt_middle { (k < left.end) × (left.arm < 4) }
+    ensures { RightWalks kinds.now ends.old ends.new classes.old classes.new k left result }
 {
-    let Walked::Node(end, right) = walk(kinds, middle, ends, classes) else {
-        return Walked::Broken;
-    };
-    let class = class_of_or(left, right);
-    note(ends, classes, k, end, class, class)
+    let right = walk(kinds, left.end, ends, classes)?;
+    let class = class_of_or(left.arm, right.arm);
+    Some(note(ends, classes, k, right.end, class, class))
 }
 
 // The last of the classes that is none.
-fn last_none(classes: &[u8]) -> Classless
-    ensures { classless_node result ≡ last_none 0 classes.now none }
+fn last_none(classes: &[u8]) -> Option<usize>
+    ensures { MatchOption result (EachIndex classes.now (λ k. slice_index classes.now k ≢ 0))
+        (λ i. (i < length classes.now) × (slice_index classes.now i ≡ 0)
+        × ((k : ℕ) → i < k → k < length classes.now → slice_index classes.now k ≢ 0)) }
 {
-    let mut found = classes.len();
-    let mut k = 0;
-    while k < classes.len() {
-        if classes[k] == 0 {
-            found = k;
-        }
-        k += 1;
-    }
-    if found == classes.len() {
-        return Classless::Nowhere;
-    }
-    Classless::At(found)
+    classes.iter().rposition(|class| *class == 0)
 }
 
 // The kinds of a prepared formula's first nodes.
@@ -169,16 +154,14 @@ fn kinds_in(formula: &[u8], count: usize) -> [u8; NODES]
     ensures { take count result ≡ kinds_in formula.now count }
 {
     let mut kinds = [0u8; NODES];
-    let mut k = 0;
-    while k < count {
+    for k in 0..count {
         kinds[k] = formula[1 + k * NODE_SLOT];
-        k += 1;
     }
     kinds
 }
 
 // Walks the first nodes of a prepared formula, from node 0.
-fn walk_nodes(formula: &[u8], count: usize, ends: &mut [u8], classes: &mut [u8]) -> Walked
+fn walk_nodes(formula: &[u8], count: usize, ends: &mut [u8], classes: &mut [u8]) -> Option<Walked>
     requires formula_length_in_bounds { (formula_length ≤ length formula.now) × (count ≤ most_nodes) }
     requires count_in_bounds { (count ≤ length ends.old) × (count ≤ length classes.old) }
     ensures { Walks (kinds_in formula.now count) ends.old ends.new classes.old classes.new 0 result }
@@ -188,7 +171,7 @@ fn walk_nodes(formula: &[u8], count: usize, ends: &mut [u8], classes: &mut [u8])
 }
 
 // 01: "a node without class": "the highest-numbered one". Of a formula, by the slots of its nodes.
-pub fn highest_classless(formula: &[u8], count: usize) -> Classless
+pub fn highest_classless(formula: &[u8], count: usize) -> Option<usize>
     requires { (formula_length ≤ length formula.now) × (count ≤ most_nodes) }
     ensures { IsHighest result (kinds_in formula.now count) }
 {
@@ -205,13 +188,10 @@ pub fn spelled(formula: &[u8], count: usize) -> bool
 {
     let mut ends = [0u8; NODES];
     let mut classes = [0u8; NODES];
-    let Walked::Node(end, arm) = walk_nodes(formula, count, &mut ends, &mut classes) else {
+    let Some(root) = walk_nodes(formula, count, &mut ends, &mut classes) else {
         return false;
     };
-    if end != count {
-        return false;
-    }
-    arm != 0
+    root.end == count && root.arm != 0
 }
 
 // Where the arms of each node of a prepared formula end, and each node's class.
@@ -222,25 +202,14 @@ pub fn shape_of(formula: &[u8]) -> Shape
     let count = node_count(formula);
     let mut ends = [0u8; NODES];
     let mut classes = [0u8; NODES];
-    if NODES < count {
-        return Shape {
-            count: count,
-            ends: ends,
-            classes: classes,
-        };
+    if count <= NODES {
+        walk_nodes(formula, count, &mut ends, &mut classes);
     }
-    walk_nodes(formula, count, &mut ends, &mut classes);
     Shape {
-        count: count,
-        ends: ends,
-        classes: classes,
+        count,
+        ends,
+        classes,
     }
-}
-
-fn wide(byte: u8) -> usize
-    ensures { result ≡ byte }
-{
-    byte as usize
 }
 
 // The right arm of node k, if it has one: it stands behind the whole left arm.
@@ -249,7 +218,7 @@ pub fn right_arm(ends: &[u8; NODES], k: usize) -> usize
     ensures { k + 1 < most_nodes → result ≡ get_or ends.now (k + 1) 0 }
 {
     if k + 1 < NODES {
-        wide(ends[k + 1])
+        usize::from(ends[k + 1])
     } else {
         NODES
     }

@@ -1,5 +1,5 @@
 -- Places of a text: the byte at one, the reader's step there, and blanks.
-use mathlib.Core.Path.{◌≡◌, refl, ap, ◌∙◌, subst}
+use mathlib.Core.Path.{◌≡◌, refl, ap, ◌∙◌}
 use mathlib.Core.List.{List, [], ◌∷◌}
 use Prim.Native.Nat.{ℕ, zero, suc, ◌+◌, ◌-◌, ◌≤◌, ◌<◌}
 use native.Mathlib.Decide.{dec_le}
@@ -9,10 +9,7 @@ use lib.ListN.{length, get_or, drop, get_or-eq_default, drop_of_length-le}
 use lib.Seq.{drop-cons}
 use Rattle.actl.specs.inner.Show.{gap}
 use Rattle.actl.specs.inner.Reader.{State, stop, read_byte, finish, proceed, run, refused}
-use Rattle.actl.specs.inner.Cursor.{peek, Skipped, Marked, Tokened}
-use Rattle.formula_cursor.specs.inner.CursorReplies.{MarkAnswer, KeywordAnswer}
-use Rattle.formula_cursor.specs.declared.Match.{Match}
-use Rattle.formula_cursor.specs.declared.Match.TheVariants.{Past, Missing}
+use Rattle.actl.specs.inner.Cursor.{peek, Skipped}
 
 pub get_d_any : (s : List ℕ) (i d e : ℕ) → i < length s → get_or s i d ≡ get_or s i e
 get_d_any [] i d e h = absurd (omega arith)
@@ -70,15 +67,3 @@ none-at-end s i b h w e = omega (arith, peek-end s i h)
 
 pub other_byte : (s : List ℕ) (i b : ℕ) → i < length s → (get_or s i 0 ≡ b → ⊥) → peek s i ≡ b → ⊥
 other_byte s i b w h e = h (get_d_any s i 0 256 w ∙ e)
-
--- A mark, and blanks or a second mark behind it.
-pub mark-skipped : {s : List ℕ} {at mark d to : ℕ} → Marked s at mark d → Skipped s d to → Tokened s at mark to
-mark-skipped {s} {to} m k = record { here = m.here; skipped = subst (λ n. Skipped s n to) m.next k }
-
-pub two-marks : (s : List ℕ) (at d : ℕ) (w : List ℕ) → Marked s at (get_or w 0 0) d
-    → (r : Match) → MarkAnswer s d (get_or w 1 0) r → KeywordAnswer s at w r
-two-marks s at d w m (Past c) h = record {
-  one = record { here = m.here; next = refl; within = m.within };
-  two = subst (λ n. Marked s n (get_or w 1 0) c.at) m.next h;
-}
-two-marks s at d w m Missing h = λ p q. h (ap (peek s) m.next ∙ q)

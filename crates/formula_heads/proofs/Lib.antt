@@ -1,2 +1,3 @@
 mod ReadingBrackets
 mod ReadingHeads
+pub mod Refusals

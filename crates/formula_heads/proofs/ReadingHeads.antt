@@ -28,7 +28,7 @@ use Rattle.formula_heads.specs.declared.Quantifier.TheVariants.{Existential, Uni
 use Rattle.formula_heads.specs.declared.Keyword as word
 use Rattle.formula_heads.specs.declared.Keyword.TheVariants.{Next, Until, Labelled}
 use Rattle.formula_heads.specs.declared.Heading.{Heading}
-use Rattle.formula_heads.specs.declared.Heading.TheVariants.{Read, Dual, Refused}
+use Rattle.std.specs.Prelude.{Result, Ok, Err}
 use Rattle.actl.proofs.ReadingLabels.{earlier-none}
 
 module _ (N : List (List ℕ)) (s : List ℕ) (lost : ℕ) where
@@ -45,10 +45,9 @@ module _ (N : List (List ℕ)) (s : List ℕ) (lost : ℕ) where
 
   -- A piece of the text before a rest.
   pub behind : {at d : ℕ} {x y : InTerm → State} {v : List ℕ → List ℕ} (before : List ℕ → List ℕ) → Moves s at d v x y
-      → (r : Heading) → RestAnswer N s y (λ t. before (v t)) d lost r → RestAnswer N s x before at lost r
-  behind before m (Read c n l) h = rest-behind before m h
-  behind before m (Dual c n l) h = rest-behind before m h
-  behind before m (Refused c) h = fail m h
+      → (r : Result Heading Cursor) → RestAnswer N s y (λ t. before (v t)) d lost r → RestAnswer N s x before at lost r
+  behind before m (Ok x) h = rest-behind before m h
+  behind before m (Err c) h = fail m h
 
   head-whole : {at d to l : ℕ} {slots : List Slot} {y : InTerm → State} {v : List ℕ → List ℕ}
       → at < d → Moves s at d v term_at y → RestRead N s y v d lost to slots l → HeadRead N s at lost to slots l
@@ -62,13 +61,12 @@ module _ (N : List (List ℕ)) (s : List ℕ) (lost : ℕ) where
 
   -- The first piece of a head.
   pub head-behind : {at d : ℕ} {y : InTerm → State} {v : List ℕ → List ℕ}
-      → at < d → Moves s at d v term_at y → (r : Heading) → RestAnswer N s y v d lost r → HeadAnswer N s at lost r
-  head-behind u m (Read c n l) h = head-whole u m h
-  head-behind u m (Dual c n l) h = head-whole u m h
-  head-behind u m (Refused c) h = fail m h
+      → at < d → Moves s at d v term_at y → (r : Result Heading Cursor) → RestAnswer N s y v d lost r → HeadAnswer N s at lost r
+  head-behind u m (Ok x) h = head-whole u m h
+  head-behind u m (Err c) h = fail m h
 
   pub dual_read : {at l : ℕ} {x : InTerm → State} {before : List ℕ → List ℕ} (q : Quantifier) (c : Cursor) (n : Node)
-      → RestRead N s x before at lost c.at (dual_slots (quantifier_in q) (slot_of_node n)) l → RestAnswer N s x before at lost (dual_of q c n l)
+      → RestRead N s x before at lost c.at (dual_slots (quantifier_in q) (slot_of_node n)) l → RestAnswer N s x before at lost (Ok (dual_of q c n l))
   dual_read Existential c n h = h
   dual_read Universal c n h = h
 
@@ -105,7 +103,7 @@ module _ (N : List (List ℕ)) (s : List ℕ) (lost : ℕ) (w : word.Keyword) {a
   pub unopened : (peek s o ≡ 91 → ⊥) → Fails s at o (behind_word w 0)
   unopened h = fail to_bracket (stops k.within (no_end w (o - at)) (no_other w (o - at) (peek s o) k.past h))
 
-  pub opened : {d : ℕ} → Tokened s o 91 d → (r : Heading) → ContentsAnswer w N s d lost r → RestAnswer N s (behind_word w 0) (shown_word w) at lost r
+  pub opened : {d : ℕ} → Tokened s o 91 d → (r : Result Heading Cursor) → ContentsAnswer w N s d lost r → RestAnswer N s (behind_word w 0) (shown_word w) at lost r
   opened {d} t r h =
       let m = tokened (in_bracket w (o - at)) t (omega arith) (opens w (o - at)) (blank_inside w (o - at)) in
       behind N s lost (shown_word w) (then to_bracket m) r (h (o - at) (d - (o + 1)))
@@ -121,12 +119,12 @@ module _ {s : List ℕ} {at : ℕ} where
 
 module _ (N : List (List ℕ)) (s : List ℕ) (at lost : ℕ) where
   pub head-next : (q : Quantifier) {d : ℕ} → Word s at (word_of q (69 ∷ 88 ∷ []) (65 ∷ 88 ∷ [])) d
-      → (r : Heading) → RestAnswer N s (behind_word (Next q) 0) (shown_word (Next q)) d lost r → HeadAnswer N s at lost r
+      → (r : Result Heading Cursor) → RestAnswer N s (behind_word (Next q) 0) (shown_word (Next q)) d lost r → HeadAnswer N s at lost r
   head-next Existential k r h = head-behind N s lost (past k) (spelled after_e k (omega arith) (omega arith) (λ i. refl) (λ i. refl)) r h
   head-next Universal k r h = head-behind N s lost (past k) (spelled after_a k (omega arith) (omega arith) (λ i. refl) (λ i. refl)) r h
 
   pub head-until : {d : ℕ} → Keyword s at 69 85 d
-      → (r : Heading) → RestAnswer N s (behind_word Until 0) (shown_word Until) d lost r → HeadAnswer N s at lost r
+      → (r : Result Heading Cursor) → RestAnswer N s (behind_word Until 0) (shown_word Until) d lost r → HeadAnswer N s at lost r
   head-until k r h = head-behind N s lost (past k) (spelled after_e k (omega arith) (omega arith) (λ i. refl) (λ i. refl)) r h
 
   -- EF and AG have no bracket.
@@ -142,7 +140,7 @@ module _ (N : List (List ℕ)) (s : List ℕ) (at lost : ℕ) where
   }
 
   pub head-reach : (q : Quantifier) (c : Cursor) (mask : Mask) → mask ≡ labels_of N Action.any
-      → Word s at (word_of q (69 ∷ 70 ∷ []) (65 ∷ 71 ∷ [])) c.at → HeadAnswer N s at lost (dual_of q c (node.Until mask) lost)
+      → Word s at (word_of q (69 ∷ 70 ∷ []) (65 ∷ 71 ∷ [])) c.at → HeadAnswer N s at lost (Ok (dual_of q c (node.Until mask) lost))
   head-reach Existential c mask e k =
       let m = spelled after_e k (omega arith) (omega arith) (λ i. refl) (λ i. refl) in
       head-whole N s lost (past k) m (reach-read existential mask e m.within)
@@ -152,7 +150,7 @@ module _ (N : List (List ℕ)) (s : List ℕ) (at lost : ℕ) where
 
   -- DIA and BOX, behind their first letter.
   pub head-letters : (q : Quantifier) {d : ℕ} → Marked s at (first (quantifier_in q)) d
-      → (r : Heading) → LettersAnswer N s q d lost r → HeadAnswer N s at lost r
+      → (r : Result Heading Cursor) → LettersAnswer N s q d lost r → HeadAnswer N s at lost r
   head-letters Existential k r h = head-behind N s lost (omega (arith, k.next)) (marked k (omega arith) (λ i. refl)) r h
   head-letters Universal k r h = head-behind N s lost (omega (arith, k.next)) (marked k (omega arith) (λ i. refl)) r h
 
@@ -175,7 +173,7 @@ module _ (N : List (List ℕ)) (s : List ℕ) (at lost : ℕ) where
       fail v (stops v.within (λ k. refl) (λ k. on-other (peek s d) (third p) _ _ h))
 
   pub letters-read : (q : Quantifier) {d e : ℕ} → Marked s at (second (quantifier_in q)) d → Marked s d (third (quantifier_in q)) e
-      → (r : Heading) → RestAnswer N s (behind_word (Labelled q) 0) (shown_word (Labelled q)) e lost r → LettersAnswer N s q at lost r
+      → (r : Result Heading Cursor) → RestAnswer N s (behind_word (Labelled q) 0) (shown_word (Labelled q)) e lost r → LettersAnswer N s q at lost r
   letters-read Existential m n r h =
       let v = then (marked {y = after_second existential} m (omega arith) (λ i. refl)) (marked n (omega arith) (λ i. refl)) in
       behind N s lost (λ t. first existential ∷ t) v r h

@@ -10,38 +10,32 @@ ghost use Rattle.formula_heads.specs.inner.HeadReplies.{HeadAnswer};
 ghost use Rattle.formula_heads.specs.inner.Brackets.{quantifier_in, node_over, dual_of, ChoiceAnswer, NoShort, RestAnswer, behind_word, shown_word};
 ghost use Rattle.formula_heads.specs.inner.Brackets.{NextAnswer, UntilAnswer, FirstSetAnswer, LabelledAnswer, LettersAnswer};
 
-use formula_cursor::{Cursor, Match};
-use formula_sets::{Labels, all_labels, enclosed, set};
+use formula_cursor::Cursor;
+use formula_sets::{Source, all_labels, enclosed, set};
 use formulas::node::{Condition, Node};
 
 // Whether a keyword asks for some path or step, or for every one.
-#[derive(Drop)]
+#[derive(Clone, Copy)]
 enum Quantifier {
     Existential,
     Universal,
 }
 
 // A keyword with a bracket: EX or AX, EU, DIA or BOX.
-#[derive(Drop)]
+#[derive(Clone, Copy)]
 enum Keyword {
     Next(Quantifier),
     Until,
     Labelled(Quantifier),
 }
 
-// Which keyword of a pair stands at the cursor, and the cursor behind it; or neither does.
-#[derive(Drop)]
-enum Choice {
-    Past(Quantifier, Cursor),
-    Missing,
-}
-
-// A keyword with its bracket: its node, alone or between two `~`.
-#[derive(Drop)]
-pub enum Heading {
-    Read(Cursor, Node, usize),
-    Dual(Cursor, Node, usize),
-    Refused(Cursor),
+// A keyword with its bracket, up to its end: its node, alone or between two `~`. `lost` is that of a set of labels.
+#[derive(Clone, Copy)]
+pub struct Heading {
+    pub end: Cursor,
+    pub node: Node,
+    pub dual: bool,
+    pub lost: usize,
 }
 
 // The node of EX or AX.
@@ -55,174 +49,172 @@ fn next_node(q: Quantifier, condition: Condition) -> Node
 }
 
 // 02: "`AG x` is `~EF ~x`" and "`BOX[A] x` is `~EX[A] ~x`"; EF and DIA are their nodes alone.
-fn dual(q: Quantifier, c: Cursor, node: Node, lost: usize) -> Heading
-    ensures { result ≡ dual_of q c node lost }
+fn dual(q: Quantifier, end: Cursor, node: Node, lost: usize) -> Heading
+    ensures { result ≡ dual_of q end node lost }
 {
-    match q {
-        Quantifier::Existential => Heading::Read(c, node, lost),
-        Quantifier::Universal => Heading::Dual(c, node, lost),
+    let dual = match q {
+        Quantifier::Existential => false,
+        Quantifier::Universal => true,
+    };
+    Heading {
+        end,
+        node,
+        dual,
+        lost,
     }
 }
 
 // The step condition in the bracket of EX or AX, up to its end.
-fn next(table: &[u8], text: &[u8], c: Cursor, q: Quantifier, lost: usize) -> Heading
-    requires { ReaderStart table.now text.now c.at }
-    ensures { NextAnswer (names_in table.now) text.now q c.at lost result }
+fn next(source: &Source, c: Cursor, q: Quantifier, lost: usize) -> Result<Heading, Cursor>
+    requires { ReaderStart source.now.table.now source.now.text.now c.at }
+    ensures { NextAnswer (names_in source.now.table.now) source.now.text.now q c.at lost result }
 {
-    if let Match::Past(d) = c.token(text, b'.') {
-        let Match::Past(e) = d.mark(text, b']') else {
-            return Heading::Refused(d);
-        };
-        return Heading::Read(e, next_node(q, Condition::Silent), lost);
+    if let Some(d) = c.token(source.text, b'.') {
+        let end = d.mark(source.text, b']').ok_or(d)?;
+        return Ok(Heading {
+            end,
+            node: next_node(q, Condition::Silent),
+            dual: false,
+            lost,
+        });
     }
-    let x = enclosed(table, text, c, 93, lost);
-    match x {
-        Labels::Refused(d) => Heading::Refused(d),
-        Labels::Read(d, m, l) => Heading::Read(d, next_node(q, Condition::Labels(m)), l),
-    }
+    let x = enclosed(source, c, b']', lost)?;
+    Ok(Heading {
+        end: x.end,
+        node: next_node(q, Condition::Labels(x.mask)),
+        dual: false,
+        lost: x.lost,
+    })
 }
 
 // Behind the first set of EU: the bracket's end, or a second set.
-fn first_set(table: &[u8], text: &[u8], c: Cursor, first: u64, lost: usize) -> Heading
-    requires { HoldsTable table.now × (length text.now ≤ longest_text) }
-    ensures { FirstSetAnswer (names_in table.now) text.now c.at first lost result }
+fn first_set(source: &Source, c: Cursor, first: u64, lost: usize) -> Result<Heading, Cursor>
+    requires { HoldsTable source.now.table.now × (length source.now.text.now ≤ longest_text) }
+    ensures { FirstSetAnswer (names_in source.now.table.now) source.now.text.now c.at first lost result }
 {
-    let Match::Past(d) = c.token(text, b';') else {
-        let Match::Past(e) = c.mark(text, b']') else {
-            return Heading::Refused(c);
-        };
-        return Heading::Read(e, Node::Until(first), lost);
+    let Some(d) = c.token(source.text, b';') else {
+        let end = c.mark(source.text, b']').ok_or(c)?;
+        return Ok(Heading {
+            end,
+            node: Node::Until(first),
+            dual: false,
+            lost,
+        });
     };
-    let x = enclosed(table, text, d, 93, lost);
-    match x {
-        Labels::Refused(e) => Heading::Refused(e),
-        Labels::Read(e, second, l) => Heading::Read(e, Node::UntilThen(first, second), l),
-    }
+    let x = enclosed(source, d, b']', lost)?;
+    Ok(Heading {
+        end: x.end,
+        node: Node::UntilThen(first, x.mask),
+        dual: false,
+        lost: x.lost,
+    })
 }
 
 // The one set or the two in the bracket of EU, up to its end.
-fn until(table: &[u8], text: &[u8], c: Cursor, lost: usize) -> Heading
-    requires { ReaderStart table.now text.now c.at }
-    ensures { UntilAnswer (names_in table.now) text.now c.at lost result }
+fn until(source: &Source, c: Cursor, lost: usize) -> Result<Heading, Cursor>
+    requires { ReaderStart source.now.table.now source.now.text.now c.at }
+    ensures { UntilAnswer (names_in source.now.table.now) source.now.text.now c.at lost result }
 {
-    let x = set(table, text, c, lost);
-    match x {
-        Labels::Refused(d) => Heading::Refused(d),
-        Labels::Read(d, first, l) => first_set(table, text, d, first, l),
-    }
+    let x = set(source, c, lost)?;
+    first_set(source, x.end, x.mask, x.lost)
 }
 
 // The set in the bracket of DIA or BOX, up to its end. 02: "`DIA[A] x` is `EX[A] x`"
-fn labelled(table: &[u8], text: &[u8], c: Cursor, q: Quantifier, lost: usize) -> Heading
-    requires { ReaderStart table.now text.now c.at }
-    ensures { LabelledAnswer (names_in table.now) text.now q c.at lost result }
+fn labelled(source: &Source, c: Cursor, q: Quantifier, lost: usize) -> Result<Heading, Cursor>
+    requires { ReaderStart source.now.table.now source.now.text.now c.at }
+    ensures { LabelledAnswer (names_in source.now.table.now) source.now.text.now q c.at lost result }
 {
-    let x = enclosed(table, text, c, 93, lost);
-    match x {
-        Labels::Refused(d) => Heading::Refused(d),
-        Labels::Read(d, m, l) => dual(q, d, Node::Ex(Condition::Labels(m)), l),
-    }
+    let x = enclosed(source, c, b']', lost)?;
+    Ok(dual(q, x.end, Node::Ex(Condition::Labels(x.mask)), x.lost))
 }
 
 // The bracket behind a keyword.
-fn square_bracket(table: &[u8], text: &[u8], c: Cursor, word: Keyword, lost: usize) -> Heading
-    requires { HoldsTable table.now × (length text.now ≤ longest_text) × (c.at ≤ length text.now) }
-    ensures { RestAnswer (names_in table.now) text.now (behind_word word 0) (shown_word word) c.at lost result }
+fn square_bracket(source: &Source, c: Cursor, word: Keyword, lost: usize) -> Result<Heading, Cursor>
+    requires { HoldsTable source.now.table.now × (length source.now.text.now ≤ longest_text) × (c.at ≤ length source.now.text.now) }
+    ensures { RestAnswer (names_in source.now.table.now) source.now.text.now (behind_word word 0) (shown_word word) c.at lost result }
 {
-    let o = c.skip_blanks(text);
-    let Match::Past(d) = o.token(text, b'[') else {
-        return Heading::Refused(o);
-    };
+    let o = c.skip_blanks(source.text);
+    let d = o.token(source.text, b'[').ok_or(o)?;
     match word {
-        Keyword::Next(q) => next(table, text, d, q, lost),
-        Keyword::Until => until(table, text, d, lost),
-        Keyword::Labelled(q) => labelled(table, text, d, q, lost),
+        Keyword::Next(q) => next(source, d, q, lost),
+        Keyword::Until => until(source, d, lost),
+        Keyword::Labelled(q) => labelled(source, d, q, lost),
     }
 }
 
 // The rest of DIA or BOX behind its first letter.
 fn letters(
-    table: &[u8],
-    text: &[u8],
+    source: &Source,
     c: Cursor,
     q: Quantifier,
     rest: &[u8; 2],
     lost: usize,
-) -> Heading
-    requires holds_table { HoldsTable table.now × (length text.now ≤ longest_text) × (c.at ≤ length text.now) }
+) -> Result<Heading, Cursor>
+    requires holds_table { HoldsTable source.now.table.now × (length source.now.text.now ≤ longest_text) × (c.at ≤ length source.now.text.now) }
     requires rest_value { (get_or rest.now 0 0 ≡ second (quantifier_in q)) × (get_or rest.now 1 0 ≡ third (quantifier_in q)) }
-    ensures { LettersAnswer (names_in table.now) text.now q c.at lost result }
+    ensures { LettersAnswer (names_in source.now.table.now) source.now.text.now q c.at lost result }
 {
-    let Match::Past(d) = c.mark(text, rest[0]) else {
-        return Heading::Refused(c);
-    };
-    let Match::Past(e) = d.mark(text, rest[1]) else {
-        return Heading::Refused(d);
-    };
-    square_bracket(table, text, e, Keyword::Labelled(q), lost)
+    let d = c.mark(source.text, rest[0]).ok_or(c)?;
+    let e = d.mark(source.text, rest[1]).ok_or(d)?;
+    square_bracket(source, e, Keyword::Labelled(q), lost)
 }
 
 // The first letter of a keyword is a beginning of some text, whatever follows.
 fn no_keyword(text: &[u8], c: Cursor) -> Cursor
     ensures { NoKeyword text.now c.at result.at }
 {
-    if let Match::Past(d) = c.mark(text, b'E') {
+    if let Some(d) = c.mark(text, b'E') {
         return d;
     }
-    if let Match::Past(d) = c.mark(text, b'A') {
-        return d;
-    }
-    c
+    c.mark(text, b'A').unwrap_or(c)
 }
 
 // The keyword that asks for some path or step, or the one that asks for every.
-fn either(text: &[u8], c: Cursor, some: &[u8; 2], every: &[u8; 2]) -> Choice
+fn either(text: &[u8], c: Cursor, some: &[u8; 2], every: &[u8; 2]) -> Option<(Quantifier, Cursor)>
     ensures { ChoiceAnswer text.now c.at some.now every.now result }
 {
-    if let Match::Past(d) = c.keyword(text, some) {
-        return Choice::Past(Quantifier::Existential, d);
+    if let Some(d) = c.keyword(text, some) {
+        return Some((Quantifier::Existential, d));
     }
-    if let Match::Past(d) = c.keyword(text, every) {
-        return Choice::Past(Quantifier::Universal, d);
-    }
-    Choice::Missing
+    let d = c.keyword(text, every)?;
+    Some((Quantifier::Universal, d))
 }
 
 // DIA or BOX.
-fn labelled_form(table: &[u8], text: &[u8], c: Cursor, lost: usize) -> Heading
-    requires { ReaderStart table.now text.now c.at × NoMark text.now c.at × NoLong text.now c.at × NoShort text.now c.at }
-    ensures { HeadAnswer (names_in table.now) text.now c.at lost result }
+fn labelled_form(source: &Source, c: Cursor, lost: usize) -> Result<Heading, Cursor>
+    requires { ReaderStart source.now.table.now source.now.text.now c.at × NoMark source.now.text.now c.at × NoLong source.now.text.now c.at × NoShort source.now.text.now c.at }
+    ensures { HeadAnswer (names_in source.now.table.now) source.now.text.now c.at lost result }
 {
-    if let Match::Past(d) = c.mark(text, b'D') {
-        return letters(table, text, d, Quantifier::Existential, b"IA", lost);
+    if let Some(d) = c.mark(source.text, b'D') {
+        return letters(source, d, Quantifier::Existential, b"IA", lost);
     }
-    if let Match::Past(d) = c.mark(text, b'B') {
-        return letters(table, text, d, Quantifier::Universal, b"OX", lost);
+    if let Some(d) = c.mark(source.text, b'B') {
+        return letters(source, d, Quantifier::Universal, b"OX", lost);
     }
-    Heading::Refused(no_keyword(text, c))
+    Err(no_keyword(source.text, c))
 }
 
 // 02: "`EF x` is `EU[*] x`, `AG x` is `~EF ~x`", DIA and BOX.
-fn short_form(table: &[u8], text: &[u8], c: Cursor, lost: usize) -> Heading
-    requires { ReaderStart table.now text.now c.at × NoMark text.now c.at × NoLong text.now c.at }
-    ensures { HeadAnswer (names_in table.now) text.now c.at lost result }
+fn short_form(source: &Source, c: Cursor, lost: usize) -> Result<Heading, Cursor>
+    requires { ReaderStart source.now.table.now source.now.text.now c.at × NoMark source.now.text.now c.at × NoLong source.now.text.now c.at }
+    ensures { HeadAnswer (names_in source.now.table.now) source.now.text.now c.at lost result }
 {
-    if let Choice::Past(q, d) = either(text, c, b"EF", b"AG") {
-        return dual(q, d, Node::Until(all_labels(table)), lost);
+    if let Some((q, d)) = either(source.text, c, b"EF", b"AG") {
+        return Ok(dual(q, d, Node::Until(all_labels(source.table)), lost));
     }
-    labelled_form(table, text, c, lost)
+    labelled_form(source, c, lost)
 }
 
 // A keyword, with its square bracket if it has one.
-pub fn head(table: &[u8], text: &[u8], c: Cursor, lost: usize) -> Heading
-    requires { ReaderStart table.now text.now c.at × NoMark text.now c.at }
-    ensures { HeadAnswer (names_in table.now) text.now c.at lost result }
+pub fn head(source: &Source, c: Cursor, lost: usize) -> Result<Heading, Cursor>
+    requires { ReaderStart source.now.table.now source.now.text.now c.at × NoMark source.now.text.now c.at }
+    ensures { HeadAnswer (names_in source.now.table.now) source.now.text.now c.at lost result }
 {
-    if let Choice::Past(q, d) = either(text, c, b"EX", b"AX") {
-        return square_bracket(table, text, d, Keyword::Next(q), lost);
+    if let Some((q, d)) = either(source.text, c, b"EX", b"AX") {
+        return square_bracket(source, d, Keyword::Next(q), lost);
     }
-    if let Match::Past(d) = c.keyword(text, b"EU") {
-        return square_bracket(table, text, d, Keyword::Until, lost);
+    if let Some(d) = c.keyword(source.text, b"EU") {
+        return square_bracket(source, d, Keyword::Until, lost);
     }
-    short_form(table, text, c, lost)
+    short_form(source, c, lost)
 }

@@ -62,9 +62,8 @@ module _ (table_text text : List ℕ) where
           let same : l ≡ s = cc in
           omega (arith, leb-true (length l) longest_text short, ap length same)
 
-  pub refused_back : (buffer : List ℕ) (n g : ℕ) → readings table_text text ≡ refusal n g
-      → WroteBack table_text text buffer buffer (record { number = n; figure = g })
-  refused_back buffer n g d =
+  pub refused_back : (buffer : List ℕ) (a : Answer) → readings table_text text ≡ refusal a.number a.figure → WroteBack table_text text buffer buffer a
+  refused_back buffer a d =
       let is = of-read d in
       record {
         says = record { number_said = sym (ap number_in is); figure_said = sym (ap (figure_in length) is) };

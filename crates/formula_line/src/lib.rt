@@ -3,6 +3,7 @@
 
 ghost use Rattle.std.specs.Prelude.{◌≡◌, ◌+◌, ◌≤◌, ◌<◌, length, set};
 ghost use Rattle.actl.specs.Sizes.{longest_text};
+ghost use Rattle.explaining.specs.inner.Answered.{Answered};
 ghost use Rattle.explanations.specs.inner.Sizes.{kept_length};
 ghost use Rattle.explanations.specs.inner.Printed.{TextWritten};
 ghost use Rattle.files.specs.inner.Writing.{PrefixLength};
@@ -11,11 +12,11 @@ ghost use Rattle.formula_line.specs.inner.Back.{WroteBack};
 ghost use Rattle.formula_line.specs.inner.FileLine.{counted_line, file_line};
 
 use actl::sizes::FORMULA_LENGTH;
-use explaining::{BothRead, read_both};
+use explaining::read_both;
 use explanations::sizes::KEPT;
-use files::{Scanned, least, text_length, write_refused};
+use files::{Scanned, kept_text, text_length, write_refused};
 use lts::sizes::TABLE_LENGTH;
-use replies::Answer;
+use replies::{Answer, accepted};
 use write_formula::write_formula;
 use writing_replies::write_answer;
 
@@ -23,17 +24,14 @@ use writing_replies::write_answer;
 pub const LINE_LENGTH: usize = KEPT;
 
 // Reads both texts, and writes the formula back at the start of `text`. The figure of a text that was written is its length.
-fn write_back(tabletext: &[u8], formulatext: &[u8], text: &mut [u8]) -> Answer
+fn write_back(tabletext: &[u8], formulatext: &[u8], text: &mut [u8]) -> Result<u64, Answer>
     requires { longest_text ≤ length text.old }
-    ensures { WroteBack tabletext.now formulatext.now text.old text.new result }
+    ensures { Answered (WroteBack tabletext.now formulatext.now text.old text.new) result }
 {
     let mut table = [0u8; TABLE_LENGTH];
     let mut formula = [0u8; FORMULA_LENGTH];
-    let ready = read_both(tabletext, formulatext, &mut table, &mut formula);
-    match ready {
-        BothRead::Refused(number, figure) => Answer { number, figure },
-        BothRead::Ready => write_answer(write_formula(&table, &formula, text)),
-    }
+    read_both(tabletext, formulatext, &mut table, &mut formula)?;
+    accepted(write_answer(write_formula(&table, &formula, text)))
 }
 
 // An LF behind the first `n` bytes.
@@ -52,11 +50,10 @@ fn write_line(tablefile: &[u8], text: &[u8], counted: usize, out: &mut [u8]) -> 
     ensures text_written { TextWritten (counted_line counted (written_back tablefile.now text.now)) out.old out.new result }
     ensures prefix_length { PrefixLength result out.new }
 {
-    let said = write_back(tablefile, text, out);
-    if said.number != 0 {
-        return write_refused(said.number, said.figure, counted, out);
+    match write_back(tablefile, text, out) {
+        Ok(written) => end_line(out, written as usize),
+        Err(refused) => write_refused(refused.number, refused.figure, counted, out),
     }
-    end_line(out, said.figure as usize)
 }
 
 // Writes what the program writes at the start of `out`, and answers its length.
@@ -70,7 +67,6 @@ pub fn write_line_of(
     ensures prefix_length { PrefixLength result out.new }
 {
     let length = text_length(scanned);
-    let n = least(length, KEPT);
-    let whole = &head[..];
-    write_line(tablefile, &whole[..n], length, out)
+    let text = kept_text(head, length);
+    write_line(tablefile, text, length, out)
 }

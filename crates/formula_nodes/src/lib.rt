@@ -35,13 +35,9 @@ fn move_up(nodes: &mut [u8; FORMULA_LENGTH], start: usize, n: usize, count: usiz
     ensures { NodesMoved start n count nodes.old nodes.new }
 {
     if n + count <= NODES {
-        let by = count * NODE_SLOT;
         let low = 1 + start * NODE_SLOT;
-        let mut i = 1 + n * NODE_SLOT;
-        while low < i {
-            i -= 1;
-            nodes[i + by] = nodes[i];
-        }
+        let top = 1 + n * NODE_SLOT;
+        nodes.copy_within(low..top, low + count * NODE_SLOT);
     }
 }
 

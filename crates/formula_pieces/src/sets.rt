@@ -41,11 +41,8 @@ fn put_members(table: &[u8], set: u64, out: &mut [u8], at: usize) -> usize
 {
     let count = label_count(table);
     let mut end = at;
-    let mut left = count;
-    while 0 < left {
-        let k = count - left;
+    for k in 0..count {
         end = put_label(set, at, table, k, out, end);
-        left -= 1;
     }
     end
 }

@@ -3,7 +3,7 @@ use mathlib.Core.Path.{◌≡◌, refl, sym, ap, ◌∙◌, subst}
 use mathlib.Core.Logic.{inl, inr}
 use mathlib.Core.Bool.{Bool, true, false, not, ◌&&◌}
 use mathlib.Core.List.{List, [], ◌∷◌}
-use Prim.Native.Nat.{ℕ, ◌+◌, ◌-◌}
+use Prim.Native.Nat.{ℕ, ◌+◌, ◌-◌, ◌≤◌}
 use native.Mathlib.Omega.{arith}
 use lib.Bits.{bit_or, or_zero_l}
 use lib.ListN.{length, drop}
@@ -18,11 +18,10 @@ use Rattle.actl.specs.inner.Mentions.{names_s, names_o}
 use Rattle.actl.specs.inner.Cursor.{peek, Token, Skipped, Moves, Fails, Marked, Tokened}
 use Rattle.actl.specs.inner.Readers.{unknown_in, earlier, OperandRead, SetRead, EnclosedRead, Unclosed}
 use Rattle.formula_sets.specs.inner.SetReplies.{WildcardAnswer, OperandAnswer, EnclosedAnswer}
-use Rattle.formula_sets.specs.inner.OperandPhases.{MarkedLabels, NoOpening, MaskWithin, complemented, signed, SignsPassed}
-use Rattle.formula_sets.specs.declared.Wildcard.{Wildcard}
-use Rattle.formula_sets.specs.declared.Wildcard.TheVariants as wildcard
-use Rattle.formula_sets.specs.declared.Labels.{Labels}
-use Rattle.formula_sets.specs.declared.Labels.TheVariants.{Read, Refused}
+use Rattle.formula_sets.specs.inner.OperandPhases.{MarkedLabels, NoOpening, complemented, signed, SignsPassed}
+use Rattle.std.specs.Prelude.{Option, None, Some, Result, Ok, Err}
+use Rattle.formula_cursor.specs.declared.Cursor.{Cursor}
+use Rattle.formula_sets.specs.declared.LabelSet.{LabelSet}
 use Rattle.actl.proofs.ReadingMasks.{mask_complement, mask-union}
 use Rattle.formula_cursor.proofs.ReadingMoves.{on-other, skipped-token, then, fail, at_only, fail_only, written_as, skip, stops, equal, marked, tokened}
 use Rattle.actl.proofs.Complete.{named-no}
@@ -40,9 +39,8 @@ set-stops {s} {to} h f e =
     (λ k. on-other (peek s to) 32 _ _ m.token.past ∙ (on-other (peek s to) 124 _ _ m.last ∙ e m.value m.blanks k h.other)))
 
 -- The complement does not wrap.
-pub operand-within : (N : List (List ℕ)) (s : List ℕ) (at lost : ℕ) (r : Labels) → OperandAnswer N s at lost r → MaskWithin (labels_of N Action.any) r
-operand-within N s at lost (Read c m l) h = omega (arith, h.means, mask_complement (label_direction N) (length N) (action_of_operand N h.value))
-operand-within N s at lost (Refused c) h = tt
+pub operand-within : {N : List (List ℕ)} {s : List ℕ} {at lost to m l : ℕ} → OperandRead N s at lost to m l → m ≤ labels_of N Action.any
+operand-within {N} h = omega (arith, h.means, mask_complement (label_direction N) (length N) (action_of_operand N h.value))
 
 module _ (N : List (List ℕ)) {s : List ℕ} {at : ℕ} (lost : ℕ) where
   -- A mark that is an operand by itself.
@@ -59,7 +57,7 @@ module _ (N : List (List ℕ)) {s : List ℕ} {at : ℕ} (lost : ℕ) where
   pub operand_sent : {to m : ℕ} → Marked s at 33 to → m ≡ labels_of N (Action.directed Direction.sent) → OperandRead N s at lost to m lost
   operand_sent h e = one-mark sent h (marked h (omega arith) (λ k. refl)) e (earlier-none lost)
 
-  pub operand-stops : Token s at → WildcardAnswer N s at wildcard.Missing → NoOpening s at → is_lower (peek s at) ≡ false → Fails s at at operand_at
+  pub operand-stops : Token s at → WildcardAnswer N s at None → NoOpening s at → is_lower (peek s at) ≡ false → Fails s at at operand_at
   operand-stops h p q l = stops h.within (λ k. refl)
       (λ k. on-other (peek s at) 32 _ _ h.past ∙ (on-other (peek s at) 42 _ _ p.0 ∙ (on-other (peek s at) 63 _ _ p.1
       ∙ (on-other (peek s at) 33 _ _ p.2 ∙ (on-other (peek s at) 126 _ _ q.no_not ∙ (on-other (peek s at) 40 _ _ q.no_paren
@@ -78,9 +76,9 @@ module _ (N : List (List ℕ)) {s : List ℕ} {at : ℕ} (lost : ℕ) where
       lacks = h.lacks;
     }
 
-    pub except-says : (r : Labels) → OperandAnswer N s d lost r → OperandAnswer N s at lost (complemented (labels_of N Action.any) r)
-    except-says (Read c m l) h = operand-except h
-    except-says (Refused c) h = fail excepted (fail_only (λ i. o_not i (d - (at + 1))) h)
+    pub except-says : (r : Result LabelSet Cursor) → OperandAnswer N s d lost r → OperandAnswer N s at lost (complemented (labels_of N Action.any) r)
+    except-says (Ok x) h = operand-except h
+    except-says (Err c) h = fail excepted (fail_only (λ i. o_not i (d - (at + 1))) h)
 
   module _ {d : ℕ} (t : Tokened s at 40 d) where
     opened : Moves s at d (λ r. 40 ∷ gap (d - (at + 1)) r) operand_at (λ i. operand_at (o_first (s_paren i (d - (at + 1)))))
@@ -99,15 +97,19 @@ module _ (N : List (List ℕ)) {s : List ℕ} {at : ℕ} (lost : ℕ) where
           lacks = c.lacks ∙ ap (λ r. earlier lost (unknown_in N (length s) (names_s c.value (gap c.blanks r)))) v.text;
         }
 
-    pub group-says : (r : Labels) → EnclosedAnswer N s d 41 lost r → OperandAnswer N s at lost r
-    group-says (Read c m l) h = group-read h
-    group-says (Refused c) (inl h) = fail opened (fail_only (λ i. s_paren i (d - (at + 1))) h)
-    group-says (Refused c) (inr h) = fail opened (set-stops h (λ i. s_paren i (d - (at + 1))) (λ v g i e. on-other _ 41 _ _ e))
+    pub group-says : (r : Result LabelSet Cursor) → EnclosedAnswer N s d 41 lost r → OperandAnswer N s at lost r
+    group-says (Ok x) h = group-read h
+    group-says (Err c) (inl h) = fail opened (fail_only (λ i. s_paren i (d - (at + 1))) h)
+    group-says (Err c) (inr h) = fail opened (set-stops h (λ i. s_paren i (d - (at + 1))) (λ v g i e. on-other _ 41 _ _ e))
 
 -- Twice all labels but those are those.
-back : (all : ℕ) (r : Labels) → MaskWithin all r → r ≡ complemented all (complemented all r)
-back all (Read c m l) h = ap (λ k. Read c k l) (let e : m ≡ all - (all - m) = omega arith in e)
-back all (Refused c) h = refl
+back : (N : List (List ℕ)) (s : List ℕ) (at lost : ℕ) (r : Result LabelSet Cursor) → OperandAnswer N s at lost r
+    → r ≡ complemented (labels_of N Action.any) (complemented (labels_of N Action.any) r)
+back N s at lost (Ok x) h =
+    let all = labels_of N Action.any in
+    let e : x.mask ≡ all - (all - x.mask) = omega (arith, operand-within h) in
+    ap (λ k. Ok (record x { mask = k })) e
+back N s at lost (Err c) h = refl
 
 pub signs_none : (s : List ℕ) (at : ℕ) → Token s at → SignsPassed s at at false
 signs_none s at h = record { up = omega arith; token = h; says = λ N lost r a. a }
@@ -117,20 +119,20 @@ pub signs_more : {s : List ℕ} {at d e : ℕ} (odd : Bool) → SignsPassed s at
 signs_more {s} {at} {d} {e} odd j t = record {
   up = omega (arith, j.up, t.skipped.up);
   token = skipped-token t.skipped;
-  says = λ N lost r a. turned N lost r odd (operand-within N s e lost r a) (j.says N lost (complemented (labels_of N Action.any) r) (except-says N lost t r a));
+  says = λ N lost r a. turned N lost r odd a (j.says N lost (complemented (labels_of N Action.any) r) (except-says N lost t r a));
 }
   where
-    turned : (N : List (List ℕ)) (lost : ℕ) (r : Labels) (odd : Bool) → MaskWithin (labels_of N Action.any) r
+    turned : (N : List (List ℕ)) (lost : ℕ) (r : Result LabelSet Cursor) (odd : Bool) → OperandAnswer N s e lost r
         → OperandAnswer N s at lost (signed odd (labels_of N Action.any) (complemented (labels_of N Action.any) r))
         → OperandAnswer N s at lost (signed (not odd) (labels_of N Action.any) r)
-    turned N lost r true w h = subst (OperandAnswer N s at lost) (sym (back (labels_of N Action.any) r w)) h
+    turned N lost r true w h = subst (OperandAnswer N s at lost) (sym (back N s e lost r w)) h
     turned N lost r false w h = h
 
 -- The last of the marks that are operands by themselves, where the others do not stand.
-pub sent_says : (N : List (List ℕ)) (s : List ℕ) (at : ℕ) (w : Wildcard) → MarkedLabels s at 33 (labels_of N (Action.directed Direction.sent)) w
+pub sent_says : (N : List (List ℕ)) (s : List ℕ) (at : ℕ) (w : Option (Cursor × ℕ)) → MarkedLabels s at 33 (labels_of N (Action.directed Direction.sent)) w
     → (peek s at ≡ 42 → ⊥) → (peek s at ≡ 63 → ⊥) → WildcardAnswer N s at w
-sent_says N s at (wildcard.Past c m) h p q = λ lost. operand_sent N lost h.0 h.1
-sent_says N s at wildcard.Missing h p q = (p, q, h)
+sent_says N s at (Some x) h p q = λ lost. operand_sent N lost h.0 h.1
+sent_says N s at None h p q = (p, q, h)
 
 -- A set up to the place of its next operand.
 pub record Pending (N : List (List ℕ)) (s : List ℕ) (at lost to mask left : ℕ) : Type 0 where

@@ -1,7 +1,7 @@
 // Reading a set of labels: readers that call each other, each from a cursor to the cursor behind what it read.
 #![tactic(auto)]
 
-ghost use Rattle.std.specs.Prelude.{◌≡◌, ◌^◌, ◌<◌, suc, cond};
+ghost use Rattle.std.specs.Prelude.{◌≡◌, ◌^◌, ◌<◌, ◌≤◌, suc, cond};
 ghost use Rattle.std.proofs.Math.Option.{some};
 ghost use Rattle.actl.specs.Sizes.{longest_text};
 ghost use Rattle.lts.specs.inner.HoldsTable.{HoldsTable};
@@ -12,27 +12,27 @@ ghost use Rattle.actl.specs.Actions.{Action};
 ghost use Rattle.actl.specs.Meaning.{labels_of};
 ghost use Rattle.label_names.specs.inner.Names.{direction_in};
 ghost use Rattle.actl.specs.inner.Cursor.{Named, Token, peek};
-ghost use Rattle.actl.specs.inner.Readers.{names_in, ReaderStart, earlier};
+ghost use Rattle.actl.specs.inner.Readers.{names_in, OperandRead, ReaderStart, earlier};
 ghost use Rattle.formula_sets.specs.inner.SetReplies.{WildcardAnswer, OperandAnswer, EnclosedAnswer, SetAnswer};
-ghost use Rattle.formula_sets.specs.inner.OperandPhases.{MarkedLabels, NoOpening, MaskWithin, complemented, SignsRead, Closes};
+ghost use Rattle.formula_sets.specs.inner.OperandPhases.{MarkedLabels, NoOpening, without, SignsRead, Closes};
 
-use formula_cursor::{Cursor, Match};
+use formula_cursor::Cursor;
 use label_names::{Direction, name_span, same_direction};
-use tables::lookup::Lookup;
 
-// A set of labels as a mask; or the place where the text is refused. The last number is 0 as long as the table has
-// every name, and else one more than the offset of the first that it lacks.
-#[derive(Drop)]
-pub enum Labels {
-    Read(Cursor, u64, usize),
-    Refused(Cursor),
+// A set of labels as a mask, and the place behind it. `lost` is 0 as long as the table has every name, and else one more
+// than the offset of the first that it lacks: a number, since an Option would make each frame of the recursive readers longer.
+#[derive(Clone, Copy)]
+pub struct LabelSet {
+    pub end: Cursor,
+    pub mask: u64,
+    pub lost: usize,
 }
 
-// The labels that one mark stands for, as a mask; or no such mark stands here.
-#[derive(Drop)]
-enum Wildcard {
-    Past(Cursor, u64),
-    Missing,
+// What a formula is read over: a prepared table, which has the names of the labels, and the formula's text.
+#[derive(Clone, Copy)]
+pub struct Source<'a> {
+    pub table: &'a [u8],
+    pub text: &'a [u8],
 }
 
 // Behind the `~` before an operand, and whether they are odd in number.
@@ -58,13 +58,11 @@ fn last_direction(table: &[u8], k: usize) -> Direction
     let span = name_span(table, k);
     let end = span.to;
     let last = table[end - 1];
-    if last == b'?' {
-        return Direction::Received;
+    match last {
+        b'?' => Direction::Received,
+        b'!' => Direction::Sent,
+        _ => Direction::Neither,
     }
-    if last == b'!' {
-        return Direction::Sent;
-    }
-    Direction::Neither
 }
 
 // The bit of label k + 1 if it has the direction, and else none.
@@ -86,10 +84,8 @@ fn directed_labels(table: &[u8], wanted: Direction) -> u64
 {
     let count = tables::prepared::label_count(table);
     let mut mask = 0u64;
-    let mut k: usize = 0;
-    while k < count {
-        mask = mask + directed_bit(table, k, wanted);
-        k += 1;
+    for k in 0..count {
+        mask += directed_bit(table, k, wanted);
     }
     mask
 }
@@ -103,66 +99,75 @@ fn earlier_of(lost: usize, at: usize) -> usize
 }
 
 // A name's label, where the table has one.
-fn label(table: &[u8], text: &[u8], c: Cursor, d: Cursor, lost: usize) -> Labels
-    requires { ReaderStart table.now text.now c.at × Named text.now c.at d.at }
-    ensures { OperandAnswer (names_in table.now) text.now c.at lost result }
+fn label(source: &Source, c: Cursor, d: Cursor, lost: usize) -> LabelSet
+    requires { ReaderStart source.now.table.now source.now.text.now c.at × Named source.now.text.now c.at d.at }
+    ensures { OperandRead (names_in source.now.table.now) source.now.text.now c.at lost result.end.at result.mask result.lost }
 {
     let at = c.at;
     let to = d.at;
-    let x = label_names::find_label(table, &text[at..to]);
+    let x = label_names::find_label(source.table, &source.text[at..to]);
     match x {
-        Lookup::At(a) => Labels::Read(d, 1u64 << a, lost),
-        Lookup::Nowhere => Labels::Read(d, 0, earlier_of(lost, at)),
+        Some(a) => LabelSet {
+            end: d,
+            mask: 1u64 << a,
+            lost,
+        },
+        None => LabelSet {
+            end: d,
+            mask: 0,
+            lost: earlier_of(lost, at),
+        },
     }
 }
 
 // 02: `?` or `!`, whichever the mark is.
-fn directed_wildcard(table: &[u8], text: &[u8], c: Cursor, mark: u8, wanted: Direction) -> Wildcard
-    requires { HoldsTable table.now }
-    ensures { MarkedLabels text.now c.at mark (labels_of (names_in table.now) (Action.directed (direction_in wanted))) result }
+fn directed_wildcard(
+    source: &Source,
+    c: Cursor,
+    mark: u8,
+    wanted: Direction,
+) -> Option<(Cursor, u64)>
+    requires { HoldsTable source.now.table.now }
+    ensures { MarkedLabels source.now.text.now c.at mark (labels_of (names_in source.now.table.now) (Action.directed (direction_in wanted))) result }
 {
-    let Match::Past(d) = c.mark(text, mark) else {
-        return Wildcard::Missing;
-    };
-    Wildcard::Past(d, directed_labels(table, wanted))
+    let d = c.mark(source.text, mark)?;
+    Some((d, directed_labels(source.table, wanted)))
 }
 
 // 01: "`*` (all labels)"; 02: `?` and `!`.
-fn wildcard_labels(table: &[u8], text: &[u8], c: Cursor) -> Wildcard
-    requires { ReaderStart table.now text.now c.at }
-    ensures { WildcardAnswer (names_in table.now) text.now c.at result }
+fn wildcard_labels(source: &Source, c: Cursor) -> Option<(Cursor, u64)>
+    requires { ReaderStart source.now.table.now source.now.text.now c.at }
+    ensures { WildcardAnswer (names_in source.now.table.now) source.now.text.now c.at result }
 {
-    if let Match::Past(d) = c.mark(text, b'*') {
-        return Wildcard::Past(d, all_labels(table));
+    if let Some(d) = c.mark(source.text, b'*') {
+        return Some((d, all_labels(source.table)));
     }
-    if let Wildcard::Past(d, m) = directed_wildcard(table, text, c, b'?', Direction::Received) {
-        return Wildcard::Past(d, m);
+    if let Some(x) = directed_wildcard(source, c, b'?', Direction::Received) {
+        return Some(x);
     }
-    directed_wildcard(table, text, c, b'!', Direction::Sent)
+    directed_wildcard(source, c, b'!', Direction::Sent)
 }
 
 // An operand that begins with neither `~` nor `(`.
-fn bare_operand(table: &[u8], text: &[u8], c: Cursor, lost: usize) -> Labels
-    requires { ReaderStart table.now text.now c.at × NoOpening text.now c.at }
-    ensures { OperandAnswer (names_in table.now) text.now c.at lost result }
+fn bare_operand(source: &Source, c: Cursor, lost: usize) -> Result<LabelSet, Cursor>
+    requires { ReaderStart source.now.table.now source.now.text.now c.at × NoOpening source.now.text.now c.at }
+    ensures { OperandAnswer (names_in source.now.table.now) source.now.text.now c.at lost result }
 {
-    if let Wildcard::Past(d, m) = wildcard_labels(table, text, c) {
-        return Labels::Read(d, m, lost);
+    if let Some((end, mask)) = wildcard_labels(source, c) {
+        return Ok(LabelSet { end, mask, lost });
     }
-    if let Match::Past(d) = c.name(text) {
-        return label(table, text, c, d, lost);
-    }
-    Labels::Refused(c)
+    let d = c.name(source.text).ok_or(c)?;
+    Ok(label(source, c, d, lost))
 }
 
 // All labels but those that were read.
-fn complement(table: &[u8], x: Labels) -> Labels
-    requires { HoldsTable table.now × MaskWithin (labels_of (names_in table.now) Action.any) x }
-    ensures { result ≡ complemented (labels_of (names_in table.now) Action.any) x }
+fn complement(table: &[u8], x: LabelSet) -> LabelSet
+    requires { HoldsTable table.now × (x.mask ≤ labels_of (names_in table.now) Action.any) }
+    ensures { result ≡ without (labels_of (names_in table.now) Action.any) x }
 {
-    match x {
-        Labels::Read(e, m, l) => Labels::Read(e, all_labels(table) - m, l),
-        Labels::Refused(e) => Labels::Refused(e),
+    LabelSet {
+        mask: all_labels(table) - x.mask,
+        ..x
     }
 }
 
@@ -174,8 +179,8 @@ fn past_signs(text: &[u8], c: Cursor) -> Signs
     let mut d = c;
     let mut odd = false;
     loop {
-        let Match::Past(e) = d.token(text, b'~') else {
-            return Signs { end: d, odd: odd };
+        let Some(e) = d.token(text, b'~') else {
+            return Signs { end: d, odd };
         };
         d = e;
         odd = !odd;
@@ -183,79 +188,68 @@ fn past_signs(text: &[u8], c: Cursor) -> Signs
 }
 
 // What was read as a set, and the mark that ends its bracket.
-fn closed(text: &[u8], x: Labels, mark: u8) -> Labels
+fn closed(text: &[u8], x: LabelSet, mark: u8) -> Result<LabelSet, Cursor>
     ensures { Closes text.now mark x result }
 {
-    match x {
-        Labels::Refused(e) => Labels::Refused(e),
-        Labels::Read(e, m, l) => {
-            let Match::Past(f) = e.mark(text, mark) else {
-                return Labels::Refused(e);
-            };
-            Labels::Read(f, m, l)
-        }
-    }
+    let end = x.end.mark(text, mark).ok_or(x.end)?;
+    Ok(LabelSet { end, ..x })
 }
 
 // An operand with no `~` before it.
 #[cycle(operand_set_unsigned)]
-fn unsigned(table: &[u8], text: &[u8], c: Cursor, lost: usize) -> Labels
-    requires { ReaderStart table.now text.now c.at × (peek text.now c.at ≡ 126 → ⊥) }
-    ensures { OperandAnswer (names_in table.now) text.now c.at lost result }
+fn unsigned(source: &Source, c: Cursor, lost: usize) -> Result<LabelSet, Cursor>
+    requires { ReaderStart source.now.table.now source.now.text.now c.at × (peek source.now.text.now c.at ≡ 126 → ⊥) }
+    ensures { OperandAnswer (names_in source.now.table.now) source.now.text.now c.at lost result }
 {
-    if let Match::Past(d) = c.token(text, b'(') {
-        return closed(text, set(table, text, d, lost), 41);
+    if let Some(d) = c.token(source.text, b'(') {
+        return closed(source.text, set(source, d, lost)?, b')');
     }
-    bare_operand(table, text, c, lost)
+    bare_operand(source, c, lost)
 }
 
 // 01: "an operand is a name, `*` (all labels), `~` and an operand, or a set in round brackets"
 #[cycle(operand_set_unsigned)]
-fn operand(table: &[u8], text: &[u8], c: Cursor, lost: usize) -> Labels
-    requires { ReaderStart table.now text.now c.at }
-    ensures { OperandAnswer (names_in table.now) text.now c.at lost result }
+fn operand(source: &Source, c: Cursor, lost: usize) -> Result<LabelSet, Cursor>
+    requires { ReaderStart source.now.table.now source.now.text.now c.at }
+    ensures { OperandAnswer (names_in source.now.table.now) source.now.text.now c.at lost result }
 {
-    let s = past_signs(text, c);
-    let d = s.end;
-    let x = unsigned(table, text, d, lost);
+    let s = past_signs(source.text, c);
+    let x = unsigned(source, s.end, lost)?;
     if s.odd {
-        return complement(table, x);
+        return Ok(complement(source.table, x));
     }
-    x
+    Ok(x)
 }
 
 // 01: "A set is one or more operands joined by `|`". It is read with the blanks behind it.
 #[cycle(operand_set_unsigned)]
-pub fn set(table: &[u8], text: &[u8], c: Cursor, lost: usize) -> Labels
-    requires { ReaderStart table.now text.now c.at }
-    ensures { SetAnswer (names_in table.now) text.now c.at lost result }
+pub fn set(source: &Source, c: Cursor, lost: usize) -> Result<LabelSet, Cursor>
+    requires { ReaderStart source.now.table.now source.now.text.now c.at }
+    ensures { SetAnswer (names_in source.now.table.now) source.now.text.now c.at lost result }
 {
     let mut d = c;
     let mut mask = 0u64;
     let mut lacks = lost;
     loop {
-        let x = operand(table, text, d, lacks);
-        match x {
-            Labels::Refused(e) => {
-                return Labels::Refused(e);
-            }
-            Labels::Read(e, m, l) => {
-                let f = e.skip_blanks(text);
-                mask = mask | m;
-                lacks = l;
-                let Match::Past(g) = f.token(text, b'|') else {
-                    return Labels::Read(f, mask, lacks);
-                };
-                d = g;
-            }
-        }
+        let x = operand(source, d, lacks)?;
+        let end = x.end.skip_blanks(source.text);
+        mask |= x.mask;
+        lacks = x.lost;
+        let Some(e) = end.token(source.text, b'|') else {
+            return Ok(LabelSet {
+                end,
+                mask,
+                lost: lacks,
+            });
+        };
+        d = e;
     }
 }
 
 // A set, and the mark that ends its bracket.
-pub fn enclosed(table: &[u8], text: &[u8], c: Cursor, mark: u8, lost: usize) -> Labels
-    requires { ReaderStart table.now text.now c.at }
-    ensures { EnclosedAnswer (names_in table.now) text.now c.at mark lost result }
+pub fn enclosed(source: &Source, c: Cursor, mark: u8, lost: usize) -> Result<LabelSet, Cursor>
+    requires { ReaderStart source.now.table.now source.now.text.now c.at }
+    ensures { EnclosedAnswer (names_in source.now.table.now) source.now.text.now c.at mark lost result }
 {
-    closed(text, set(table, text, c, lost), mark)
+    closed(source.text, set(source, c, lost)?, mark)
 }

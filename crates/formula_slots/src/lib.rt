@@ -19,23 +19,14 @@ use table_check::zeros;
 fn within(labels: usize, set: u64) -> bool
     ensures { result ≡ mask_within labels set }
 {
-    if set % 2 != 0 {
-        return false;
-    }
-    if 63 <= labels {
-        return true;
-    }
-    set >> (labels + 1) == 0
+    set % 2 == 0 && (63 <= labels || set >> (labels + 1) == 0)
 }
 
 // A mask that the kind has is a set; one that it does not have is zero.
 fn mask_fits(labels: usize, set: u64, used: bool) -> bool
     ensures { result ≡ ((used || eqb set 0) && mask_within labels set) }
 {
-    if used {
-        return within(labels, set);
-    }
-    set == 0
+    if used { within(labels, set) } else { set == 0 }
 }
 
 // How many of its masks a kind has (docs/FORMATS.md).
@@ -54,10 +45,7 @@ fn slot_fits(labels: usize, formula: &[u8], k: usize) -> bool
     ensures { result ≡ slot_fits labels (slot_at formula.now k) }
 {
     let kind = formula[1 + k * NODE_SLOT];
-    if kind == 0 {
-        return false;
-    }
-    if 9 < kind {
+    if !(1..=9).contains(&kind) {
         return false;
     }
     let masks = masks_of(kind);
@@ -70,12 +58,10 @@ fn slots_fit(labels: usize, formula: &[u8], count: usize) -> bool
     requires { (formula_length ≤ length formula.now) × (count ≤ most_nodes) }
     ensures { result ≡ slots_fit labels formula.now count }
 {
-    let mut k = 0;
-    while k < count {
+    for k in 0..count {
         if !slot_fits(labels, formula, k) {
             return false;
         }
-        k += 1;
     }
     true
 }

@@ -20,7 +20,9 @@ use Rattle.actl.specs.inner.Meaning.{formula_t}
 use Rattle.formula_terms.specs.inner.Prefixes.{PrefixRead, Atom, NoAtom, PrefixesPassed, PrefixesAnswer}
 use Rattle.formula_terms.specs.inner.TermReplies.{TermAnswer, BracketAnswer}
 use Rattle.formula_terms.specs.declared.Nodes.{Nodes}
-use Rattle.formula_terms.specs.declared.Nodes.TheVariants.{Read, Refused}
+use Rattle.std.specs.Prelude.{Option, None, Some, is_some, Result, Ok, Err}
+use Rattle.formula_cursor.specs.declared.Cursor.{Cursor}
+use Rattle.formula_cursor.specs.inner.CursorReplies.{MarkAnswer}
 use Rattle.formula_cursor.proofs.ReadingMoves.{on-other, skipped-token, then, fail, at_only, fail_only, written_as, skip, stops, equal, marked, tokened}
 use Rattle.formula_sets.proofs.ReadingSets.{token-behind}
 use Rattle.actl.proofs.ReadingLabels.{earlier-none, earlier_append}
@@ -114,9 +116,9 @@ module _ {N : List (List ℕ)} {s : List ℕ} {at n lost : ℕ} {e : List ℕ} w
       lacks = t.lacks ∙ p.lacks t.value (drop to s) t.moves.text;
     }
 
-    pub term-behind : (y : List ℕ) (r : Nodes) → TermAnswer N s d m l x y r → TermAnswer N s at n lost e y r
-    term-behind y (Read c k left) t = behind-read t
-    term-behind y (Refused c) t = fail p.moves (fail_only p.place t)
+    pub term-behind : (y : List ℕ) (r : Result Nodes Cursor) → TermAnswer N s d m l x y r → TermAnswer N s at n lost e y r
+    term-behind y (Ok v) t = behind-read t
+    term-behind y (Err c) t = fail p.moves (fail_only p.place t)
 
 -- Prefixes behind each other.
 pub passed_none : (N : List (List ℕ)) (s : List ℕ) (at n lost : ℕ) (e : List ℕ) → Token s at → NodeRoom e at n → PrefixesPassed N s at n lost e at n lost e
@@ -132,20 +134,33 @@ passed_then p q = record { up = omega (arith, p.up, q.up); token = q.token; room
 
 -- A refusal behind prefixes.
 pub passed_fails : {N : List (List ℕ)} {s : List ℕ} {at n lost : ℕ} {e : List ℕ} {d m l : ℕ} {x : List ℕ} → PrefixesPassed N s at n lost e d m l x
-    → (y : List ℕ) (r : Nodes) → PrefixesAnswer N s d m l x y r → PrefixesAnswer N s at n lost e y r
-passed_fails p y (Read c k left) h = record { passed = passed_then p h.passed; atom = h.atom }
-passed_fails p y (Refused c) h = p.says y (Refused c) h
+    → (y : List ℕ) (r : Result Nodes Cursor) → PrefixesAnswer N s d m l x y r → PrefixesAnswer N s at n lost e y r
+passed_fails p y (Ok v) h = record { passed = passed_then p h.passed; atom = h.atom }
+passed_fails p y (Err c) h = p.says y (Err c) h
 
 -- A place is one of an atom, or it is not.
 pub atom-there : (s : List ℕ) (at : ℕ) → Atom s at → Decides (Atom s at) true
 atom-there s at h = record { yes = λ e. h; no = λ e p. true≢false e }
 
-pub atom_neither : (s : List ℕ) (at : ℕ) → Atom s at → (peek s at ≡ 84 → ⊥) → (peek s at ≡ 40 → ⊥) → ⊥
+atom_neither : (s : List ℕ) (at : ℕ) → Atom s at → (peek s at ≡ 84 → ⊥) → (peek s at ≡ 40 → ⊥) → ⊥
 atom_neither s at (inl h) p q = p h
 atom_neither s at (inr h) p q = q h
 
-pub no-atom-there : (s : List ℕ) (at : ℕ) → (peek s at ≡ 84 → ⊥) → (peek s at ≡ 40 → ⊥) → Decides (Atom s at) false
+no-atom-there : (s : List ℕ) (at : ℕ) → (peek s at ≡ 84 → ⊥) → (peek s at ≡ 40 → ⊥) → Decides (Atom s at) false
 no-atom-there s at p q = record { yes = λ e. absurd (true≢false (sym e)); no = λ e h. atom_neither s at h p q }
+
+-- What a mark's test says.
+pub marked-where : (s : List ℕ) (at mark : ℕ) (r : Option Cursor) → MarkAnswer s at mark r → is_some r ≡ true → (d : Cursor) × Marked s at mark d.at
+marked-where s at mark (Some d) h e = (d, h)
+marked-where s at mark None h e = absurd (true≢false (sym e))
+
+pub unmarked-where : (s : List ℕ) (at mark : ℕ) (r : Option Cursor) → MarkAnswer s at mark r → is_some r ≡ false → peek s at ≡ mark → ⊥
+unmarked-where s at mark (Some d) h e = absurd (true≢false e)
+unmarked-where s at mark None h e = h
+
+pub atom_last : (s : List ℕ) (at : ℕ) (r : Option Cursor) → MarkAnswer s at 40 r → (b : Bool) → b ≡ is_some r → (peek s at ≡ 84 → ⊥) → Decides (Atom s at) b
+atom_last s at (Some d) h b e p = subst (Decides (Atom s at)) (sym e) (atom-there s at (inr h.here))
+atom_last s at None h b e p = subst (Decides (Atom s at)) (sym e) (no-atom-there s at p h)
 
 pub no-atom : {s : List ℕ} {at : ℕ} {b : Bool} → Decides (Atom s at) b → b ≡ false → NoAtom s at
 no-atom d e = record { no_true = λ p. d.no e (inl p); no_paren = λ p. d.no e (inr p) }
@@ -177,7 +192,7 @@ module _ (N : List (List ℕ)) {s : List ℕ} {at : ℕ} (n lost : ℕ) (e : Lis
       (λ i. on-other (peek s to) 32 _ _ c.token.past ∙ (on-other (peek s to) 38 _ _ c.no_and
       ∙ (on-other (peek s to) 124 _ _ c.no_or ∙ on-other (peek s to) 41 _ _ h.other))))
 
-  pub term-paren : (y : List ℕ) (r : Nodes) → BracketAnswer N s d n lost e y r → TermAnswer N s at n lost e y r
-  term-paren y (Read c m l) h = paren-read h
-  term-paren y (Refused c) (inl h) = fail opened (fail_only (λ i. f_paren i (d - (at + 1))) h)
-  term-paren y (Refused c) (inr h) = unclosed h
+  pub term-paren : (y : List ℕ) (r : Result Nodes Cursor) → BracketAnswer N s d n lost e y r → TermAnswer N s at n lost e y r
+  term-paren y (Ok v) h = paren-read h
+  term-paren y (Err c) (inl h) = fail opened (fail_only (λ i. f_paren i (d - (at + 1))) h)
+  term-paren y (Err c) (inr h) = unclosed h

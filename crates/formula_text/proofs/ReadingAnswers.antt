@@ -21,7 +21,8 @@ use Rattle.actl.specs.inner.NodeBytes.{bytes_of_nodes}
 use Rattle.actl.specs.inner.Walk.{kind_of, kinds_of, kinds_in}
 use Rattle.actl.specs.inner.Writing.{prepared_bytes, NodesHeld}
 use Rattle.formula_text.specs.inner.FormulaAnswers.{FormulaAnswered}
-use Rattle.formula_text.specs.declared.FormulaReply.TheVariants.{Accepted, NameUnknown, TooManyNodes, NoClass}
+use Rattle.formula_text.specs.declared.FormulaRefusal.TheVariants.{NameUnknown, TooManyNodes, NoClass}
+use Rattle.std.proofs.Common.{Ok, Err}
 use Rattle.actl.proofs.Nodes.{length-nodes}
 use Rattle.actl.proofs.ReadingNodes.{bytes-length}
 use Rattle.actl.proofs.Laws.Forms.{slot-of-form}
@@ -88,14 +89,14 @@ module _ (b : List ℕ) (n : ℕ) (F : Formula)
 -- The order of the refusals.
 module _ (b : List ℕ) (n lost : ℕ) (e : List ℕ) (F : Formula) where
   pub answer_unknown : (o : Option ℕ) → NodesHeld b n lost F o → (lost ≡ 0 → ⊥)
-      → FormulaAnswered (unless_found o 7 (with_classes F)) e (NameUnknown (lost - 1)) e
+      → FormulaAnswered (unless_found o 7 (with_classes F)) e (Err (NameUnknown (lost - 1))) e
   answer_unknown none h z = absurd (z h.lacks)
   answer_unknown (some a) h z =
       let w : lost - 1 ≡ a = omega (arith, h.lacks) in
       record { replies = ap (refusal 7) w; leaves = refl }
 
   module _ (z : lost ≡ 0) where
-    pub answer-many : (o : Option ℕ) → NodesHeld b n lost F o → 40 < n → FormulaAnswered (unless_found o 7 (with_classes F)) e (TooManyNodes n) e
+    pub answer-many : (o : Option ℕ) → NodesHeld b n lost F o → 40 < n → FormulaAnswered (unless_found o 7 (with_classes F)) e (Err (TooManyNodes n)) e
     answer-many (some a) h w = absurd (omega (arith, h.lacks))
     answer-many none h w =
         let t : leb (size F) most_nodes ≡ false = lt-leb (size F) most_nodes (omega (arith, h.count)) in
@@ -108,12 +109,12 @@ module _ (b : List ℕ) (n lost : ℕ) (e : List ℕ) (F : Formula) where
       few = ap (λ v. unless v 8 (size F) (unless_found (highest_without_class F) 9 (accepted F)))
           (le-leb (size F) most_nodes (omega (arith, h.count)))
 
-      classless : (k : ℕ) → some k ≡ highest_without_class F → FormulaAnswered (with_classes F) e (NoClass k) e
+      classless : (k : ℕ) → some k ≡ highest_without_class F → FormulaAnswered (with_classes F) e (Err (NoClass k)) e
       classless k q =
           let r : with_classes F ≡ refusal 9 k = few ∙ ap (λ o. unless_found o 9 (accepted F)) (sym q) in
           record { replies = sym (ap (answers (λ F. tt)) r); leaves = sym (ap (λ a. left_in formula_bytes a e) r) }
 
-      classed : (x : List ℕ) → none ≡ highest_without_class F → x ≡ pasted e 0 (prepared_bytes b n) → FormulaAnswered (with_classes F) e Accepted x
+      classed : (x : List ℕ) → none ≡ highest_without_class F → x ≡ pasted e 0 (prepared_bytes b n) → FormulaAnswered (with_classes F) e (Ok tt) x
       classed x q p =
           let r : with_classes F ≡ accepted F = few ∙ ap (λ o. unless_found o 9 (accepted F)) (sym q) in
           let f = bytes-are b n F h.count (h.made w) w in
@@ -124,11 +125,11 @@ module _ (b : List ℕ) (n lost : ℕ) (e : List ℕ) (F : Formula) where
           }
 
     pub answer_classless : (o : Option ℕ) → NodesHeld b n lost F o → n ≤ most_nodes
-        → (k : ℕ) → some k ≡ highest_without_class F → FormulaAnswered (unless_found o 7 (with_classes F)) e (NoClass k) e
+        → (k : ℕ) → some k ≡ highest_without_class F → FormulaAnswered (unless_found o 7 (with_classes F)) e (Err (NoClass k)) e
     answer_classless (some a) h w k q = absurd (omega (arith, h.lacks))
     answer_classless none h w k q = classless w h k q
 
     pub answer-accepted : (o : Option ℕ) → NodesHeld b n lost F o → n ≤ most_nodes → (x : List ℕ) → none ≡ highest_without_class F
-        → x ≡ pasted e 0 (prepared_bytes b n) → FormulaAnswered (unless_found o 7 (with_classes F)) e Accepted x
+        → x ≡ pasted e 0 (prepared_bytes b n) → FormulaAnswered (unless_found o 7 (with_classes F)) e (Ok tt) x
     answer-accepted (some a) h w x q p = absurd (omega (arith, h.lacks))
     answer-accepted none h w x q p = classed w h x q p

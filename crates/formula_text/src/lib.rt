@@ -13,15 +13,14 @@ ghost use Rattle.actl.specs.ByGrammar.{FormulaByGrammar};
 
 use crate::writing::answer;
 use actl::sizes::{FORMULA_LENGTH, LONGEST_TEXT};
-use formula_terms::{Reading, read_text};
+use formula_terms::read_text;
 use lts::sizes::TABLE_LENGTH;
 
 mod writing;
 
-// What `read_formula` answers. specs/Replies.antt lists the number and the figure of each case.
-#[derive(Drop)]
-pub enum FormulaReply {
-    Accepted,
+// Why `read_formula` refuses. specs/Replies.antt lists the number and the figure of each case.
+#[derive(Clone, Copy)]
+pub enum FormulaRefusal {
     TooLong(usize),
     NotGrammatical(usize),
     NameUnknown(usize),
@@ -32,35 +31,35 @@ pub enum FormulaReply {
 }
 
 // 01: "Formulas go 5, 6, 7, 8, 9." The text, over the bytes of a table.
-pub fn read_text_over(table: &[u8], text: &[u8], formula: &mut [u8]) -> FormulaReply
+pub fn read_text_over(table: &[u8], text: &[u8], formula: &mut [u8]) -> Result<(), FormulaRefusal>
     requires { HoldsTable table.now × (formula_length ≤ length formula.old) }
     ensures { FormulaAnswered (read_formula (names_in table.now) text.now) formula.old result formula.new }
 {
     if LONGEST_TEXT < text.len() {
-        return FormulaReply::TooLong(text.len());
+        return Err(FormulaRefusal::TooLong(text.len()));
     }
     let mut nodes = [0u8; FORMULA_LENGTH];
     let x = read_text(table, text, &mut nodes);
     match x {
-        Reading::Refused(longest) => FormulaReply::NotGrammatical(longest),
-        Reading::Whole(count, lost) => answer(&nodes, count, lost, formula),
+        Err(longest) => Err(FormulaRefusal::NotGrammatical(longest)),
+        Ok(whole) => answer(&nodes, whole.count, whole.lost, formula),
     }
 }
 
 // Reads a formula's text over a prepared table. 01: "Order: 14 first, then 10"; "Formulas go 5, 6, 7, 8, 9."
-pub fn read_formula(table: &[u8], text: &[u8], formula: &mut [u8]) -> FormulaReply
+pub fn read_formula(table: &[u8], text: &[u8], formula: &mut [u8]) -> Result<(), FormulaRefusal>
     ensures result_value { formula_reply result ≡ formula_replied table.now text.now formula.old }
     ensures formula_after { formula.new ≡ formula_left table.now text.now formula.old }
     ensures formula_by_grammar { FormulaByGrammar table.now text.now formula.old (formula_reply result) formula.new }
 {
     if table.len() < TABLE_LENGTH {
-        return FormulaReply::BufferShort(TABLE_LENGTH);
+        return Err(FormulaRefusal::BufferShort(TABLE_LENGTH));
     }
     if formula.len() < FORMULA_LENGTH {
-        return FormulaReply::BufferShort(FORMULA_LENGTH);
+        return Err(FormulaRefusal::BufferShort(FORMULA_LENGTH));
     }
     if !table_check::is_prepared(table) {
-        return FormulaReply::TableForeign;
+        return Err(FormulaRefusal::TableForeign);
     }
     read_text_over(table, text, formula)
 }

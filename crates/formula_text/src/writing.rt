@@ -5,10 +5,10 @@ ghost use Rattle.columns.specs.inner.Write.{pasted};
 ghost use Rattle.actl.specs.inner.Writing.{prepared_bytes};
 ghost use Rattle.formula_text.specs.inner.FormulaAnswers.{FormulaAnsweredWith};
 
-use crate::FormulaReply;
+use crate::FormulaRefusal;
 use actl::sizes::{FORMULA_LENGTH, NODES};
 use byte_copy::copy;
-use formula_classes::{Classless, highest_classless};
+use formula_classes::highest_classless;
 
 // The node count, then the nodes and the zeros behind them.
 fn write_bytes(nodes: &[u8], n: usize, formula: &mut [u8])
@@ -25,19 +25,19 @@ pub fn answer(
     n: usize,
     lost: usize,
     formula: &mut [u8],
-) -> FormulaReply
+) -> Result<(), FormulaRefusal>
     requires { (length nodes.now ≡ formula_length) × (formula_length ≤ length formula.old) }
     ensures { FormulaAnsweredWith nodes.now n lost formula.old result formula.new }
 {
     if lost != 0 {
-        return FormulaReply::NameUnknown(lost - 1);
+        return Err(FormulaRefusal::NameUnknown(lost - 1));
     }
     if NODES < n {
-        return FormulaReply::TooManyNodes(n);
+        return Err(FormulaRefusal::TooManyNodes(n));
     }
-    let Classless::At(k) = highest_classless(nodes, n) else {
-        write_bytes(nodes, n, formula);
-        return FormulaReply::Accepted;
-    };
-    FormulaReply::NoClass(k)
+    if let Some(k) = highest_classless(nodes, n) {
+        return Err(FormulaRefusal::NoClass(k));
+    }
+    write_bytes(nodes, n, formula);
+    Ok(())
 }

@@ -27,23 +27,6 @@ pub struct Place {
     arm: bool,
 }
 
-fn place_at(at: usize, top: usize, arm: bool) -> Place
-    ensures { (result.at ≡ at) × (result.top ≡ top) × (result.arm ≡ arm) }
-{
-    Place {
-        at: at,
-        top: top,
-        arm: arm,
-    }
-}
-
-// Behind a keyword with its bracket.
-fn arm_at(at: usize, top: usize) -> Place
-    ensures { (result.at ≡ at) × (result.top ≡ top) × (result.arm ≡ true) }
-{
-    place_at(at, top, true)
-}
-
 // Behind T: what is pending, up to the next `|`.
 fn close(pending: &[u8], top: usize, out: &mut [u8], at: usize) -> Place
     requires { Stack pending.now top × Room out.old at 80 }
@@ -51,16 +34,22 @@ fn close(pending: &[u8], top: usize, out: &mut [u8], at: usize) -> Place
         top at out.old out.new pending.now pending.now result }
 {
     let mut end = at;
-    let mut left = top;
-    while 0 < left {
-        left -= 1;
+    for left in (0..top).rev() {
         let b = pending[left];
         end = put(out, end, b);
         if b == b'|' {
-            return place_at(end, left, true);
+            return Place {
+                at: end,
+                top: left,
+                arm: true,
+            };
         }
     }
-    place_at(end, left, true)
+    Place {
+        at: end,
+        top: 0,
+        arm: true,
+    }
 }
 
 // A `|`: its own byte is pending behind its left arm, a `)` behind its right one.
@@ -72,10 +61,18 @@ fn open(arm: bool, pending: &mut [u8], top: usize, out: &mut [u8], at: usize) ->
     if arm {
         pending[top] = b')';
         pending[top + 1] = b'|';
-        return place_at(put(out, at, b'('), top + 2, false);
+        return Place {
+            at: put(out, at, b'('),
+            top: top + 2,
+            arm: false,
+        };
     }
     pending[top] = b'|';
-    place_at(at, top + 1, false)
+    Place {
+        at,
+        top: top + 1,
+        arm: false,
+    }
 }
 
 fn write_node(
@@ -93,22 +90,22 @@ fn write_node(
         (pending_after (slot_of_node node).kind arm (stack_of pending.old top)) (arm_after (slot_of_node node).kind)
         top at out.old out.new pending.old pending.new result }
 {
-    match node {
+    let end = match node {
         Node::True => {
             let end = put(out, at, b'T');
-            close(pending, top, out, end)
+            return close(pending, top, out, end);
         }
-        Node::Not => place_at(put(out, at, b'~'), top, true),
-        Node::Or => open(arm, pending, top, out, at),
-        Node::Ex(condition) => arm_at(put_keyword(b'E', b'X', table, condition, out, at), top),
-        Node::Ax(condition) => arm_at(put_keyword(b'A', b'X', table, condition, out, at), top),
-        Node::Until(set) => {
-            let condition = Condition::Labels(set);
-            arm_at(put_keyword(b'E', b'U', table, condition, out, at), top)
-        }
-        Node::UntilThen(first, second) => {
-            arm_at(put_until_then(table, first, second, out, at), top)
-        }
+        Node::Or => return open(arm, pending, top, out, at),
+        Node::Not => put(out, at, b'~'),
+        Node::Ex(condition) => put_keyword(b'E', b'X', table, condition, out, at),
+        Node::Ax(condition) => put_keyword(b'A', b'X', table, condition, out, at),
+        Node::Until(set) => put_keyword(b'E', b'U', table, Condition::Labels(set), out, at),
+        Node::UntilThen(first, second) => put_until_then(table, first, second, out, at),
+    };
+    Place {
+        at: end,
+        top,
+        arm: true,
     }
 }
 
@@ -123,14 +120,12 @@ pub fn write_nodes(table: &[u8], formula: &[u8], out: &mut [u8]) -> usize
     let mut at: usize = 0;
     let mut top: usize = 0;
     let mut arm = false;
-    let mut k: usize = 0;
-    while k < count {
+    for k in 0..count {
         let node = node_at(formula, k);
         let next = write_node(table, node, arm, &mut pending, top, out, at);
         at = next.at;
         top = next.top;
         arm = next.arm;
-        k += 1;
     }
     at
 }

@@ -74,22 +74,18 @@ pub fn node_at(formula: &[u8], k: usize) -> Node
 }
 
 // What a node's slot holds (docs/FORMATS.md).
-#[derive(Drop)]
+#[derive(Clone, Copy)]
 struct Slot {
     kind: u8,
     first: u64,
     second: u64,
 }
 
-fn slot_with(kind: u8, first: u64, second: u64) -> Slot
-    ensures { slot result.kind result.first result.second ≡ slot kind first second }
-{
-    Slot {
-        kind: kind,
-        first: first,
-        second: second,
-    }
-}
+const EMPTY: Slot = Slot {
+    kind: 0,
+    first: 0,
+    second: 0,
+};
 
 // The slot of EX or AX: the kind of the silent step, and of a set the kind behind it.
 fn next_slot(kind: u8, condition: Condition) -> Slot
@@ -97,8 +93,12 @@ fn next_slot(kind: u8, condition: Condition) -> Slot
     ensures { slot result.kind result.first result.second ≡ next_slot kind (cond_in condition) }
 {
     match condition {
-        Condition::Silent => slot_with(kind, 0, 0),
-        Condition::Labels(set) => slot_with(kind + 1, set, 0),
+        Condition::Silent => Slot { kind, ..EMPTY },
+        Condition::Labels(set) => Slot {
+            kind: kind + 1,
+            first: set,
+            ..EMPTY
+        },
     }
 }
 
@@ -106,13 +106,21 @@ fn slot_of(node: Node) -> Slot
     ensures { slot result.kind result.first result.second ≡ slot_of_node node }
 {
     match node {
-        Node::True => slot_with(1, 0, 0),
-        Node::Not => slot_with(2, 0, 0),
-        Node::Or => slot_with(3, 0, 0),
+        Node::True => Slot { kind: 1, ..EMPTY },
+        Node::Not => Slot { kind: 2, ..EMPTY },
+        Node::Or => Slot { kind: 3, ..EMPTY },
         Node::Ex(condition) => next_slot(4, condition),
         Node::Ax(condition) => next_slot(6, condition),
-        Node::Until(set) => slot_with(8, set, 0),
-        Node::UntilThen(first, second) => slot_with(9, first, second),
+        Node::Until(first) => Slot {
+            kind: 8,
+            first,
+            ..EMPTY
+        },
+        Node::UntilThen(first, second) => Slot {
+            kind: 9,
+            first,
+            second,
+        },
     }
 }
 
@@ -121,13 +129,7 @@ fn put_mask(formula: &mut [u8], at: usize, mask: u64)
     requires { at + 8 ≤ length formula.old }
     ensures { formula.new ≡ pasted formula.old at (low_first 8 mask) }
 {
-    let mut rest = mask;
-    let mut i = 0;
-    while i < 8 {
-        formula[at + i] = (rest % 256) as u8;
-        rest = rest / 256;
-        i += 1;
-    }
+    formula[at..at + 8].copy_from_slice(&mask.to_le_bytes());
 }
 
 // Writes node k where `node_at` reads it.

@@ -19,11 +19,11 @@ ghost use Rattle.label_names.specs.inner.Names.{direction_in, NameStands};
 
 use byte_words::same::same_parts;
 use lts::sizes::{HEAD, NAME_BYTES_AT, NAME_SLOT, TRANSITIONS_AT};
-use tables::lookup::Lookup;
+use lts::spans::Span;
 use tables::prepared::{byte, label_count};
 
 // 02: "its direction (none, in, out)"
-#[derive(Clone, Copy)]
+#[derive(Clone, Copy, PartialEq, Eq)]
 pub enum Direction {
     Neither,
     Received,
@@ -37,29 +37,16 @@ pub struct NameRead {
     pub direction: Direction,
 }
 
-// The bytes of a name: from `from` to before `to`.
-#[derive(Drop)]
-pub struct NameSpan {
-    pub from: usize,
-    pub to: usize,
-}
-
-fn is_lower(b: usize) -> bool
+fn is_lower(b: u8) -> bool
     ensures { result ≡ is_lower b }
 {
-    97 <= b && b <= 122
+    b'a' <= b && b <= b'z'
 }
 
-fn is_name_byte(b: usize) -> bool
+fn is_name_byte(b: u8) -> bool
     ensures { result ≡ is_name_byte b }
 {
-    if is_lower(b) {
-        return true;
-    }
-    if b == 95 {
-        return true;
-    }
-    48 <= b && b <= 57
+    is_lower(b) || b == b'_' || b'0' <= b && b <= b'9'
 }
 
 // The place behind the longest name at `from`, its mark left out; `from` if none stands there. 01: "A name has 1 to 12 bytes"
@@ -70,21 +57,19 @@ fn stem_end(text: &[u8], from: usize) -> usize
     if text.len() <= from {
         return from;
     }
-    if !is_lower(text[from] as usize) {
+    if !is_lower(text[from]) {
         return from;
     }
-    let mut n: usize = 1;
-    while n < 12 {
+    for n in 1..12 {
         let to = from + n;
         if text.len() <= to {
             return to;
         }
-        if !is_name_byte(text[to] as usize) {
+        if !is_name_byte(text[to]) {
             return to;
         }
-        n += 1;
     }
-    from + n
+    from + 12
 }
 
 // The longest name that stands at `from`; it ends there if none does. 02: "A name may end in one `?` or `!` beyond its 12 bytes"
@@ -95,13 +80,13 @@ pub fn read_name(text: &[u8], from: usize) -> NameRead
     let end = stem_end(text, from);
     if end == from {
         return NameRead {
-            end: end,
+            end,
             direction: Direction::Neither,
         };
     }
     if text.len() <= end {
         return NameRead {
-            end: end,
+            end,
             direction: Direction::Neither,
         };
     }
@@ -118,18 +103,18 @@ pub fn read_name(text: &[u8], from: usize) -> NameRead
         };
     }
     NameRead {
-        end: end,
+        end,
         direction: Direction::Neither,
     }
 }
 
 // Where the bytes of the name in slot k of a prepared table stand.
-pub fn name_span(table: &[u8], k: usize) -> NameSpan
+pub fn name_span(table: &[u8], k: usize) -> Span
     requires { (table_length ≤ length table.now) × (k < most_labels) }
     ensures { NameStands table.now k result }
 {
     let at = NAME_BYTES_AT + k * NAME_SLOT;
-    NameSpan {
+    Span {
         from: at,
         to: at + byte(table, HEAD + k * NAME_SLOT),
     }
@@ -141,27 +126,13 @@ pub fn label_direction(table: &[u8], k: usize) -> Direction
     ensures { direction_in result ≡ label_direction (table_in table.now).names (suc k) }
 {
     let span = name_span(table, k);
-    let at = span.from;
-    let end = span.to;
-    let name = read_name(&table[at..end], 0);
-    name.direction
-}
-
-// Numbers tell directions apart.
-fn direction_code(d: Direction) -> u8
-    ensures { result ≡ direction_code (direction_in d) }
-{
-    match d {
-        Direction::Neither => 0,
-        Direction::Received => 1,
-        Direction::Sent => 2,
-    }
+    read_name(&table[span.from..span.to], 0).direction
 }
 
 pub fn same_direction(a: Direction, b: Direction) -> bool
     ensures { result ≡ same_direction (direction_in a) (direction_in b) }
 {
-    direction_code(a) == direction_code(b)
+    a == b
 }
 
 // Whether the name in slot k is `name`; a beginning of it is another name.
@@ -180,22 +151,20 @@ fn same_name(slots: &[u8], k: usize, name: &[u8]) -> bool
 }
 
 // The number of the label, of those in the first `count` slots, that has a name.
-pub fn find(slots: &[u8], count: usize, name: &[u8]) -> Lookup
+pub fn find(slots: &[u8], count: usize, name: &[u8]) -> Option<usize>
     requires { (count * name_slot_length ≤ length slots.now) × (length name.now ≤ longest_name) }
     ensures { found_in result ≡ lookup (stored_names slots.now count) name.now }
 {
-    let mut k: usize = 0;
-    while k < count {
+    for k in 0..count {
         if same_name(slots, k, name) {
-            return Lookup::At(k + 1);
+            return Some(k + 1);
         }
-        k += 1;
     }
-    Lookup::Nowhere
+    None
 }
 
 // The number of the label of a prepared table that has a name.
-pub fn find_label(table: &[u8], name: &[u8]) -> Lookup
+pub fn find_label(table: &[u8], name: &[u8]) -> Option<usize>
     requires { (table_length ≤ length table.now) × ((labels (table_in table.now) ≤ most_labels) × (length name.now ≤ longest_name)) }
     ensures { found_in result ≡ lookup (table_in table.now).names name.now }
 {

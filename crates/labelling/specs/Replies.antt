@@ -1,11 +1,9 @@
 -- 01, "What the entries turn back": the number and the figure of each case that `verdict` answers.
-use Rattle.std.specs.Prelude.{ℕ}
+use Rattle.std.specs.Prelude.{ℕ, Bool, cond, Result, Ok, Err}
 use Rattle.lts.specs.Reply.{Reply, accepted}
 use Rattle.formula_check.specs.Inputs.{unprepared}
-use Rattle.labelling.specs.declared.VerdictReply.{VerdictReply}
-use Rattle.labelling.specs.declared.VerdictReply.TheVariants.{Holds, Fails, Refused}
+use Rattle.formula_check.specs.declared.inputs.Unprepared.{Unprepared}
 
-abbrev pub verdict_reply : VerdictReply → Reply ℕ
-verdict_reply Holds = accepted 1
-verdict_reply Fails = accepted 0
-verdict_reply (Refused why) = unprepared why
+abbrev pub verdict_reply : Result Bool Unprepared → Reply ℕ
+verdict_reply (Ok holds) = accepted (cond holds 1 0)
+verdict_reply (Err why) = unprepared why

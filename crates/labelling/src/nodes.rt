@@ -63,11 +63,8 @@ fn put_row(flags: &mut [bool; NODE_POSITIONS], k: usize, found: &[bool; STATES])
     requires flags_len { length flags.old ≡ node_positions }
     ensures { RowPut k found.now flags.old flags.new }
 {
-    let mut s = 0;
-    while s < STATES {
-        flags[k * STATES + s] = found[s];
-        s += 1;
-    }
+    let at = k * STATES;
+    flags[at..at + STATES].copy_from_slice(found);
 }
 
 // The row of node k, from the rows of its arms.
@@ -110,9 +107,7 @@ pub fn label_nodes(
     let mut links = [0u16; STEPS];
     entering(table, &mut links);
     let mut found = [false; STATES];
-    let mut k = node_count(formula);
-    while 0 < k {
-        k -= 1;
+    for k in (0..node_count(formula)).rev() {
         row_from_arms(
             table, steps, firsts, &links, formula, ends, flags, k, &mut found,
         );

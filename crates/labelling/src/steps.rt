@@ -48,15 +48,13 @@ fn some_step(
 {
     let span = leaving(firsts, s);
     let end = span.to;
-    let mut k = span.from;
-    while k < end {
+    for k in span.from..end {
         let step = steps[k];
         let to = state_of(step);
         let there = flag(flags, arm, to);
         if leads(wanted, condition, label_of(step), there) {
             return true;
         }
-        k += 1;
     }
     false
 }
@@ -103,10 +101,8 @@ pub fn label_at_once(
     ensures { Flags states (λ s. at_once node (row_at flags.now arm) (row_at flags.now other) s (steps_in steps.now firsts.now s)) result }
 {
     let mut found = [false; STATES];
-    let mut s = 0;
-    while s < states {
+    for s in 0..states {
         found[s] = at_once(steps, firsts, node, flags, arm, other, s);
-        s += 1;
     }
     found
 }

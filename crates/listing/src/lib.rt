@@ -1,8 +1,8 @@
 // Rows and edges in lent places: written and read, each in its place.
 #![tactic(auto)]
 
-ghost use Rattle.std.specs.Prelude.{◌≡◌, ◌+◌, ◌*◌, ◌≤◌, ◌<◌, length};
-ghost use Rattle.automaton.specs.Bytes.{row_length, edge_length, bit_of, edge_at};
+ghost use Rattle.std.specs.Prelude.{◌≡◌, ◌+◌, ◌*◌, ◌≤◌, ◌<◌, length, get_or};
+ghost use Rattle.automaton.specs.Bytes.{row_length, edge_length, edge_at};
 ghost use Rattle.columns.specs.Bytes.{low_first};
 ghost use Rattle.columns.specs.inner.Write.{pasted};
 ghost use Rattle.listing.specs.inner.Places.{row_of, edge_to, put_row, put_edge, RowRead, EdgeRead};
@@ -24,18 +24,6 @@ pub struct Edge {
     pub target: usize,
 }
 
-fn bit(b: bool) -> u8
-    ensures { result ≡ bit_of b }
-{
-    if b { 1 } else { 0 }
-}
-
-fn wide(b: u8) -> usize
-    ensures { (result ≡ b) × (result < 256) }
-{
-    b as usize
-}
-
 // Row n, in its place.
 pub fn put_row(out: &mut [u8], n: usize, place: usize, state: usize, is_final: bool)
     requires row_length_in_bounds { n * row_length + row_length ≤ length out.old }
@@ -45,7 +33,16 @@ pub fn put_row(out: &mut [u8], n: usize, place: usize, state: usize, is_final: b
     let at = n * ROW_LENGTH;
     out[at] = place as u8;
     out[at + 1] = state as u8;
-    out[at + 2] = bit(is_final);
+    out[at + 2] = u8::from(is_final);
+}
+
+// The number in two bytes, the low one first.
+pub fn pair_at(bytes: &[u8], at: usize) -> usize
+    requires { at + 2 ≤ length bytes.now }
+    ensures value { result ≡ get_or bytes.now at 0 + get_or bytes.now (at + 1) 0 * 256 }
+    ensures upper_bound { result < 65536 }
+{
+    bytes[at] as usize + bytes[at + 1] as usize * 256
 }
 
 // A number in two bytes, the low one first.
@@ -76,9 +73,9 @@ pub fn row_at(rows: &[u8], i: usize) -> Row
 {
     let at = i * ROW_LENGTH;
     Row {
-        place: wide(rows[at]),
-        state: wide(rows[at + 1]),
-        mark: wide(rows[at + 2]),
+        place: rows[at] as usize,
+        state: rows[at + 1] as usize,
+        mark: rows[at + 2] as usize,
     }
 }
 
@@ -89,8 +86,8 @@ pub fn edge_at(edges: &[u8], j: usize) -> Edge
 {
     let at = j * EDGE_LENGTH;
     Edge {
-        row: wide(edges[at]) + wide(edges[at + 1]) * 256,
-        label: wide(edges[at + 2]),
-        target: wide(edges[at + 3]) + wide(edges[at + 4]) * 256,
+        row: pair_at(edges, at),
+        label: edges[at + 2] as usize,
+        target: pair_at(edges, at + 3),
     }
 }

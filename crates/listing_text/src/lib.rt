@@ -1,62 +1,17 @@
 // The listing as text, by the bytes of rows and edges.
 #![tactic(auto)]
 
-ghost use Rattle.std.specs.Prelude.{◌≡◌, true, false, ◌+◌, ◌*◌, ◌≤◌, length};
+ghost use Rattle.std.specs.Prelude.{◌≡◌, ◌+◌, ◌*◌, ◌≤◌, length};
 ghost use Rattle.automaton.specs.Bytes.{row_length, edge_length};
 ghost use Rattle.explanations.specs.Printed.{refusal_line};
 ghost use Rattle.explanations.specs.inner.Printed.{listing_text, TextWritten};
-ghost use Rattle.listing_text.specs.inner.Lines.{summary_of, line_numbers, LineFits, LineWritten, LinesFit, LinesWritten};
+ghost use Rattle.listing_text.specs.inner.Lines.{summary_of, row_numbers, edge_numbers};
 
+pub mod lines;
+
+use crate::lines::write_lines;
 use columns::write::write_numbers;
 use listing::{edge_at, row_at};
-
-// What the line of a row has.
-fn row_numbers(rows: &[u8], i: usize) -> [u64; 4]
-    requires { i * row_length + row_length ≤ length rows.now }
-    ensures { result ≡ line_numbers true rows.now i }
-{
-    let row = row_at(rows, i);
-    [
-        i as u64,
-        row.place as u64,
-        row.state as u64,
-        row.mark as u64,
-    ]
-}
-
-// What the line of an edge has; the last number is not printed.
-fn edge_numbers(edges: &[u8], j: usize) -> [u64; 4]
-    requires { j * edge_length + edge_length ≤ length edges.now }
-    ensures { result ≡ line_numbers false edges.now j }
-{
-    let edge = edge_at(edges, j);
-    [edge.row as u64, edge.label as u64, edge.target as u64, 0]
-}
-
-// The line of row i, or of edge i.
-fn write_line(of_rows: bool, bytes: &[u8], i: usize, out: &mut [u8], at: usize) -> usize
-    requires { LineFits of_rows bytes.now i at out.old }
-    ensures { LineWritten of_rows bytes.now i at out.old out.new result }
-{
-    if of_rows {
-        return write_numbers(row_numbers(bytes, i), 4, out, at);
-    }
-    write_numbers(edge_numbers(bytes, i), 3, out, at)
-}
-
-// The lines of the first `count` rows, or edges.
-fn write_lines(of_rows: bool, bytes: &[u8], count: usize, out: &mut [u8], at: usize) -> usize
-    requires { LinesFit of_rows bytes.now count at out.old }
-    ensures { LinesWritten of_rows bytes.now count at out.old out.new result }
-{
-    let mut end = at;
-    let mut i: usize = 0;
-    while i < count {
-        end = write_line(of_rows, bytes, i, out, end);
-        i += 1;
-    }
-    end
-}
 
 // Writes the whole listing at the start of `out`, and answers its length.
 pub fn write_listing(
@@ -74,8 +29,29 @@ pub fn write_listing(
 {
     let values = [verdict, class, rowcount as u64, edgecount as u64];
     let first = write_numbers(values, 4, out, 0);
-    let second = write_lines(true, rows, rowcount, out, first);
-    write_lines(false, edges, edgecount, out, second)
+    // What the line of a row has.
+    let of_row = |i: usize|
+        requires { i * row_length + row_length ≤ length rows.now }
+        ensures { result ≡ row_numbers rows.entry.now i }
+    {
+        let row = row_at(rows, i);
+        [
+            i as u64,
+            row.place as u64,
+            row.state as u64,
+            row.mark as u64,
+        ]
+    };
+    let second = write_lines(of_row, 4, rowcount, out, first);
+    // What the line of an edge has; the last number is not printed.
+    let of_edge = |j: usize|
+        requires { j * edge_length + edge_length ≤ length edges.now }
+        ensures { result ≡ edge_numbers edges.entry.now j }
+    {
+        let edge = edge_at(edges, j);
+        [edge.row as u64, edge.label as u64, edge.target as u64, 0]
+    };
+    write_lines(of_edge, 3, edgecount, out, second)
 }
 
 // Writes a refusal's line at the start of `out`, and answers its length.

@@ -30,12 +30,10 @@ fn same_targets(work: &[u8], old: &[u16; NAMES], many: usize, j: usize, k: usize
     requires { (n : ℕ) × (Ready work.now n many old.now × ((j < n) × (k < n))) }
     ensures { Decides (SameIn work.now old.now many j k) result }
 {
-    let mut i: usize = 0;
-    while i < many {
+    for i in 0..many {
         if block_at(work, old, i, j) != block_at(work, old, i, k) {
             return false;
         }
-        i += 1;
     }
     true
 }
@@ -92,12 +90,10 @@ fn first_like(
     requires { (n : ℕ) × (Ready work.now n many old.now × (k < n)) }
     ensures { First (IsBlock work.now marks.now old.now new.now many k) (get_or old.now k 0) k result }
 {
-    let mut j = wide(old[k]);
-    while j < k {
+    for j in wide(old[k])..k {
         if is_block(work, marks, old, new, many, j, k) {
             return j;
         }
-        j += 1;
     }
     k
 }
@@ -123,12 +119,10 @@ fn round(
     ensures ended { Ended n new.new }
 {
     let mut steady = true;
-    let mut k: usize = 0;
-    while k < n {
+    for k in 0..n {
         let block = first_like(work, marks, old, new, many, k);
         new[k] = block as u16;
         steady = still(steady, block, wide(old[k]));
-        k += 1;
     }
     steady
 }
@@ -164,10 +158,8 @@ fn of_states(names: &[u16; NAMES]) -> [u16; SETS]
     ensures { result ≡ take most_sets names.now }
 {
     let mut blocks = [0u16; SETS];
-    let mut k: usize = 0;
-    while k < SETS {
+    for k in 0..SETS {
         blocks[k] = names[k];
-        k += 1;
     }
     blocks
 }

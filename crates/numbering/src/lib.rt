@@ -14,18 +14,10 @@ ghost use Rattle.deterministic.specs.inner.Blocks.{numbered};
 ghost use Rattle.block_numbers.specs.inner.Found.{Fits, IsFound};
 
 use crate::writing::{write_edges, write_marks};
-use block_numbers::finding::{Totals, find_blocks};
+use automaton::Totals;
+use block_numbers::finding::find_blocks;
 use deterministic::sizes::{NEXT, SETS};
 use listing::put_pair;
-
-// Arrays lent as slices have a length that is known.
-fn lend(next: &[u16], blocks: &[u16]) {}
-
-fn lengths(next: &[u16; NEXT], blocks: &[u16; SETS])
-    ensures { (length next.now ≡ most_sets * most_letters) × (length blocks.now ≡ most_sets) }
-{
-    lend(next, blocks);
-}
 
 // The counts of states and edges, in two bytes each.
 fn put_counts(out: &mut [u8], states: usize, edges: usize)
@@ -75,7 +67,6 @@ pub fn write_numbered(
     ensures { out.new
         ≡ overwritten (automaton_bytes (numbered (array_table next.now marks.now n columns) (take n blocks.now))) out.old }
 {
-    lengths(next, blocks);
     let mut rows = [0u16; SETS];
     let mut numbers = [0u16; SETS];
     let found = find_blocks(next, blocks, &mut rows, &mut numbers, n, columns);

@@ -32,11 +32,9 @@ pub fn write_marks(marks: &[bool; SETS], rows: &[u16; SETS], count: usize, out: 
     requires by_index { (i : ℕ) → i < count → get_or rows.now i 0 < most_sets }
     ensures { out.new ≡ pasted out.old 4 (marks_of marks.now rows.now count) }
 {
-    let mut i: usize = 0;
-    while i < count {
+    for i in 0..count {
         let block = wide(rows[i]);
         out[4 + i] = bit(marks[block]);
-        i += 1;
     }
 }
 
@@ -100,10 +98,8 @@ fn write_row(
 {
     let first = block * LETTERS;
     let mut end = at;
-    let mut c: usize = 0;
-    while c < columns {
+    for c in 0..columns {
         end = write_step(next, blocks, numbers, n, columns, row, first, c, out, end);
-        c += 1;
     }
     end
 }
@@ -127,10 +123,8 @@ pub fn write_edges(
         ≡ pasted out.old (4 + count) (edges_in next.now blocks.now numbers.now n columns rows.now 0 count) }
 {
     let mut end = 4 + count;
-    let mut i: usize = 0;
-    while i < count {
+    for i in 0..count {
         let block = wide(rows[i]);
         end = write_row(next, blocks, numbers, n, columns, i, block, out, end);
-        i += 1;
     }
 }

@@ -57,12 +57,10 @@ fn pack_column(next: &[u16], n: usize, c: usize, i: usize, work: &mut [u8]) -> b
     ensures nowhere { result ≡ false → Nowhere next.now n c n }
 {
     let mut some = false;
-    let mut k: usize = 0;
-    while k < n {
+    for k in 0..n {
         let to = wide(next[k * LETTERS + c]);
         put_entry(work, i * SETS + k, target_in(to, n));
         some = leads(some, to, n);
-        k += 1;
     }
     some
 }
@@ -81,10 +79,8 @@ pub fn pack(next: &[u16], n: usize, columns: usize, work: &mut [u8]) -> usize
     ensures work_len_unchanged { (length work.new ≡ length work.old) × (drop work_length work.new ≡ drop work_length work.old) }
 {
     let mut many: usize = 0;
-    let mut c: usize = 0;
-    while c < columns {
+    for c in 0..columns {
         many = one_more(many, pack_column(next, n, c, many, work));
-        c += 1;
     }
     many
 }

@@ -3,15 +3,15 @@
 #![tactic(auto)]
 
 use combined_text::{COMBINED_LENGTH, write_combined_of};
-use folder::{read_first, read_second};
+use folder::read_file;
 use lts::sizes::ENOUGH_TABLE_TEXT;
 use std::io;
 
 fn main(rt: HostRuntime) -> io::Result<()> {
     let mut first = [0u8; ENOUGH_TABLE_TEXT];
-    let n = read_first(&rt, &mut first);
+    let n = read_file(&rt, "first.txt", &mut first);
     let mut second = [0u8; ENOUGH_TABLE_TEXT];
-    let m = read_second(&rt, &mut second);
+    let m = read_file(&rt, "second.txt", &mut second);
     let mut out = [0u8; COMBINED_LENGTH];
     let end = write_combined_of(&first[..n], &second[..m], &mut out);
     rt.write_all(&out[..end])

@@ -2,14 +2,14 @@
 #![tactic(auto)]
 
 use explanations::sizes::KEPT;
-use folder::{read_table, scan_formula};
+use folder::{read_file, scan_formula};
 use formula_line::{LINE_LENGTH, write_line_of};
 use lts::sizes::ENOUGH_TABLE_TEXT;
 use std::io;
 
 fn main(rt: HostRuntime) -> io::Result<()> {
     let mut table = [0u8; ENOUGH_TABLE_TEXT];
-    let n = read_table(&rt, &mut table);
+    let n = read_file(&rt, "table.txt", &mut table);
     let mut head = [0u8; KEPT];
     let scanned = scan_formula(&rt, &mut head);
     let mut out = [0u8; LINE_LENGTH];

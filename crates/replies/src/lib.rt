@@ -1,7 +1,7 @@
 // The number and the figure of each reply, which the C interface hands out: of reading, of verdicts, of building and of words.
 #![tactic(auto)]
 
-ghost use Rattle.std.specs.Prelude.{◌≡◌};
+ghost use Rattle.std.specs.Prelude.{◌≡◌, ◌≢◌, MatchResult};
 ghost use Rattle.table_text.specs.Replies.{table_reply};
 ghost use Rattle.formula_text.specs.Replies.{formula_reply};
 ghost use Rattle.formula_check.specs.Inputs.{unprepared_number, unprepared_figure};
@@ -12,19 +12,32 @@ ghost use Rattle.words.specs.Replies.{word_reply};
 ghost use Rattle.replies.specs.inner.Says.{Says};
 ghost use Rattle.replies.specs.Interface.{edges_in};
 
-use building::BuildReply;
+use automaton::Totals;
+use building::BuildRefusal;
 use formula_check::inputs::Unprepared;
-use formula_text::FormulaReply;
-use labelling::VerdictReply;
-use table_text::TableReply;
-use verdicts::VerdictsReply;
-use words::WordReply;
+use formula_text::FormulaRefusal;
+use table_text::TableRefusal;
+use verdicts::VerdictsRefusal;
+use words::WordRefusal;
 
 // What is said of a reply: the number of a refusal, or 0; and the figure.
-#[derive(Drop)]
+#[derive(Clone, Copy)]
 pub struct Answer {
     pub number: u32,
     pub figure: u64,
+}
+
+// The figure of what was accepted; a refusal is an error.
+pub fn accepted(answer: Answer) -> Result<u64, Answer>
+    ensures { MatchResult result
+        (λ figure. (answer.number ≡ 0) × (figure ≡ answer.figure))
+        (λ refused. (answer.number ≢ 0) × (refused ≡ answer)) }
+{
+    if answer.number == 0 {
+        Ok(answer.figure)
+    } else {
+        Err(answer)
+    }
 }
 
 pub fn numbered(number: u32, figure: usize) -> Answer
@@ -46,85 +59,80 @@ pub fn unprepared_answer(why: Unprepared) -> Answer
     }
 }
 
-pub fn table_answer(reply: TableReply) -> Answer
+pub fn table_answer(reply: Result<(), TableRefusal>) -> Answer
     ensures { Says (λ _. 0) (table_reply reply) result }
 {
     match reply {
-        TableReply::Accepted => numbered(0, 0),
-        TableReply::NotLaidOut(line) => numbered(1, line),
-        TableReply::OutOfRange(line) => numbered(2, line),
-        TableReply::NameRepeated(line) => numbered(3, line),
-        TableReply::NotRising(line) => numbered(4, line),
-        TableReply::BufferShort(needed) => numbered(14, needed),
+        Ok(()) => numbered(0, 0),
+        Err(TableRefusal::NotLaidOut(line)) => numbered(1, line),
+        Err(TableRefusal::OutOfRange(line)) => numbered(2, line),
+        Err(TableRefusal::NameRepeated(line)) => numbered(3, line),
+        Err(TableRefusal::NotRising(line)) => numbered(4, line),
+        Err(TableRefusal::BufferShort(needed)) => numbered(14, needed),
     }
 }
 
-pub fn formula_answer(reply: FormulaReply) -> Answer
+pub fn formula_answer(reply: Result<(), FormulaRefusal>) -> Answer
     ensures { Says (λ _. 0) (formula_reply reply) result }
 {
     match reply {
-        FormulaReply::Accepted => numbered(0, 0),
-        FormulaReply::TableForeign => numbered(10, 0),
-        FormulaReply::TooLong(length) => numbered(5, length),
-        FormulaReply::NotGrammatical(longest) => numbered(6, longest),
-        FormulaReply::NameUnknown(offset) => numbered(7, offset),
-        FormulaReply::TooManyNodes(nodes) => numbered(8, nodes),
-        FormulaReply::NoClass(node) => numbered(9, node),
-        FormulaReply::BufferShort(needed) => numbered(14, needed),
+        Ok(()) => numbered(0, 0),
+        Err(FormulaRefusal::TableForeign) => numbered(10, 0),
+        Err(FormulaRefusal::TooLong(length)) => numbered(5, length),
+        Err(FormulaRefusal::NotGrammatical(longest)) => numbered(6, longest),
+        Err(FormulaRefusal::NameUnknown(offset)) => numbered(7, offset),
+        Err(FormulaRefusal::TooManyNodes(nodes)) => numbered(8, nodes),
+        Err(FormulaRefusal::NoClass(node)) => numbered(9, node),
+        Err(FormulaRefusal::BufferShort(needed)) => numbered(14, needed),
     }
 }
 
-pub fn verdict_answer(reply: VerdictReply) -> Answer
+pub fn verdict_answer(reply: Result<bool, Unprepared>) -> Answer
     ensures { Says (λ holds. holds) (verdict_reply reply) result }
 {
     match reply {
-        VerdictReply::Holds => numbered(0, 1),
-        VerdictReply::Fails => numbered(0, 0),
-        VerdictReply::Refused(why) => unprepared_answer(why),
+        Ok(holds) => numbered(0, usize::from(holds)),
+        Err(why) => unprepared_answer(why),
     }
 }
 
-pub fn verdicts_answer(reply: VerdictsReply) -> Answer
+pub fn verdicts_answer(reply: Result<bool, VerdictsRefusal>) -> Answer
     ensures { Says (λ joint. joint) (verdicts_reply reply) result }
 {
     match reply {
-        VerdictsReply::HoldsAtAll => numbered(0, 1),
-        VerdictsReply::FailsSomewhere => numbered(0, 0),
-        VerdictsReply::StartWrong(index) => numbered(16, index),
-        VerdictsReply::Refused(why) => unprepared_answer(why),
+        Ok(joint) => numbered(0, usize::from(joint)),
+        Err(VerdictsRefusal::StartWrong(index)) => numbered(16, index),
+        Err(VerdictsRefusal::Unprepared(why)) => unprepared_answer(why),
     }
 }
 
-pub fn build_answer(reply: BuildReply) -> Answer
+pub fn build_answer(reply: Result<Totals, BuildRefusal>) -> Answer
     ensures { Says (λ counts. counts.rows) (build_reply reply) result }
 {
     match reply {
-        BuildReply::Built(rows, _) => numbered(0, rows),
-        BuildReply::RowsShort(needed) => numbered(11, needed),
-        BuildReply::EdgesShort(needed) => numbered(12, needed),
-        BuildReply::Refused(why) => unprepared_answer(why),
+        Ok(totals) => numbered(0, totals.rows),
+        Err(BuildRefusal::RowsShort(needed)) => numbered(11, needed),
+        Err(BuildRefusal::EdgesShort(needed)) => numbered(12, needed),
+        Err(BuildRefusal::Unprepared(why)) => unprepared_answer(why),
     }
 }
 
 // The count of edges of a build; what stood there if it was refused.
-pub fn build_edges(reply: BuildReply, before: u64) -> u64
+pub fn build_edges(reply: Result<Totals, BuildRefusal>, before: u64) -> u64
     ensures { result ≡ edges_in before (build_reply reply) }
 {
     match reply {
-        BuildReply::Built(_, edges) => edges as u64,
-        BuildReply::RowsShort(_) => before,
-        BuildReply::EdgesShort(_) => before,
-        BuildReply::Refused(_) => before,
+        Ok(totals) => totals.edges as u64,
+        Err(_) => before,
     }
 }
 
-pub fn word_answer(reply: WordReply) -> Answer
+pub fn word_answer(reply: Result<bool, WordRefusal>) -> Answer
     ensures { Says (λ accepted. accepted) (word_reply reply) result }
 {
     match reply {
-        WordReply::Accepted => numbered(0, 1),
-        WordReply::NotAccepted => numbered(0, 0),
-        WordReply::WordBad(index) => numbered(13, index),
-        WordReply::Refused(why) => unprepared_answer(why),
+        Ok(accepted) => numbered(0, usize::from(accepted)),
+        Err(WordRefusal::WordBad(index)) => numbered(13, index),
+        Err(WordRefusal::Unprepared(why)) => unprepared_answer(why),
     }
 }

@@ -14,10 +14,8 @@ fn live_place(slots: &[u16; POSITIONS], live: &mut [u64; STATES], q: usize)
     requires live_below { LiveBelow (q * most_states) slots.now live.old }
     ensures { LiveBelow ((q + 1) * most_states) slots.now live.new }
 {
-    let mut s: usize = 0;
-    while s < STATES {
+    for s in 0..STATES {
         live[s] = less_closed(live[s], slots[q * STATES + s], q);
-        s += 1;
     }
 }
 
@@ -27,10 +25,8 @@ pub fn live_places(slots: &[u16; POSITIONS], count: usize) -> [u64; STATES]
     ensures { (length result ≡ most_states) × Live slots.now result }
 {
     let mut live = [2199023255551u64; STATES];
-    let mut q: usize = 0;
-    while q < count {
+    for q in 0..count {
         live_place(slots, &mut live, q);
-        q += 1;
     }
     live
 }

@@ -3,8 +3,9 @@
 
 use crate::beside::beside;
 use actl::sizes::FORMULA_LENGTH;
+use automaton::Totals;
 use deterministic::sizes::{SMALLEST_LENGTH, WORK_LENGTH};
-use formula_check::inputs::{Inputs, Unprepared, check_inputs};
+use formula_check::inputs::{Unprepared, check_inputs};
 use lts::sizes::TABLE_LENGTH;
 
 mod beside;
@@ -14,16 +15,24 @@ ghost use Rattle.explanations.specs.Demands.{FromPrepared};
 ghost use Rattle.deterministic.specs.Sizes.{smallest_length, work_length};
 ghost use Rattle.deterministic.specs.SmallestAsked.{smallest_replied, smallest_rows, smallest_edges, smallest_left, smallest_work, cleared, SmallestAnswered};
 ghost use Rattle.smallest.specs.Replies.{smallest_reply};
+ghost use Rattle.smallest.specs.declared.SmallestRefusal.TheVariants as refused;
 ghost use Rattle.smallest.specs.inner.Answered.{Answered};
 
-// What `smallest` answers: the counts of rows and edges, or a refusal. specs/Replies.antt lists the number and the figure of each case.
+// Why nothing is written. specs/Replies.antt lists the number and the figure of each case.
 #[derive(Clone, Copy)]
-pub enum SmallestReply {
-    Built(usize, usize),
+pub enum SmallestRefusal {
     RowsShort(usize),
     EdgesShort(usize),
     SetsMany,
-    Refused(Unprepared),
+    Unprepared(Unprepared),
+}
+
+impl From<Unprepared> for SmallestRefusal {
+    ghost from_gives = { λ why r. r ≡ refused.Unprepared why };
+
+    fn from(why: Unprepared) -> SmallestRefusal {
+        SmallestRefusal::Unprepared(why)
+    }
 }
 
 // 01, of a work buffer: all zero after the call.
@@ -31,11 +40,7 @@ fn clear(work: &mut [u8])
     requires { work_length ≤ length work.old }
     ensures { work.new ≡ cleared work.old }
 {
-    let mut i: usize = 0;
-    while i < WORK_LENGTH {
-        work[i] = 0;
-        i += 1;
-    }
+    work[..WORK_LENGTH].fill(0);
 }
 
 // Behind the lengths.
@@ -46,14 +51,12 @@ fn answer(
     edges: &mut [u8],
     out: &mut [u8],
     work: &mut [u8],
-) -> SmallestReply
+) -> Result<Totals, SmallestRefusal>
     requires { (smallest_length ≤ length out.old) × (work_length ≤ length work.old) }
     ensures { Answered table.now formula.now rows.old edges.old out.old work.old
         result rows.new edges.new out.new work.new }
 {
-    if let Inputs::Refused(why) = check_inputs(table, formula) {
-        return SmallestReply::Refused(why);
-    }
+    check_inputs(table, formula)?;
     beside(table, formula, rows, edges, out, work)
 }
 
@@ -66,7 +69,7 @@ pub fn smallest(
     edges: &mut [u8],
     out: &mut [u8],
     work: &mut [u8],
-) -> SmallestReply
+) -> Result<Totals, SmallestRefusal>
     ensures result_value { smallest_reply result ≡ smallest_replied table.now formula.now rows.old edges.old out.old work.old }
     ensures rows_after { rows.new ≡ smallest_rows table.now formula.now rows.old edges.old out.old work.old }
     ensures edges_after { edges.new ≡ smallest_edges table.now formula.now rows.old edges.old out.old work.old }
@@ -76,16 +79,16 @@ pub fn smallest(
     ensures smallest_answered { SmallestAnswered table.now formula.now (smallest_reply result) rows.new edges.new out.new }
 {
     if table.len() < TABLE_LENGTH {
-        return SmallestReply::Refused(Unprepared::BufferShort(TABLE_LENGTH));
+        return Err(SmallestRefusal::Unprepared(Unprepared::BufferShort(TABLE_LENGTH)));
     }
     if formula.len() < FORMULA_LENGTH {
-        return SmallestReply::Refused(Unprepared::BufferShort(FORMULA_LENGTH));
+        return Err(SmallestRefusal::Unprepared(Unprepared::BufferShort(FORMULA_LENGTH)));
     }
     if out.len() < SMALLEST_LENGTH {
-        return SmallestReply::Refused(Unprepared::BufferShort(SMALLEST_LENGTH));
+        return Err(SmallestRefusal::Unprepared(Unprepared::BufferShort(SMALLEST_LENGTH)));
     }
     if work.len() < WORK_LENGTH {
-        return SmallestReply::Refused(Unprepared::BufferShort(WORK_LENGTH));
+        return Err(SmallestRefusal::Unprepared(Unprepared::BufferShort(WORK_LENGTH)));
     }
     let reply = answer(table, formula, rows, edges, out, work);
     clear(work);

@@ -3,6 +3,7 @@
 
 ghost use Rattle.std.specs.Prelude.{◌≡◌, ◌≤◌, length};
 ghost use Rattle.deterministic.specs.Sizes.{smallest_length};
+ghost use Rattle.explaining.specs.inner.Answered.{Answered};
 ghost use Rattle.explanations.specs.inner.Printed.{TextWritten};
 ghost use Rattle.files.specs.inner.Writing.{PrefixLength};
 ghost use Rattle.smallest_lines.specs.SmallestText.{lent_smallest};
@@ -11,11 +12,11 @@ ghost use Rattle.smallest_lines.specs.inner.FileText.{smallest_text_length, coun
 
 use actl::sizes::FORMULA_LENGTH;
 use deterministic::sizes::{NEXT, SETS, SMALLEST_LENGTH, WORK_LENGTH};
-use explaining::{BothRead, read_both};
+use explaining::read_both;
 use explanations::sizes::{EDGES_LENGTH, KEPT, ROWS_LENGTH};
-use files::{Scanned, least, text_length, write_refused};
+use files::{Scanned, kept_text, text_length, write_refused};
 use lts::sizes::TABLE_LENGTH;
-use replies::Answer;
+use replies::{Answer, accepted};
 use smallest::smallest;
 use smallest_replies::smallest_answer;
 use smallest_text::write_smallest;
@@ -34,17 +35,14 @@ fn find(table: &[u8], formula: &[u8], automaton: &mut [u8]) -> Answer
 }
 
 // Reads both texts, and asks for the automaton of what was read.
-fn ask(tabletext: &[u8], formulatext: &[u8], automaton: &mut [u8]) -> Answer
+fn ask(tabletext: &[u8], formulatext: &[u8], automaton: &mut [u8]) -> Result<u64, Answer>
     requires { smallest_length ≤ length automaton.old }
-    ensures { Asked tabletext.now formulatext.now automaton.old automaton.new result }
+    ensures { Answered (Asked tabletext.now formulatext.now automaton.old automaton.new) result }
 {
     let mut table = [0u8; TABLE_LENGTH];
     let mut formula = [0u8; FORMULA_LENGTH];
-    let ready = read_both(tabletext, formulatext, &mut table, &mut formula);
-    match ready {
-        BothRead::Refused(number, figure) => Answer { number, figure },
-        BothRead::Ready => find(&table, &formula, automaton),
-    }
+    read_both(tabletext, formulatext, &mut table, &mut formula)?;
+    accepted(find(&table, &formula, automaton))
 }
 
 // The text about a formula of `counted` bytes, of which `text` is the beginning.
@@ -54,11 +52,10 @@ fn write_text(tablefile: &[u8], text: &[u8], counted: usize, out: &mut [u8]) -> 
     ensures prefix_length { PrefixLength result out.new }
 {
     let mut automaton = [0u8; SMALLEST_LENGTH];
-    let said = ask(tablefile, text, &mut automaton);
-    if said.number != 0 {
-        return write_refused(said.number, said.figure, counted, out);
+    match ask(tablefile, text, &mut automaton) {
+        Ok(_) => write_smallest(&automaton, out),
+        Err(refused) => write_refused(refused.number, refused.figure, counted, out),
     }
-    write_smallest(&automaton, out)
 }
 
 // Writes what the program writes at the start of `out`, and answers its length.
@@ -72,7 +69,6 @@ pub fn write_smallest_of(
     ensures prefix_length { PrefixLength result out.new }
 {
     let length = text_length(scanned);
-    let n = least(length, KEPT);
-    let whole = &head[..];
-    write_text(tablefile, &whole[..n], length, out)
+    let text = kept_text(head, length);
+    write_text(tablefile, text, length, out)
 }

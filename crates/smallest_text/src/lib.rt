@@ -1,27 +1,22 @@
 // The text of a deterministic automaton, from its bytes.
 #![tactic(auto)]
 
-ghost use Rattle.std.specs.Prelude.{◌≡◌, [], ◌∷◌, ◌++◌, ◌+◌, ◌*◌, ◌≤◌, ◌<◌, length};
+ghost use Rattle.std.specs.Prelude.{◌≡◌, [], ◌∷◌, ◌++◌, ◌+◌, ◌*◌, ◌≤◌, ◌<◌, length, get_or};
 ghost use Rattle.deterministic.specs.Automata.{Automaton};
 ghost use Rattle.explanations.specs.inner.Printed.{TextWritten};
 ghost use Rattle.smallest_text.specs.Text.{automaton_text};
 ghost use Rattle.smallest_text.specs.inner.Held.{AutomatonIn, longest_text};
-ghost use Rattle.smallest_text.specs.inner.Lines.{pair_at, three_at, state_text, step_text, LinesFit, LinesWritten};
+ghost use Rattle.smallest_text.specs.inner.Lines.{pair_at, three_at};
 
 use columns::write::write_numbers;
-
-fn wide(byte: u8) -> u64
-    ensures { (result ≡ byte) × (result < 256) }
-{
-    byte as u64
-}
+use listing_text::lines::write_lines;
 
 // The number in two bytes, the low one first.
 fn pair_at(bytes: &[u8], k: usize) -> usize
     requires { k + 2 ≤ length bytes.now }
     ensures { (result ≡ pair_at bytes.now k) × (result < 65536) }
 {
-    (wide(bytes[k]) + wide(bytes[k + 1]) * 256) as usize
+    usize::from(u16::from_le_bytes([bytes[k], bytes[k + 1]]))
 }
 
 // The three bytes at a place, as numbers; the last number is not printed.
@@ -29,38 +24,7 @@ fn three_at(bytes: &[u8], k: usize) -> [u64; 4]
     requires { k + 3 ≤ length bytes.now }
     ensures { result ≡ three_at bytes.now k ++ (0 ∷ []) }
 {
-    [wide(bytes[k]), wide(bytes[k + 1]), wide(bytes[k + 2]), 0]
-}
-
-// For each state its number and mark.
-fn write_states(smallest: &[u8], states: usize, out: &mut [u8], at: usize) -> usize
-    requires states_in_bounds { (4 + states ≤ length smallest.now) × (states ≤ 65536) }
-    requires lines_fit { LinesFit 13 states at out.old }
-    ensures { LinesWritten (state_text smallest.now) 13 states at out.old out.new result }
-{
-    let mut end = at;
-    let mut i: usize = 0;
-    while i < states {
-        let mark = wide(smallest[4 + i]);
-        end = write_numbers([i as u64, mark, 0, 0], 2, out, end);
-        i += 1;
-    }
-    end
-}
-
-// For each edge its state, label and target; the first one stands at `first`.
-fn write_edges(smallest: &[u8], first: usize, edges: usize, out: &mut [u8], at: usize) -> usize
-    requires edges_in_bounds { first + edges * 3 ≤ length smallest.now }
-    requires lines_fit { LinesFit 19 edges at out.old }
-    ensures { LinesWritten (step_text smallest.now first) 19 edges at out.old out.new result }
-{
-    let mut end = at;
-    let mut j: usize = 0;
-    while j < edges {
-        end = write_numbers(three_at(smallest, first + j * 3), 3, out, end);
-        j += 1;
-    }
-    end
+    [bytes[k] as u64, bytes[k + 1] as u64, bytes[k + 2] as u64, 0]
 }
 
 // Writes the text of the automaton in the bytes at the start of `out`, and answers its length.
@@ -72,6 +36,20 @@ pub fn write_smallest(smallest: &[u8], out: &mut [u8]) -> usize
     let states = pair_at(smallest, 0);
     let edges = pair_at(smallest, 2);
     let head = write_numbers([states as u64, edges as u64, 0, 0], 2, out, 0);
-    let middle = write_states(smallest, states, out, head);
-    write_edges(smallest, 4 + states, edges, out, middle)
+    // For each state its number and mark.
+    let of_state = |i: usize|
+        requires { 4 + i < length smallest.now }
+        ensures { result ≡ i ∷ get_or smallest.entry.now (4 + i) 0 ∷ 0 ∷ 0 ∷ [] }
+    {
+        let mark = smallest[4 + i] as u64;
+        [i as u64, mark, 0, 0]
+    };
+    let middle = write_lines(of_state, 2, states, out, head);
+    // For each edge its state, label and target.
+    let first = 4 + states;
+    let of_edge = |j: usize|
+        requires { first + j * 3 + 3 ≤ length smallest.now }
+        ensures { result ≡ three_at smallest.entry.now (first + j * 3) ++ (0 ∷ []) }
+    { three_at(smallest, first + j * 3) };
+    write_lines(of_edge, 3, edges, out, middle)
 }

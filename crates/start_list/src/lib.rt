@@ -9,7 +9,6 @@ ghost use Rattle.starts.specs.Starts.{is_right, wrong_start};
 ghost use Rattle.starts.specs.inner.Search.{earlier, enough_starts};
 
 use lts::sizes::STATES;
-use tables::lookup::Lookup;
 use tables::prepared::byte;
 
 // So many entries cannot all be right.
@@ -21,51 +20,32 @@ fn is_right(states: usize, least: usize, s: usize) -> bool
     least <= s && s < states
 }
 
-// Of the indices of two wrong entries the first.
-fn first_of(found: Lookup, i: usize) -> Lookup
-    ensures { found_in result ≡ earlier (found_in found) (some i) }
-{
-    match found {
-        Lookup::At(first) => Lookup::At(first),
-        Lookup::Nowhere => Lookup::At(i),
-    }
-}
-
 // What is found once entry i was looked at.
-fn found_with(found: Lookup, right: bool, i: usize) -> Lookup
+fn found_with(found: Option<usize>, right: bool, i: usize) -> Option<usize>
     ensures { found_in result ≡ earlier (found_in found) (cond right none (some i)) }
 {
-    if right {
-        return found;
-    }
-    first_of(found, i)
+    if right { found } else { found.or(Some(i)) }
 }
 
 // How many entries are looked at.
 fn entries(starts: &[u8]) -> usize
     ensures { result ≡ min (length starts.now) enough_starts }
 {
-    if starts.len() < ENOUGH_STARTS {
-        starts.len()
-    } else {
-        ENOUGH_STARTS
-    }
+    starts.len().min(ENOUGH_STARTS)
 }
 
 // 02: "an entry not above the one before it or naming a state the table lacks, the first such index"
-pub fn wrong_start(states: usize, starts: &[u8]) -> Lookup
+pub fn wrong_start(states: usize, starts: &[u8]) -> Option<usize>
     requires { states ≤ most_states }
     ensures { found_in result ≡ wrong_start states starts.now }
 {
     let end = entries(starts);
-    let mut found = Lookup::Nowhere;
+    let mut found = None;
     let mut least: usize = 0;
-    let mut i: usize = 0;
-    while i < end {
+    for i in 0..end {
         let s = byte(starts, i);
         found = found_with(found, is_right(states, least, s), i);
         least = s + 1;
-        i += 1;
     }
     found
 }

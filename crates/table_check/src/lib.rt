@@ -21,16 +21,10 @@ use tables::prepared::{label_count, start_state, state_count, transition_at, tra
 pub fn is_prepared(table: &[u8]) -> bool
     ensures { result ≡ is_some (prepared_table table.now) }
 {
-    if table.len() < TABLE_LENGTH {
-        return false;
-    }
-    if !counts_held(table) {
-        return false;
-    }
-    if !names_filled(table) {
-        return false;
-    }
-    transitions_filled(table)
+    table.len() >= TABLE_LENGTH
+        && counts_held(table)
+        && names_filled(table)
+        && transitions_filled(table)
 }
 
 // Whether the name slots are as they must be: the names, and zeros behind them.
@@ -38,10 +32,7 @@ fn names_filled(table: &[u8]) -> bool
     requires { (table_length ≤ length table.now) × (labels (table_in table.now) ≤ most_labels) }
     ensures { Decides (NamesFilled table.now) result }
 {
-    if !names_held(table) {
-        return false;
-    }
-    zeros(table, HEAD + label_count(table) * NAME_SLOT, TRANSITIONS_AT)
+    names_held(table) && zeros(table, HEAD + label_count(table) * NAME_SLOT, TRANSITIONS_AT)
 }
 
 // The same of the transition slots.
@@ -49,14 +40,12 @@ fn transitions_filled(table: &[u8]) -> bool
     requires { (table_length ≤ length table.now) × (length (table_in table.now).transitions ≤ most_transitions) }
     ensures { Decides (TransitionsFilled table.now) result }
 {
-    if !transitions_held(table) {
-        return false;
-    }
-    zeros(
-        table,
-        TRANSITIONS_AT + transition_count(table) * TRANSITION,
-        TABLE_LENGTH,
-    )
+    transitions_held(table)
+        && zeros(
+            table,
+            TRANSITIONS_AT + transition_count(table) * TRANSITION,
+            TABLE_LENGTH,
+        )
 }
 
 // Whether the bytes from `from` to before `to` are zero: they are taken together and tested once.
@@ -65,10 +54,8 @@ pub fn zeros(bytes: &[u8], from: usize, to: usize) -> bool
     ensures { Decides (ZerosFrom bytes.now from to) result }
 {
     let mut all = 0u8;
-    let mut i = from;
-    while i < to {
-        all = all | bytes[i];
-        i += 1;
+    for i in from..to {
+        all |= bytes[i];
     }
     all == 0
 }
@@ -78,22 +65,11 @@ fn counts_held(table: &[u8]) -> bool
     ensures { Decides (CountsHeld (table_in table.now)) result }
 {
     let states = state_count(table);
-    if states < 1 {
-        return false;
-    }
-    if STATES < states {
-        return false;
-    }
-    if LABELS < label_count(table) {
-        return false;
-    }
-    if TRANSITIONS < transition_count(table) {
-        return false;
-    }
-    if states <= start_state(table) {
-        return false;
-    }
-    true
+    1 <= states
+        && states <= STATES
+        && label_count(table) <= LABELS
+        && transition_count(table) <= TRANSITIONS
+        && start_state(table) < states
 }
 
 fn names_held(table: &[u8]) -> bool
@@ -101,15 +77,10 @@ fn names_held(table: &[u8]) -> bool
     ensures { Decides (NamesHeld table.now) result }
 {
     let n = label_count(table);
-    let mut k: usize = 0;
-    while k < n {
-        if !name_held(table, k) {
+    for k in 0..n {
+        if !name_held(table, k) || !new_name(table, k) {
             return false;
         }
-        if !new_name(table, k) {
-            return false;
-        }
-        k += 1;
     }
     true
 }
@@ -120,12 +91,8 @@ fn name_held(table: &[u8], k: usize) -> bool
 {
     let span = name_span(table, k);
     let at = span.from;
-    let name = read_name(table, at);
-    let end = name.end;
-    if end == at {
-        return false;
-    }
-    if end != span.to {
+    let end = read_name(table, at).end;
+    if end == at || end != span.to {
         return false;
     }
     zeros(table, end, NAME_SLOT_END + k * NAME_SLOT)
@@ -136,12 +103,10 @@ fn new_name(table: &[u8], k: usize) -> bool
     requires { (table_length ≤ length table.now) × ((k < most_labels) × HeldBefore table.now (k + 1)) }
     ensures { Decides (NewName table.now k) result }
 {
-    let mut j: usize = 0;
-    while j < k {
+    for j in 0..k {
         if same_slot(table, j, k) {
             return false;
         }
-        j += 1;
     }
     true
 }
@@ -154,10 +119,7 @@ fn same_slot(table: &[u8], j: usize, k: usize) -> bool
 {
     let one = HEAD + j * NAME_SLOT;
     let other = HEAD + k * NAME_SLOT;
-    if word(table, one) != word(table, other) {
-        return false;
-    }
-    word(table, one + 8) == word(table, other + 8)
+    word(table, one) == word(table, other) && word(table, one + 8) == word(table, other + 8)
 }
 
 // Keys rise from slot to slot, so the last one tells whether all transitions leave states.
@@ -169,13 +131,11 @@ fn transitions_held(table: &[u8]) -> bool
     let states = state_count(table);
     let most = label_count(table);
     let mut least: usize = 0;
-    let mut k: usize = 0;
-    while k < n {
+    for k in 0..n {
         if !slot_held(table, states, most, least, k) {
             return false;
         }
         least = step_key(table, k) + 1;
-        k += 1;
     }
     least <= states * 65536
 }
@@ -185,13 +145,7 @@ fn slot_held(table: &[u8], states: usize, most: usize, least: usize, k: usize) -
     ensures { Decides (SlotHeld table.now states most least k) result }
 {
     let here = transition_at(table, k);
-    if states <= here.to {
-        return false;
-    }
-    if most < here.label {
-        return false;
-    }
-    least <= step_key(table, k)
+    here.to < states && here.label <= most && least <= step_key(table, k)
 }
 
 // The transition in slot k as one number: they rise as these do.

@@ -6,7 +6,7 @@ ghost use Rattle.lts.specs.Reading.{header_in_range, step_in_range};
 ghost use Rattle.table_lines.specs.inner.LineReplies.{pair_at, header, HeaderAnswer, LabelAnswer, TransitionAnswer};
 ghost use Rattle.tables.specs.inner.Access.{step_in};
 
-use columns::Column;
+use columns::read_column;
 use columns::small::small_at;
 use label_names::read_name;
 use lts::sizes::{LABELS, STATES, TRANSITIONS};
@@ -14,13 +14,6 @@ use tables::prepared::Transition;
 
 pub mod slots;
 pub mod whole;
-
-// Two numbers in a row.
-#[derive(Drop)]
-enum Pair {
-    Numbers(usize, usize),
-    NoPair,
-}
 
 // What line 1 says.
 #[derive(Clone, Copy)]
@@ -31,115 +24,76 @@ pub struct HeaderFields {
     pub start: usize,
 }
 
-#[derive(Drop)]
-pub enum HeaderLine {
-    Header(HeaderFields),
-    NoHeader,
-}
-
 // A label's number, and where its name ends.
-#[derive(Drop)]
-pub enum LabelLine {
-    Label(usize, usize),
-    NoLabel,
-}
-
-#[derive(Drop)]
-pub enum TransitionLine {
-    Row(Transition),
-    NoRow,
+#[derive(Clone, Copy)]
+pub struct LabelFields {
+    pub number: usize,
+    pub end: usize,
 }
 
 // Whether a byte stands at a place.
 pub fn stands(text: &[u8], at: usize, byte: u8) -> bool
     ensures { result ≡ eqb (get_or text.now at 256) byte }
 {
-    if text.len() <= at {
-        return false;
-    }
-    text[at] == byte
+    at < text.len() && text[at] == byte
 }
 
 // The numbers in two columns in a row.
-fn read_pair(text: &[u8], at: usize) -> Pair
+fn read_pair(text: &[u8], at: usize) -> Option<(usize, usize)>
     requires { at ≤ length text.now }
     ensures { result ≡ pair_at text.now at }
 {
-    let Column::Number(first) = columns::read_column(text, at) else {
-        return Pair::NoPair;
-    };
-    let Column::Number(second) = columns::read_column(text, at + 6) else {
-        return Pair::NoPair;
-    };
-    Pair::Numbers(first, second)
+    let first = read_column(text, at)?;
+    let second = read_column(text, at + 6)?;
+    Some((first, second))
 }
 
-pub fn header_line(text: &[u8]) -> HeaderLine
+pub fn header_line(text: &[u8]) -> Option<HeaderFields>
     ensures { HeaderAnswer text.now result }
 {
     if !stands(text, 24, 10) {
-        return HeaderLine::NoHeader;
+        return None;
     }
-    let Pair::Numbers(states, labels) = read_pair(text, 0) else {
-        return HeaderLine::NoHeader;
-    };
-    let Pair::Numbers(transitions, start) = read_pair(text, 12) else {
-        return HeaderLine::NoHeader;
-    };
-    HeaderLine::Header(HeaderFields {
-        states: states,
-        labels: labels,
-        transitions: transitions,
-        start: start,
+    let (states, labels) = read_pair(text, 0)?;
+    let (transitions, start) = read_pair(text, 12)?;
+    Some(HeaderFields {
+        states,
+        labels,
+        transitions,
+        start,
     })
 }
 
-pub fn label_line(text: &[u8], at: usize) -> LabelLine
+pub fn label_line(text: &[u8], at: usize) -> Option<LabelFields>
     requires { at ≤ length text.now }
     ensures { LabelAnswer text.now at result }
 {
-    let Column::Number(number) = columns::read_column(text, at) else {
-        return LabelLine::NoLabel;
-    };
+    let number = read_column(text, at)?;
     if !stands(text, at + 6, 32) {
-        return LabelLine::NoLabel;
+        return None;
     }
     let from = at + 7;
-    let name = read_name(text, from);
-    let end = name.end;
-    if end == from {
-        return LabelLine::NoLabel;
-    }
-    if stands(text, end, 10) {
-        LabelLine::Label(number, end)
+    let end = read_name(text, from).end;
+    if end != from && stands(text, end, 10) {
+        Some(LabelFields { number, end })
     } else {
-        LabelLine::NoLabel
+        None
     }
 }
 
 // The three numbers of a transition's line, of any size.
-fn any_line(text: &[u8], at: usize) -> TransitionLine
+fn any_line(text: &[u8], at: usize) -> Option<Transition>
     requires { at ≤ length text.now }
     ensures { TransitionAnswer text.now at result }
 {
-    let Column::Number(from) = columns::read_column(text, at) else {
-        return TransitionLine::NoRow;
-    };
-    let Column::Number(label) = columns::read_column(text, at + 6) else {
-        return TransitionLine::NoRow;
-    };
-    let Column::Number(to) = columns::read_column(text, at + 12) else {
-        return TransitionLine::NoRow;
-    };
-    TransitionLine::Row(Transition {
-        from: from,
-        label: label,
-        to: to,
-    })
+    let from = read_column(text, at)?;
+    let label = read_column(text, at + 6)?;
+    let to = read_column(text, at + 12)?;
+    Some(Transition { from, label, to })
 }
 
 // The three numbers of a transition's line, which are small if the line is in range. That the line ends behind them is tested apart.
-pub fn transition_line(text: &[u8], at: usize) -> TransitionLine
+pub fn transition_line(text: &[u8], at: usize) -> Option<Transition>
     requires { at ≤ length text.now }
     ensures { TransitionAnswer text.now at result }
 {
@@ -158,39 +112,20 @@ pub fn transition_line(text: &[u8], at: usize) -> TransitionLine
     if 999 < to {
         return any_line(text, at);
     }
-    TransitionLine::Row(Transition {
-        from: from,
-        label: label,
-        to: to,
-    })
+    Some(Transition { from, label, to })
 }
 
 pub fn header_in_range(c: HeaderFields) -> bool
     ensures { result ≡ header_in_range (header c) }
 {
-    if c.states < 1 {
-        return false;
-    }
-    if STATES < c.states {
-        return false;
-    }
-    if LABELS < c.labels {
-        return false;
-    }
-    if TRANSITIONS < c.transitions {
-        return false;
-    }
-    c.start < c.states
+    (1..=STATES).contains(&c.states)
+        && c.labels <= LABELS
+        && c.transitions <= TRANSITIONS
+        && c.start < c.states
 }
 
 pub fn transition_in_range(c: HeaderFields, t: Transition) -> bool
     ensures { result ≡ step_in_range (header c) (step_in t) }
 {
-    if c.states <= t.from {
-        return false;
-    }
-    if c.labels < t.label {
-        return false;
-    }
-    t.to < c.states
+    t.from < c.states && t.label <= c.labels && t.to < c.states
 }

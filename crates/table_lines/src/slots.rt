@@ -19,11 +19,11 @@ pub fn rises(slots: &[u8], count: usize, t: Transition) -> bool
     if count == 0 {
         return true;
     }
-    let i = (count - 1) * 3;
+    let i = (count - 1) * TRANSITION;
     let last = Transition {
-        from: slots[i] as usize,
-        label: slots[i + 1] as usize,
-        to: slots[i + 2] as usize,
+        from: usize::from(slots[i]),
+        label: usize::from(slots[i + 1]),
+        to: usize::from(slots[i + 2]),
     };
     below(last, t)
 }
@@ -32,11 +32,7 @@ pub fn write_at(bytes: &mut [u8], at: usize, part: &[u8])
     requires { at + length part.now ≤ length bytes.old }
     ensures { bytes.new ≡ pasted bytes.old at part.now }
 {
-    let mut i = 0;
-    while i < part.len() {
-        bytes[at + i] = part[i];
-        i += 1;
-    }
+    bytes[at..at + part.len()].copy_from_slice(part);
 }
 
 pub fn write_transition(slots: &mut [u8], count: usize, t: Transition)
@@ -44,9 +40,7 @@ pub fn write_transition(slots: &mut [u8], count: usize, t: Transition)
     ensures { slots.new ≡ pasted slots.old (count * transition_length) (transition_slot (step_in t)) }
 {
     let i = count * TRANSITION;
-    slots[i] = t.from as u8;
-    slots[i + 1] = t.label as u8;
-    slots[i + 2] = t.to as u8;
+    slots[i..i + TRANSITION].copy_from_slice(&[t.from as u8, t.label as u8, t.to as u8]);
 }
 
 pub fn write_name(names: &mut [u8], count: usize, name: &[u8])

@@ -12,15 +12,17 @@ use lts::sizes::{HEAD, TRANSITIONS_AT};
 
 // The first bytes of a prepared table: the counts, and the start.
 fn head_bytes(counts: HeaderFields) -> [u8; HEAD]
-    requires { (counts.labels ≤ most_labels) × (counts.start < 256) }
+    requires { (counts.states ≤ most_states) × ((counts.labels ≤ most_labels) × ((counts.transitions ≤ most_transitions) × (counts.start < 256))) }
     ensures { result ≡ head_bytes (header counts) }
 {
+    let states = (counts.states as u16).to_le_bytes();
+    let transitions = (counts.transitions as u16).to_le_bytes();
     [
-        (counts.states % 256) as u8,
-        (counts.states / 256 % 256) as u8,
+        states[0],
+        states[1],
         counts.labels as u8,
-        (counts.transitions % 256) as u8,
-        (counts.transitions / 256 % 256) as u8,
+        transitions[0],
+        transitions[1],
         counts.start as u8,
     ]
 }

@@ -8,22 +8,20 @@ ghost use Rattle.lts.specs.inner.Sizes.{names_length, transitions_length};
 ghost use Rattle.table_text.specs.Replies.{table_reply};
 ghost use Rattle.lts.specs.TableReading.{table_replied, table_left};
 ghost use Rattle.table_lines.specs.inner.LineReplies.{header};
-ghost use Rattle.table_text.specs.inner.Progress.{LabelProgress, LabelsRead, TransitionProgress, TransitionsRead, LinesRead, is_accepted, number_refused};
+ghost use Rattle.table_text.specs.inner.Progress.{LabelProgress, LabelsRead, TransitionProgress, TransitionsRead, LinesRead};
 
 use label_names::find;
 use lts::sizes::{NAMES_LENGTH, TABLE_LENGTH, TRANSITIONS_LENGTH};
 use table_lines::slots::{rises, write_name, write_transition};
 use table_lines::whole::write_table;
 use table_lines::{
-    HeaderFields, HeaderLine, LabelLine, TransitionLine, header_in_range, header_line, label_line,
-    stands, transition_in_range, transition_line,
+    HeaderFields, LabelFields, header_in_range, header_line, label_line, stands,
+    transition_in_range, transition_line,
 };
-use tables::lookup::Lookup;
 
-// What `read_table` answers. specs/Replies.antt lists the number and the figure of each case.
+// Why `read_table` refuses a text. specs/Replies.antt lists the number and the figure of each case.
 #[derive(Clone, Copy)]
-pub enum TableReply {
-    Accepted,
+pub enum TableRefusal {
     NotLaidOut(usize),
     OutOfRange(usize),
     NameRepeated(usize),
@@ -31,61 +29,42 @@ pub enum TableReply {
     BufferShort(usize),
 }
 
-// Where the next line starts; or what the entry answers.
-#[derive(Drop)]
-enum Progress {
-    Next(usize),
-    Refused(TableReply),
-}
-
-// The line of the label after `count` names.
-fn read_label(text: &[u8], at: usize, names: &mut [u8], count: usize) -> Progress
+// The line of the label after `count` names. Answers where the next line starts, as the functions below do.
+fn read_label(text: &[u8], at: usize, names: &mut [u8], count: usize) -> Result<usize, TableRefusal>
     requires { (at ≤ length text.now) × ((length names.old ≡ names_length) × (count < most_labels)) }
     ensures { LabelProgress text.now at count names.old names.new result }
 {
     let line = count + 2;
-    let LabelLine::Label(number, end) = label_line(text, at) else {
-        return Progress::Refused(TableReply::NotLaidOut(line));
+    let Some(LabelFields { number, end }) = label_line(text, at) else {
+        return Err(TableRefusal::NotLaidOut(line));
     };
     if number != count + 1 {
-        return Progress::Refused(TableReply::OutOfRange(line));
+        return Err(TableRefusal::OutOfRange(line));
     }
     let from = at + 7;
     let before = find(names, count, &text[from..end]);
-    if let Lookup::At(_) = before {
-        return Progress::Refused(TableReply::NameRepeated(line));
+    if before.is_some() {
+        return Err(TableRefusal::NameRepeated(line));
     }
     write_name(names, count, &text[from..end]);
-    Progress::Next(end + 1)
+    Ok(end + 1)
 }
 
 // The lines of all labels, from `from`.
-fn read_labels(text: &[u8], from: usize, counts: HeaderFields, names: &mut [u8]) -> Progress
+fn read_labels(
+    text: &[u8],
+    from: usize,
+    counts: HeaderFields,
+    names: &mut [u8],
+) -> Result<usize, TableRefusal>
     requires { (from ≤ length text.now) × ((names.old ≡ replicate names_length 0) × (counts.labels ≤ most_labels)) }
     ensures { LabelsRead (header counts) text.now from names.new result }
 {
     let mut at = from;
-    let mut count: usize = 0;
-    while count < counts.labels {
-        let progress = read_label(text, at, names, count);
-        let Progress::Next(to) = progress else {
-            return progress;
-        };
-        at = to;
-        count += 1;
+    for count in 0..counts.labels {
+        at = read_label(text, at, names, count)?;
     }
-    Progress::Next(at)
-}
-
-// 01: "on each line 1, 2": a number out of range counts only where the line is laid out.
-fn number_refused(laidout: bool, line: usize) -> TableReply
-    ensures { result ≡ number_refused laidout line }
-{
-    if laidout {
-        TableReply::OutOfRange(line)
-    } else {
-        TableReply::NotLaidOut(line)
-    }
+    Ok(at)
 }
 
 // The line of the transition after `count` others.
@@ -95,103 +74,82 @@ fn read_transition(
     counts: HeaderFields,
     slots: &mut [u8],
     count: usize,
-) -> Progress
+) -> Result<usize, TableRefusal>
     requires at_in_bounds { (at ≤ length text.now) × ((length slots.old ≡ transitions_length) × (count < most_transitions)) }
     requires states_le_most_states { (counts.states ≤ most_states) × (counts.labels ≤ most_labels) }
     ensures { TransitionProgress (header counts) text.now at count slots.old slots.new result }
 {
     let line = counts.labels + count + 2;
-    let TransitionLine::Row(t) = transition_line(text, at) else {
-        return Progress::Refused(TableReply::NotLaidOut(line));
+    let Some(t) = transition_line(text, at) else {
+        return Err(TableRefusal::NotLaidOut(line));
     };
-    let ended = stands(text, at + 18, 10);
-    if !transition_in_range(counts, t) {
-        return Progress::Refused(number_refused(ended, line));
+    // 01: "on each line 1, 2": a number out of range counts only where the line is laid out.
+    if !stands(text, at + 18, 10) {
+        return Err(TableRefusal::NotLaidOut(line));
     }
-    if !ended {
-        return Progress::Refused(TableReply::NotLaidOut(line));
+    if !transition_in_range(counts, t) {
+        return Err(TableRefusal::OutOfRange(line));
     }
     if !rises(slots, count, t) {
-        return Progress::Refused(TableReply::NotRising(line));
+        return Err(TableRefusal::NotRising(line));
     }
     write_transition(slots, count, t);
-    Progress::Next(at + 19)
+    Ok(at + 19)
 }
 
 // The lines of all transitions, from `from`, and the end of the text.
-fn read_transitions(text: &[u8], from: usize, counts: HeaderFields, slots: &mut [u8]) -> Progress
+fn read_transitions(
+    text: &[u8],
+    from: usize,
+    counts: HeaderFields,
+    slots: &mut [u8],
+) -> Result<(), TableRefusal>
     requires from_in_bounds { (from ≤ length text.now) × (slots.old ≡ replicate transitions_length 0) }
     requires states_le_most_states { (counts.states ≤ most_states) × ((counts.labels ≤ most_labels) × (counts.transitions ≤ most_transitions)) }
     ensures { TransitionsRead (header counts) text.now from slots.new result }
 {
     let mut at = from;
-    let mut count: usize = 0;
-    while count < counts.transitions {
-        let progress = read_transition(text, at, counts, slots, count);
-        let Progress::Next(to) = progress else {
-            return progress;
-        };
-        at = to;
-        count += 1;
+    for count in 0..counts.transitions {
+        at = read_transition(text, at, counts, slots, count)?;
     }
     if at < text.len() {
-        return Progress::Refused(TableReply::NotLaidOut(counts.labels + count + 2));
+        return Err(TableRefusal::NotLaidOut(counts.labels + counts.transitions + 2));
     }
-    Progress::Next(at)
+    Ok(())
 }
 
 // The lines behind the first, into slots that are all zero.
-fn read_lines(text: &[u8], counts: HeaderFields, names: &mut [u8], slots: &mut [u8]) -> TableReply
+fn read_lines(
+    text: &[u8],
+    counts: HeaderFields,
+    names: &mut [u8],
+    slots: &mut [u8],
+) -> Result<(), TableRefusal>
     requires in_bounds { (25 ≤ length text.now) × ((names.old ≡ replicate names_length 0) × (slots.old ≡ replicate transitions_length 0)) }
     requires states_le_most_states { (counts.states ≤ most_states) × ((counts.labels ≤ most_labels) × (counts.transitions ≤ most_transitions)) }
     ensures { LinesRead (header counts) text.now names.new slots.new result }
 {
-    let labels_read = read_labels(text, 25, counts, names);
-    match labels_read {
-        Progress::Refused(reply) => reply,
-        Progress::Next(at) => {
-            let transitions_read = read_transitions(text, at, counts, slots);
-            match transitions_read {
-                Progress::Refused(reply) => reply,
-                Progress::Next(_) => TableReply::Accepted,
-            }
-        }
-    }
-}
-
-// Whether the lent bytes are to be written.
-fn is_accepted(reply: TableReply) -> bool
-    ensures { result ≡ is_accepted (table_reply reply) }
-{
-    match reply {
-        TableReply::Accepted => true,
-        TableReply::NotLaidOut(_) => false,
-        TableReply::OutOfRange(_) => false,
-        TableReply::NameRepeated(_) => false,
-        TableReply::NotRising(_) => false,
-        TableReply::BufferShort(_) => false,
-    }
+    let at = read_labels(text, 25, counts, names)?;
+    read_transitions(text, at, counts, slots)
 }
 
 // Reads a table's text into the prepared bytes.
-pub fn read_table(text: &[u8], table: &mut [u8]) -> TableReply
+pub fn read_table(text: &[u8], table: &mut [u8]) -> Result<(), TableRefusal>
     ensures result_value { table_reply result ≡ table_replied text.now table.old }
     ensures table_after { table.new ≡ table_left text.now table.old }
 {
     if table.len() < TABLE_LENGTH {
-        return TableReply::BufferShort(TABLE_LENGTH);
+        return Err(TableRefusal::BufferShort(TABLE_LENGTH));
     }
-    let HeaderLine::Header(counts) = header_line(text) else {
-        return TableReply::NotLaidOut(1);
+    let Some(counts) = header_line(text) else {
+        return Err(TableRefusal::NotLaidOut(1));
     };
     if !header_in_range(counts) {
-        return TableReply::OutOfRange(1);
+        return Err(TableRefusal::OutOfRange(1));
     }
     let mut names = [0u8; NAMES_LENGTH];
     let mut slots = [0u8; TRANSITIONS_LENGTH];
-    let reply = read_lines(text, counts, &mut names, &mut slots);
-    if is_accepted(reply) {
-        write_table(table, counts, &names, &slots);
-    }
-    reply
+    read_lines(text, counts, &mut names, &mut slots)?;
+    write_table(table, counts, &names, &slots);
+    Ok(())
 }

@@ -1,5 +1,4 @@
-// What stands in the bytes of a prepared table: counts and transitions; and what a lookup answers.
+// What stands in the bytes of a prepared table: counts and transitions.
 #![tactic(auto)]
 
-pub mod lookup;
 pub mod prepared;

@@ -10,7 +10,8 @@ ghost use Rattle.lts.specs.inner.Answers.{Counted};
 
 use lts::sizes::{LABELS_AT, TARGETS_AT, TRANSITION, TRANSITIONS_AT};
 
-#[derive(Clone, Copy)]
+// Transitions rise by (from, label, to), in the order of the fields.
+#[derive(Clone, Copy, PartialEq, Eq, PartialOrd, Ord)]
 pub struct Transition {
     pub from: usize,
     pub label: usize,
@@ -72,15 +73,9 @@ pub fn transition_at(table: &[u8], k: usize) -> Transition
     }
 }
 
-// Rising by (from, label, to).
+// Whether a stands before b in a table.
 pub fn below(a: Transition, b: Transition) -> bool
     ensures { result ≡ step_below (step_in a) (step_in b) }
 {
-    if a.from != b.from {
-        return a.from < b.from;
-    }
-    if a.label != b.label {
-        return a.label < b.label;
-    }
-    a.to < b.to
+    a < b
 }

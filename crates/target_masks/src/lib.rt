@@ -91,8 +91,7 @@ fn other_arm(ends: &[u8; NODES], k: usize) -> usize
     ensures upper_bound { result ≤ most_nodes }
     ensures value { k + 1 < most_nodes → get_or ends.now (k + 1) 0 ≤ 40 → result ≡ get_or ends.now (k + 1) 0 }
 {
-    let r = right_arm(ends, k);
-    if r <= NODES { r } else { NODES }
+    right_arm(ends, k).min(NODES)
 }
 
 // Whether node k is T.
@@ -100,11 +99,7 @@ fn is_true(formula: &[u8], k: usize) -> bool
     requires { formula_length ≤ length formula.now }
     ensures { k < most_nodes → result ≡ eqb (slot_at formula.now k).kind 1 }
 {
-    if k < NODES {
-        formula[1 + k * NODE_SLOT] == 1
-    } else {
-        false
-    }
+    k < NODES && formula[1 + k * NODE_SLOT] == 1
 }
 
 // The column of a label among the masks of a place: the idle step has that of label 0, the other silent one.
@@ -134,13 +129,11 @@ fn mask_place(formula: &[u8], ends: &[u8; NODES], masks: &mut [u64; MASKS_LENGTH
     let node = node_at(formula, k);
     let last = is_true(formula, k + 1);
     let right = other_arm(ends, k);
-    let mut l: usize = 0;
-    while l < COLUMNS {
+    for l in 0..COLUMNS {
         let at = column(l);
         let arm = masks[(k + 1) * COLUMNS + at];
         let other = masks[right * COLUMNS + at];
         masks[k * COLUMNS + at] = node_mask(node, end, k, l, last, arm, other);
-        l += 1;
     }
 }
 
@@ -151,9 +144,7 @@ pub fn fill_masks(formula: &[u8], ends: &[u8; NODES], masks: &mut [u64; MASKS_LE
     requires cleared { Cleared masks_length masks.old }
     ensures { (F : Formula) → Spells formula.now ends.now F → MasksOf F 0 masks.new × MasksFit masks.new }
 {
-    let mut k = node_count(formula);
-    while 0 < k {
-        k -= 1;
+    for k in (0..node_count(formula)).rev() {
         mask_place(formula, ends, masks, k);
     }
 }
@@ -176,9 +167,7 @@ pub fn final_places(formula: &[u8], ends: &[u8; NODES]) -> [bool; PLACES]
     ensures { (F : Formula) → Spells formula.now ends.now F → FinalsOf F 0 result }
 {
     let mut finals = [true; PLACES];
-    let mut k = node_count(formula);
-    while 0 < k {
-        k -= 1;
+    for k in (0..node_count(formula)).rev() {
         let arm = finals[k + 1];
         let other = finals[other_arm(ends, k)];
         finals[k] = node_final(node_at(formula, k), arm, other);

@@ -3,6 +3,7 @@
 
 ghost use Rattle.std.specs.Prelude.{◌≡◌, ◌≤◌, min, length, take};
 ghost use Rattle.lts.specs.Sizes.{most_states};
+ghost use Rattle.explaining.specs.inner.Answered.{Answered};
 ghost use Rattle.explanations.specs.inner.Printed.{TextWritten};
 ghost use Rattle.files.specs.inner.Writing.{PrefixLength};
 ghost use Rattle.verdict_text.specs.VerdictsText.{entries_in, listed_verdicts};
@@ -11,11 +12,11 @@ ghost use Rattle.verdict_lines.specs.inner.Asking.{Asked};
 ghost use Rattle.verdict_lines.specs.inner.FileLines.{counted_lines, file_lines};
 
 use actl::sizes::FORMULA_LENGTH;
-use explaining::{BothRead, read_both};
+use explaining::read_both;
 use explanations::sizes::KEPT;
-use files::{Scanned, least, text_length, write_refused};
+use files::{Scanned, kept_text, text_length, write_refused};
 use lts::sizes::{STATES, TABLE_LENGTH};
-use replies::{Answer, verdicts_answer};
+use replies::{Answer, accepted, verdicts_answer};
 use verdict_text::lines::write_answers;
 use verdict_text::list::{STARTS, entry_count, read_list};
 use verdicts::verdicts;
@@ -27,17 +28,19 @@ pub const LIST_LENGTH: usize = STARTS * 6;
 pub const LINES_LENGTH: usize = 13 + STATES * 13 + 81;
 
 // Reads both texts, and asks for the verdicts at the listed states. The figure of an accepted list is the joint answer.
-fn ask(tabletext: &[u8], formulatext: &[u8], starts: &[u8], answers: &mut [u8]) -> Answer
+fn ask(
+    tabletext: &[u8],
+    formulatext: &[u8],
+    starts: &[u8],
+    answers: &mut [u8],
+) -> Result<u64, Answer>
     requires { most_states ≤ length answers.old }
-    ensures { Asked tabletext.now formulatext.now starts.now answers.old answers.new result }
+    ensures { Answered (Asked tabletext.now formulatext.now starts.now answers.old answers.new) result }
 {
     let mut table = [0u8; TABLE_LENGTH];
     let mut formula = [0u8; FORMULA_LENGTH];
-    let ready = read_both(tabletext, formulatext, &mut table, &mut formula);
-    match ready {
-        BothRead::Refused(number, figure) => Answer { number, figure },
-        BothRead::Ready => verdicts_answer(verdicts(&table, &formula, starts, answers)),
-    }
+    read_both(tabletext, formulatext, &mut table, &mut formula)?;
+    accepted(verdicts_answer(verdicts(&table, &formula, starts, answers)))
 }
 
 // The lines about a formula of `counted` bytes, of which `text` is the beginning.
@@ -50,14 +53,14 @@ fn write_lines(tablefile: &[u8], text: &[u8], counted: usize, list: &[u8], out: 
     let mut starts = [0u8; STARTS];
     let count = read_list(list, &mut starts);
     let mut answers = [0u8; STATES];
-    let said = ask(tablefile, text, &starts[..count], &mut answers);
-    if said.number != 0 {
-        return write_refused(said.number, said.figure, counted, out);
-    }
+    let joint = match ask(tablefile, text, &starts[..count], &mut answers) {
+        Ok(joint) => joint,
+        Err(refused) => return write_refused(refused.number, refused.figure, counted, out),
+    };
     if count < entry_count(list) {
         return write_refused(16, count as u64, counted, out);
     }
-    write_answers(said.figure, count, &starts, &answers, out)
+    write_answers(joint, count, &starts, &answers, out)
 }
 
 // Writes what the program writes at the start of `out`, and answers its length. Of the list `listed` bytes were read.
@@ -74,9 +77,8 @@ pub fn write_verdicts_of(
     ensures prefix_length { PrefixLength result out.new }
 {
     let length = text_length(scanned);
-    let n = least(length, KEPT);
-    let m = least(listed, LIST_LENGTH);
-    let whole = &head[..];
+    let text = kept_text(head, length);
     let all = &list[..];
-    write_lines(tablefile, &whole[..n], length, &all[..m], out)
+    let list = &all[..listed.min(LIST_LENGTH)];
+    write_lines(tablefile, text, length, list, out)
 }

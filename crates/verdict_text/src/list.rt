@@ -5,7 +5,7 @@ ghost use Rattle.verdict_text.specs.VerdictsText.{entry_in, entries_in};
 ghost use Rattle.verdict_text.specs.inner.Entries.{ListRead};
 ghost use Rattle.verdict_text.specs.inner.Sizes.{list_length};
 
-use columns::{Column, read_column};
+use columns::read_column;
 use lts::sizes::STATES;
 
 // So many entries cannot all be right.
@@ -16,11 +16,7 @@ fn entry_at(list: &[u8], i: usize) -> usize
     requires { i < enough_starts }
     ensures { result ≡ entry_in (take 6 (drop (i * 6) list.now)) }
 {
-    let held = read_column(list, i * 6);
-    match held {
-        Column::Number(value) => value,
-        Column::Bad => STATES,
-    }
+    read_column(list, i * 6).unwrap_or(STATES)
 }
 
 // How many entries there are. Fewer than six bytes at the end are one.
@@ -45,14 +41,12 @@ pub fn read_list(list: &[u8], starts: &mut [u8; STARTS]) -> usize
     ensures { ListRead list.now starts.new result }
 {
     let end = entry_count(list);
-    let mut i: usize = 0;
-    while i < end {
+    for i in 0..end {
         let entry = entry_at(list, i);
         if STATES <= entry {
             return i;
         }
         starts[i] = narrow(entry);
-        i += 1;
     }
-    i
+    end
 }

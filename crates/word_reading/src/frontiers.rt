@@ -1,39 +1,20 @@
 // What a word has reached: the places of each state as a mask, and in four masks behind these the states that have any, so that a letter
 // goes over no other states and clears no others.
-ghost use Rattle.std.specs.Prelude.{◌≡◌, cond, ◌^◌, ◌<◌, ◌≤◌};
+ghost use Rattle.std.specs.Prelude.{◌≡◌, cond, ◌<◌, ◌≤◌};
 ghost use Rattle.lts.specs.Sizes.{most_states};
 ghost use Rattle.bits.specs.inner.Bits.{bit_at};
 ghost use Rattle.frontier.specs.inner.Frontier.{has_state, emptied, brought, all_places, FirstFrom};
 
+use bits::{bit, has};
 use frontier::sizes::{FOURTH_MARKS, FRONTIER, MARKS_AT, SECOND_MARKS, THIRD_MARKS};
 use lts::sizes::STATES;
-
-pub fn has(mask: u64, k: usize) -> bool
-    requires { k < 64 }
-    ensures { result ≡ bit_at mask k }
-{
-    (mask >> k) % 2 == 1
-}
-
-fn bit(k: usize) -> u64
-    requires { k < 64 }
-    ensures { result ≡ 2 ^ k }
-{
-    1u64 << k
-}
-
-fn wide(zeros: u32) -> usize
-    ensures { result ≡ zeros }
-{
-    zeros as usize
-}
 
 // The first bit of a mask that is set, from k on; 64 or more if there is none.
 pub fn next_bit(mask: u64, k: usize) -> usize
     requires { k < 64 }
     ensures { FirstFrom (bit_at mask) k 64 result }
 {
-    k + wide(u64::trailing_zeros(mask >> k))
+    k + (mask >> k).trailing_zeros() as usize
 }
 
 // The first state that has places, from s on; 256 or more if there is none.

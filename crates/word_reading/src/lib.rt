@@ -18,12 +18,6 @@ ghost use Rattle.table_steps.specs.inner.StepArray.{step_at, steps_in, StepsFit}
 ghost use Rattle.frontier.specs.inner.Frontier.{nowhere, all_places};
 ghost use Rattle.frontier.specs.inner.Reached.{targets_of, step_taken, steps_taken, places_read, letter_read, word_read, root_reached, Letters};
 
-pub fn wide(letter: u8) -> usize
-    ensures { result ≡ letter }
-{
-    letter as usize
-}
-
 // The target places of a set of places on a label.
 pub fn targets_of(masks: &[u64; MASKS_LENGTH], places: u64, label: usize) -> u64
     requires { Carried label }
@@ -67,10 +61,8 @@ fn take_steps(
 {
     let span = leaving(firsts, s);
     let end = span.to;
-    let mut k = span.from;
-    while k < end {
+    for k in span.from..end {
         take_step(steps, k, label, places, next);
-        k += 1;
     }
 }
 
@@ -107,7 +99,7 @@ fn read_letter(
     requires carried { Carried letter }
     ensures { next.new ≡ letter_read (steps_in steps.now firsts.now) masks.now letter reached.now next.old }
 {
-    let label = wide(letter);
+    let label = usize::from(letter);
     clear(next);
     let mut s = next_state(reached, 0);
     while s < STATES {

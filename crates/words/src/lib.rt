@@ -3,36 +3,40 @@
 
 ghost use Rattle.std.specs.Prelude.{◌≡◌, ◌≤◌};
 ghost use Rattle.actl.specs.Sizes.{most_nodes};
-ghost use Rattle.lts.specs.Reply.{accepted};
 ghost use Rattle.lts.specs.Steps.{labels};
 ghost use Rattle.lts.specs.inner.Prepared.{table_in};
 ghost use Rattle.tables.specs.inner.Access.{found_in};
 ghost use Rattle.lts.specs.inner.HoldsTable.{HoldsTable};
 ghost use Rattle.actl.specs.inner.HoldsFormula.{HoldsFormula};
-ghost use Rattle.automaton.specs.Bytes.{bit_of};
 ghost use Rattle.words.specs.Replies.{word_reply};
+ghost use Rattle.words.specs.declared.WordRefusal.{WordRefusal};
 ghost use Rattle.automaton.specs.WordAsked.{is_bad, bad_letter, word_replied, WordAnswered};
 ghost use Rattle.frontier.specs.inner.Reached.{final_place, some_final, Letters, AcceptsAnswer};
 ghost use Rattle.words.specs.inner.Answered.{Answered};
 
 use automaton::sizes::{LONGEST_WORD, MASKS_LENGTH, PLACES};
-use formula_check::inputs::{Inputs, Unprepared, check_inputs};
+use bits::has;
+use formula_check::inputs::{Unprepared, check_inputs};
 use formula_classes::shape_of;
 use lts::sizes::{FIRSTS, STEPS};
 use table_steps::{fill_steps, is_silent};
-use tables::lookup::Lookup;
 use tables::prepared::{label_count, start_state};
 use target_masks::{fill_masks, final_places};
-use word_reading::frontiers::has;
-use word_reading::{read_word, wide};
+use word_reading::read_word;
 
-// What `accepts` answers. specs/Replies.antt lists the number and the figure of each case.
+// Why `accepts` refuses. specs/Replies.antt lists the number and the figure of each case.
 #[derive(Drop)]
-pub enum WordReply {
-    Accepted,
-    NotAccepted,
+pub enum WordRefusal {
     WordBad(usize),
-    Refused(Unprepared),
+    Unprepared(Unprepared),
+}
+
+impl From<Unprepared> for WordRefusal {
+    ghost from_gives = { λ why refusal. refusal ≡ WordRefusal.Unprepared why };
+
+    fn from(why: Unprepared) -> WordRefusal {
+        WordRefusal::Unprepared(why)
+    }
 }
 
 // 01: "a word's label above the label count". 02: "A word may hold 99". No other silent letter is above the count.
@@ -43,38 +47,34 @@ fn is_bad(labels: usize, letter: usize) -> bool
 }
 
 // 01: "index of the first such label below 1,024, else 1,024"
-fn bad_letter(labels: usize, word: &[u8]) -> Lookup
+fn bad_letter(labels: usize, word: &[u8]) -> Option<usize>
     ensures { found_in result ≡ bad_letter labels word.now }
 {
-    let mut i = 0;
-    while i < word.len() {
+    for i in 0..word.len() {
         if i == LONGEST_WORD {
-            return Lookup::At(LONGEST_WORD);
+            return Some(LONGEST_WORD);
         }
-        if is_bad(labels, wide(word[i])) {
-            return Lookup::At(i);
+        if is_bad(labels, usize::from(word[i])) {
+            return Some(i);
         }
-        i += 1;
     }
-    Lookup::Nowhere
+    None
 }
 
 fn is_final(finals: &[bool; PLACES], places: u64, k: usize) -> bool
     requires { k ≤ most_nodes }
     ensures { result ≡ final_place finals.now places k }
 {
-    if has(places, k) { finals[k] } else { false }
+    has(places, k) && finals[k]
 }
 
 fn some_final(finals: &[bool; PLACES], places: u64) -> bool
     ensures { result ≡ some_final finals.now places }
 {
-    let mut k = 0;
-    while k < PLACES {
+    for k in 0..PLACES {
         if is_final(finals, places, k) {
             return true;
         }
-        k += 1;
     }
     false
 }
@@ -98,36 +98,24 @@ fn is_accepted(table: &[u8], formula: &[u8], word: &[u8]) -> bool
     some_final(&finals, read_word(&steps, &firsts, &masks, start, word))
 }
 
-fn answer_of(found: bool) -> WordReply
-    ensures { word_reply result ≡ accepted (bit_of found) }
-{
-    if found {
-        WordReply::Accepted
-    } else {
-        WordReply::NotAccepted
-    }
-}
-
 // Every letter is checked before the word is read.
-fn answer(table: &[u8], formula: &[u8], word: &[u8]) -> WordReply
+fn answer(table: &[u8], formula: &[u8], word: &[u8]) -> Result<bool, WordRefusal>
     requires holds_table { HoldsTable table.now }
     requires holds_formula { HoldsFormula (labels (table_in table.now)) formula.now }
     ensures { Answered table.now formula.now word.now result }
 {
     let bad = bad_letter(label_count(table), word);
     match bad {
-        Lookup::At(i) => WordReply::WordBad(i),
-        Lookup::Nowhere => answer_of(is_accepted(table, formula, word)),
+        Some(i) => Err(WordRefusal::WordBad(i)),
+        None => Ok(is_accepted(table, formula, word)),
     }
 }
 
 // 01: "A word (at most 1,024 label numbers), given with a prepared table and formula, is answered 1 if their automaton accepts it, else 0."
-pub fn accepts(table: &[u8], formula: &[u8], word: &[u8]) -> WordReply
+pub fn accepts(table: &[u8], formula: &[u8], word: &[u8]) -> Result<bool, WordRefusal>
     ensures result_value { word_reply result ≡ word_replied table.now formula.now word.now }
     ensures word_answered { WordAnswered table.now formula.now word.now (word_reply result) }
 {
-    if let Inputs::Refused(why) = check_inputs(table, formula) {
-        return WordReply::Refused(why);
-    }
+    check_inputs(table, formula)?;
     answer(table, formula, word)
 }

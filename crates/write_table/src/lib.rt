@@ -9,28 +9,27 @@ use lts::sizes::{LONGEST_TABLE_TEXT, TABLE_LENGTH};
 use table_check::is_prepared;
 use written_lines::write_lines;
 
-// What `table_text` answers. specs/Replies.antt lists the number and the figure of each case.
-#[derive(Drop)]
-pub enum TextReply {
-    Written(usize),
+// Why `table_text` refuses. specs/Replies.antt lists the number and the figure of each case.
+#[derive(Clone, Copy)]
+pub enum TextRefusal {
     TableForeign,
     BufferShort(usize),
 }
 
-// The table's text goes into the first bytes of `text`. Nothing is written before all tests are passed.
-pub fn table_text(table: &[u8], text: &mut [u8]) -> TextReply
+// The table's text goes into the first bytes of `text`: the length is answered. Nothing is written before all tests are passed.
+pub fn table_text(table: &[u8], text: &mut [u8]) -> Result<usize, TextRefusal>
     ensures result_value { text_reply result ≡ table_written table.now text.old }
     ensures text_after { text.new ≡ table_text_left table.now text.old }
     ensures reads_back { ReadsBack table.now (text_reply result) text.new }
 {
     if table.len() < TABLE_LENGTH {
-        return TextReply::BufferShort(TABLE_LENGTH);
+        return Err(TextRefusal::BufferShort(TABLE_LENGTH));
     }
     if text.len() < LONGEST_TABLE_TEXT {
-        return TextReply::BufferShort(LONGEST_TABLE_TEXT);
+        return Err(TextRefusal::BufferShort(LONGEST_TABLE_TEXT));
     }
     if !is_prepared(table) {
-        return TextReply::TableForeign;
+        return Err(TextRefusal::TableForeign);
     }
-    TextReply::Written(write_lines(table, text))
+    Ok(write_lines(table, text))
 }

@@ -6,40 +6,40 @@ ghost use Rattle.combine.specs.Replies.{combine_reply};
 ghost use Rattle.write_table.specs.Replies.{text_reply};
 ghost use Rattle.replies.specs.inner.Says.{Says};
 
-use combine::CombineReply;
+use combine::CombineRefusal;
 use replies::{Answer, numbered, unprepared_answer};
-use write_formula::WriteReply;
-use write_table::TextReply;
+use write_formula::WriteRefusal;
+use write_table::TextRefusal;
 
-pub fn write_answer(reply: WriteReply) -> Answer
+pub fn write_answer(reply: Result<usize, WriteRefusal>) -> Answer
     ensures { Says (λ length. length) (write_reply reply) result }
 {
     match reply {
-        WriteReply::Written(length) => numbered(0, length),
-        WriteReply::TooLong(needed) => numbered(15, needed),
-        WriteReply::Refused(why) => unprepared_answer(why),
+        Ok(length) => numbered(0, length),
+        Err(WriteRefusal::TooLong(needed)) => numbered(15, needed),
+        Err(WriteRefusal::Unprepared(why)) => unprepared_answer(why),
     }
 }
 
-pub fn combine_answer(reply: CombineReply) -> Answer
+pub fn combine_answer(reply: Result<(), CombineRefusal>) -> Answer
     ensures { Says (λ _. 0) (combine_reply reply) result }
 {
     match reply {
-        CombineReply::Combined => numbered(0, 0),
-        CombineReply::TooManyPairs(pairs) => numbered(17, pairs),
-        CombineReply::TooManyLabels(labels) => numbered(18, labels),
-        CombineReply::TooManyTransitions(transitions) => numbered(19, transitions),
-        CombineReply::TableForeign => numbered(10, 0),
-        CombineReply::BufferShort(needed) => numbered(14, needed),
+        Ok(()) => numbered(0, 0),
+        Err(CombineRefusal::TooManyPairs(pairs)) => numbered(17, pairs),
+        Err(CombineRefusal::TooManyLabels(labels)) => numbered(18, labels),
+        Err(CombineRefusal::TooManyTransitions(transitions)) => numbered(19, transitions),
+        Err(CombineRefusal::TableForeign) => numbered(10, 0),
+        Err(CombineRefusal::BufferShort(needed)) => numbered(14, needed),
     }
 }
 
-pub fn text_answer(reply: TextReply) -> Answer
+pub fn text_answer(reply: Result<usize, TextRefusal>) -> Answer
     ensures { Says (λ length. length) (text_reply reply) result }
 {
     match reply {
-        TextReply::Written(length) => numbered(0, length),
-        TextReply::TableForeign => numbered(10, 0),
-        TextReply::BufferShort(needed) => numbered(14, needed),
+        Ok(length) => numbered(0, length),
+        Err(TextRefusal::TableForeign) => numbered(10, 0),
+        Err(TextRefusal::BufferShort(needed)) => numbered(14, needed),
     }
 }

@@ -68,10 +68,8 @@ fn write_labels(table: &[u8], text: &mut [u8], at: usize) -> usize
 {
     let count = label_count(table);
     let mut end = at;
-    let mut k: usize = 0;
-    while k < count {
+    for k in 0..count {
         end = write_label(table, k, text, end);
-        k += 1;
     }
     end
 }
@@ -81,13 +79,7 @@ fn keep_numbers(table: &[u8], kept: &mut [u8])
     requires { HoldsTable table.now × (kept_length ≤ length kept.old) }
     ensures { NumbersKept (table_in table.now) kept.new }
 {
-    let states = state_count(table);
-    let most = label_count(table);
-    if most < states {
-        keep_columns(kept, states);
-        return;
-    }
-    keep_columns(kept, most + 1);
+    keep_columns(kept, state_count(table).max(label_count(table) + 1));
 }
 
 // The line of the transition in slot k.
@@ -111,11 +103,9 @@ fn write_steps(table: &[u8], kept: &[u8], text: &mut [u8], at: usize) -> usize
 {
     let count = transition_count(table);
     let mut end = at;
-    let mut k: usize = 0;
-    while k < count {
+    for k in 0..count {
         write_step(table, kept, k, text, end);
         end += 19;
-        k += 1;
     }
     end
 }

@@ -13,7 +13,7 @@ use lib.Seq.{take_all}
 use Rattle.columns.specs.Bytes.{same_bytes}
 use Rattle.columns.specs.Columns.{digits_within, decimal, column, value_from, value_at}
 use Rattle.columns.specs.inner.Read.{column_at, column_if, lead}
-use Rattle.columns.specs.declared.Column.TheVariants.{Number, Bad}
+use Rattle.std.specs.Prelude.{Some, None}
 pub use Rattle.columns.proofs.Laws.Columns.{column-length, value-column}
 use Rattle.columns.proofs.Laws.Compared.{same-of_unequal, unequal_of-same, Each, each_append, each_take}
 use Rattle.columns.proofs.Laws.Bytes.{same_of, same-to}
@@ -122,39 +122,39 @@ column-is_narrow l v e =
     let short : length (column v) ≤ 6 = omega (arith, sym (ap length e), length-take 6 l) in
     column_narrow v (ap (value_from 0) (take_all 6 (column v) short) ∙ value-column v)
 
-pub column-found : (s : List ℕ) (at v : ℕ) → column_at s at ≡ Number v → ColumnAt s at v
+pub column-found : (s : List ℕ) (at v : ℕ) → column_at s at ≡ Some v → ColumnAt s at v
 unfolding column_at
 column-found s at v e = step (same_bytes (take 6 (drop at s)) (column (value_at at s))) refl e
   where
-    step : (t : Bool) → same_bytes (take 6 (drop at s)) (column (value_at at s)) ≡ t → column_if t (value_at at s) ≡ Number v → ColumnAt s at v
+    step : (t : Bool) → same_bytes (take 6 (drop at s)) (column (value_at at s)) ≡ t → column_if t (value_at at s) ≡ Some v → ColumnAt s at v
     step true d h =
         let same : value_at at s ≡ v = cc in
         let b = same_of (take 6 (drop at s)) (column (value_at at s)) d ∙ ap column same in
         record { bytes = b; small = column-is_narrow (drop at s) v b }
     step false d h = let z : ◌≡◌ {A = ℕ} 0 1 = cc in absurd (omega arith)
 
-pub column-lacking : (s : List ℕ) (at v : ℕ) → column_at s at ≡ Bad → take 6 (drop at s) ≡ column v → ⊥
+pub column-lacking : (s : List ℕ) (at v : ℕ) → column_at s at ≡ None → take 6 (drop at s) ≡ column v → ⊥
 unfolding column_at
 column-lacking s at v e b = step (same_bytes (take 6 (drop at s)) (column (value_at at s))) refl e
   where
-    step : (t : Bool) → same_bytes (take 6 (drop at s)) (column (value_at at s)) ≡ t → column_if t (value_at at s) ≡ Bad → ⊥
+    step : (t : Bool) → same_bytes (take 6 (drop at s)) (column (value_at at s)) ≡ t → column_if t (value_at at s) ≡ None → ⊥
     step true d h = let z : ◌≡◌ {A = ℕ} 0 1 = cc in omega arith
     step false d h = unequal_of-same (take 6 (drop at s)) (column (value_at at s)) d (b ∙ ap column (sym (value_there s at v b)))
 
 -- When `column_at` is which.
-column_if_lacking : (s : List ℕ) (at : ℕ) → (take 6 (drop at s) ≡ column (value_at at s) → ⊥) → Bad ≡ column_at s at
+column_if_lacking : (s : List ℕ) (at : ℕ) → (take 6 (drop at s) ≡ column (value_at at s) → ⊥) → None ≡ column_at s at
 unfolding column_at
 column_if_lacking s at h = ap (λ t. column_if t (value_at at s)) (sym (same-of_unequal (take 6 (drop at s)) (column (value_at at s)) h))
 
-pub column-outside : (s : List ℕ) (at : ℕ) → length s < at + 6 → Bad ≡ column_at s at
+pub column-outside : (s : List ℕ) (at : ℕ) → length s < at + 6 → None ≡ column_at s at
 column-outside s at h = column_if_lacking s at (λ e. omega (arith, ap length e, length-take 6 (drop at s), length-drop at s, column-wide (value_at at s)))
 
-pub column_too_large : (s : List ℕ) (at : ℕ) → 1000000 ≤ value_at at s → Bad ≡ column_at s at
+pub column_too_large : (s : List ℕ) (at : ℕ) → 1000000 ≤ value_at at s → None ≡ column_at s at
 column_too_large s at h = column_if_lacking s at (λ e. omega (arith, column-is_narrow (drop at s) (value_at at s) e))
 
 pub column-of-same : (s : List ℕ) (at v : ℕ) → v ≡ value_at at s → (t : Bool) → t ≡ same_bytes (take 6 (drop at s)) (column v) → column_if t v ≡ column_at s at
 unfolding column_at
 column-of-same s at v e t d = rw (d, e)
 
-pub column-there : (s : List ℕ) (at v : ℕ) → take 6 (drop at s) ≡ column v → Number v ≡ column_at s at
+pub column-there : (s : List ℕ) (at v : ℕ) → take 6 (drop at s) ≡ column v → Some v ≡ column_at s at
 column-there s at v e = column-of-same s at v (sym (value_there s at v e)) true (sym (same-to (take 6 (drop at s)) (column v) e))

@@ -9,7 +9,7 @@ use lib.Dec.{eqb}
 use lib.ListN.{length, get_or}
 use Rattle.columns.specs.inner.Read.{column_at, lead}
 use Rattle.columns.specs.inner.Small.{four_of, last_four, least_small, DigitsOf}
-use Rattle.columns.specs.declared.Column.TheVariants.{Number}
+use Rattle.std.specs.Prelude.{Some}
 use Rattle.columns.proofs.Laws.ColumnsRead.{column-there}
 use Rattle.columns.proofs.Laws.Kept.{six_bytes}
 use Rattle.columns.proofs.Laws.Small.{small-column}
@@ -88,7 +88,7 @@ same_four a b c d e f g h p q r s t u is =
 pub small-there : (s : List ℕ) (at v : ℕ) → at + 6 ≤ length s → ((i : ℕ) → get_or s i 0 < 256) → v < 1000
     → get_or s at 0 * 256 + get_or s (at + 1) 0 ≡ 32 * 256 + 32
     → four_of (get_or s (at + 2) 0) (get_or s (at + 3) 0) (get_or s (at + 4) 0) (get_or s (at + 5) 0) ≡ last_four v
-    → Number v ≡ column_at s at
+    → Some v ≡ column_at s at
 small-there s at v h bytes few two four =
     let first : get_or s at 0 ≡ 32 = omega (arith, bytes at, bytes (at + 1)) in
     let second : get_or s (at + 1) 0 ≡ 32 = omega (arith, bytes at, bytes (at + 1)) in

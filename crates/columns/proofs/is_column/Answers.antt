@@ -20,10 +20,6 @@ pub loop-i-init : goal.loop-i-init
 loop-i-init c =
     compare_starts c.args.text.now c.args.at c.args.v c.requires.0 c.requires.1 c.if-text-at.false
 
-pub overflow_cast-text-in-loop-i : goal.overflow_cast-text-in-loop-i
-overflow_cast-text-in-loop-i c =
-    omega (arith, c.type_inv.text (c.args.at + (c.loop-i.i - 1)))
-
 pub returns-then-text-at-2 : goal.returns-then-text-at-2
 returns-then-text-at-2 c =
     let left : Compared c.args.text.now c.args.at c.args.v c.loop-i.n (suc (c.loop-i.i - 1)) = subst (Compared c.args.text.now c.args.at c.args.v c.loop-i.n)

@@ -1,7 +1,6 @@
 -- What reading a number below 1,000 finds: the last four bytes of its column as a number, and the number.
-use Rattle.std.specs.Prelude.{◌≡◌, List, ℕ, ◌+◌, ◌*◌, ◌/◌, ◌%◌, ◌≤◌, ◌<◌}
+use Rattle.std.specs.Prelude.{◌≡◌, List, Some, ℕ, ◌+◌, ◌*◌, ◌/◌, ◌%◌, ◌≤◌, ◌<◌}
 use Rattle.columns.specs.inner.Read.{column_at, lead}
-use Rattle.columns.specs.declared.Column.TheVariants.{Number}
 
 -- Four bytes as a number, the first one the highest.
 abbrev pub four_of : ℕ → ℕ → ℕ → ℕ → ℕ
@@ -23,4 +22,4 @@ abbrev pub SmallIn : ℕ → ℕ → Type 0
 SmallIn four r = r < 1000 → four ≡ last_four r
 
 abbrev pub SmallAt : List ℕ → ℕ → ℕ → Type 0
-SmallAt s at r = r < 1000 → Number r ≡ column_at s at
+SmallAt s at r = r < 1000 → Some r ≡ column_at s at

@@ -1,5 +1,5 @@
 -- What reading one file answers and leaves.
-use Rattle.std.specs.Prelude.{◌≡◌, List, ℕ}
+use Rattle.std.specs.Prelude.{◌≡◌, List, ℕ, Result, Ok, Err}
 use Rattle.std.proofs.Math.Option.{some}
 use Rattle.explanations.specs.inner.Printed.{TextWritten}
 use Rattle.lts.specs.Reading.{read_table}
@@ -17,9 +17,9 @@ pub record FileHeld (file table : List ℕ) : Type 0 where
   pub read : read_table file ≡ accepted t
   pub held : prepared_table table ≡ some t
 
-pub record FileRead (file table : List ℕ) (a : Answer) : Type 0 where
-  pub refused : (a.number ≡ 0 → ⊥) → read_table file ≡ refusal a.number a.figure
-  pub taken : a.number ≡ 0 → FileHeld file table
+abbrev pub FileRead : List ℕ → List ℕ → Result ℕ Answer → Type 0
+FileRead file table (Ok figure) = FileHeld file table
+FileRead file table (Err a) = read_table file ≡ refusal a.number a.figure
 
 -- The tables that prepared bytes hold.
 pub record BothHeld (one two : List ℕ) : Type 0 where

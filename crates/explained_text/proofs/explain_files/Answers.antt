@@ -15,19 +15,17 @@ use Rattle.explained_text.proofs.explain_files.Goals as goal
 
 pub write_reply-requires : goal.write_reply-requires
 write_reply-requires c =
-    let text : List ℕ = take c.least-n.result c.args.head.now in
-    few-counts c.args.tablefile.now (text) (replicate rows_length 0) (replicate edges_length 0) c.explain_head-reply.ensures (omega arith) (omega arith)
+    few-counts c.args.tablefile.now c.kept_text-text.result.now (replicate rows_length 0) (replicate edges_length 0) c.explain_head-reply.ensures (omega arith) (omega arith)
 
 pub returns : goal.returns
 unfolding files_text
 returns c =
-    let text : List ℕ = take c.least-n.result c.args.head.now in
     let a = c.args in
     let long = c.text_length-length in
-    let is = reply-text a.tablefile.now (text) (replicate rows_length 0) (replicate edges_length 0) c.explain_head-reply.ensures long.result in
-    let first = c.least-n.ensures ∙ ap (λ k. min k kept_length) long.ensures in
+    let is = reply-text a.tablefile.now c.kept_text-text.result.now (replicate rows_length 0) (replicate edges_length 0) c.explain_head-reply.ensures long.result in
+    let text = c.kept_text-text.ensures ∙ ap (λ k. take (min k kept_length) a.head.now) long.ensures in
     let written = c.write_reply in record {
       text_written = subst (λ (l : List ℕ). TextWritten l a.out.now written.new.out written.result)
-          (is ∙ (λ i. printed (with_length (long.ensures i) (lent_explanation a.tablefile.now (take (first i) a.head.now))))) written.ensures.text_written;
+          (is ∙ (λ i. printed (with_length (long.ensures i) (lent_explanation a.tablefile.now (text i))))) written.ensures.text_written;
       prefix_length = written.ensures.prefix_length;
     }

@@ -1,5 +1,4 @@
 -- `explain` meets its contract: 14 for a buffer that is too short, and else what `explain_into` answers and leaves.
-use borrow.Author.Rules.{rules}
 use native.Mathlib.Omega.{arith}
 use Prim.Native.Nat.{◌≤◌, ◌<◌}
 use lib.ListN.{length}
@@ -12,7 +11,7 @@ pub returns-then-table-lt-TABLE_LENGTH : goal.returns-then-table-lt-TABLE_LENGTH
 returns-then-table-lt-TABLE_LENGTH c =
     let a = c.args in
     let short : length a.table.now < table_length = omega arith in
-    promised_refusal _ _ _ _ _ _ 14 table_length
+    promised_refusal _ _ _ _ _ _ _
     (short-table a.tabletext.now a.formulatext.now a.table.now a.formula.now a.rows.now a.edges.now short)
 
 pub returns-then-formula-lt-FORMULA_LENGTH : goal.returns-then-formula-lt-FORMULA_LENGTH
@@ -20,7 +19,7 @@ returns-then-formula-lt-FORMULA_LENGTH c =
     let a = c.args in
     let long : table_length ≤ length a.table.now = omega arith in
     let short : length a.formula.now < formula_length = omega arith in
-    promised_refusal _ _ _ _ _ _ 14 formula_length
+    promised_refusal _ _ _ _ _ _ _
     (short-formula a.tabletext.now a.formulatext.now a.table.now a.formula.now a.rows.now a.edges.now long short)
 
 pub returns : goal.returns

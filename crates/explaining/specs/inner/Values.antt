@@ -1,5 +1,5 @@
 -- The values that the C function of `explain` writes beside the figure: `explain_values` answers what they hold afterwards.
-use Rattle.std.specs.Prelude.{◌≡◌, ℕ}
+use Rattle.std.specs.Prelude.{◌≡◌}
 use Rattle.lts.specs.Reply.{Reply}
 use Rattle.explanations.specs.Explanation.{Summary}
 use Rattle.replies.specs.Interface.{kept_in}

@@ -4,8 +4,8 @@ use Rattle.folder.proofs.scan_all.Goals as goal
 
 pub returns-then-not-portion : goal.returns-then-not-portion
 returns-then-not-portion g c =
-    on_then c.loop-left.invariant c.scan_some-portion.ensures
+    on_then c.loop.invariant c.scan_some-portion.ensures
 
-pub loop-left-preserved : goal.loop-left-preserved
-loop-left-preserved g c =
-    on_then c.loop-left.invariant c.scan_some-portion.ensures
+pub loop-preserved : goal.loop-preserved
+loop-preserved g c =
+    on_then c.loop.invariant c.scan_some-portion.ensures

@@ -6,6 +6,7 @@ use mathlib.Core.Option.{Option, none, some}
 use Prim.Native.Nat.{ℕ, ◌≤◌, ◌<◌}
 use native.Mathlib.Omega.{arith}
 use lib.Dec.{leb}
+use Rattle.std.proofs.Common.{Result, Ok, Err}
 use lib.ListN.{length}
 use borrow.Author.Tests.{le-leb, lt-leb}
 use Rattle.actl.specs.Sizes.{formula_length}
@@ -23,8 +24,6 @@ use Rattle.actl.specs.FormulaReading.{with_formula, on_prepared}
 use Rattle.lts.specs.Prepared.{with_table}
 use Rattle.formula_check.specs.Inputs.{unprepared, inputs_reply}
 use Rattle.formula_check.specs.declared.inputs.Unprepared.{Unprepared}
-use Rattle.formula_check.specs.declared.inputs.Inputs.{Inputs}
-use Rattle.formula_check.specs.declared.inputs.Inputs.TheVariants as inputs
 use Rattle.actl.proofs.Laws.Replies.{accepted_lengths, on-prepared-accepted}
 
 none_of : {A : Type 0} (o : Option A) → is_some o ≡ false → o ≡ none
@@ -120,11 +119,11 @@ module _ (table formula : List ℕ) where
   goes_on next b F d = both-prepared table formula next b.table_long b.formula_long (ap is_some b.is_table) F d
 
   -- The same by the case that `check_inputs` answered, for the entries that call it.
-  module _ {i : Inputs} (outcome : inputs_reply i ≡ checked table formula) where
-    pub inputs_refused : {A : Type 0} (next : Table → Formula → Reply A) {why : Unprepared} → i ≡ inputs.Refused why → unprepared why ≡ on_prepared table formula next
+  module _ {i : Result (Unit {0}) Unprepared} (outcome : inputs_reply i ≡ checked table formula) where
+    pub inputs_refused : {A : Type 0} (next : Table → Formula → Reply A) {why : Unprepared} → i ≡ Err why → unprepared why ≡ on_prepared table formula next
     inputs_refused next {why} e = unprepared_again next why (subst (λ r. inputs_reply r ≡ checked table formula) e outcome)
 
-    pub inputs_prepared : i ≡ inputs.Prepared → Both
+    pub inputs_prepared : {held : Unit {0}} → i ≡ Ok held → Both
     inputs_prepared e = both (subst (λ r. inputs_reply r ≡ checked table formula) e outcome)
 
   pub both-held : Both → HoldsTable table × HoldsFormula (labels (table_in table)) formula

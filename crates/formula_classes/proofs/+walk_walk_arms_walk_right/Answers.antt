@@ -1,11 +1,8 @@
 -- The walk over a formula's nodes meets its contract: a node, its arms and the right arm of `|` call each other, and the nodes left fall.
-use mathlib.Core.Path.{sym, ◌∙◌, subst}
-use Prim.Native.Nat.{◌+◌}
+use mathlib.Core.Path.{sym, ◌∙◌}
 use native.Mathlib.Omega.{arith}
-use Rattle.actl.specs.inner.Walk.{Traversed}
 use Rattle.actl.proofs.Laws.Unique.{no_kind, no_arm}
 use Rattle.actl.proofs.Laws.Walks.{known-kind}
-use Rattle.formula_classes.specs.inner.WalkReplies.{Walks}
 use Rattle.formula_classes.proofs.Laws.Phases.{room-kept, walked_on, walked-within, arm_in_table, walked_unary, walked-or, walked_T, right-walked}
 use Rattle.formula_classes.proofs.+walk_walk_arms_walk_right.Goals as goal
 
@@ -37,18 +34,14 @@ walk-walk_arms-requires t c =
 pub walk_arms-walk-requires : goal.walk_arms-walk-requires
 walk_arms-walk-requires t c = (omega (arith, c.decreases, c.requires.has_arm.inside), c.requires.room)
 
-pub walk_arms-returns-in_default : goal.walk_arms-returns-in_default
-walk_arms-returns-in_default t c =
-    let a = c.args in
+pub walk_arms-returns-in_err-left : goal.walk_arms-returns-in_err-left
+walk_arms-returns-in_err-left t c =
     let node = c.requires.has_arm in
-    let broken = subst (Walks a.kinds.now a.ends.now c.walk.new.ends a.classes.now c.walk.new.classes (a.k + 1)) c.in_default.is c.walk.ensures in
-    no_arm a.kinds.now a.k (λ z. omega (arith, node.here, node.low)) broken
+    rw c.from_residual.ensures (no_arm c.args.kinds.now c.args.k (λ z. omega (arith, node.here, node.low)) c.in_err-left.ensures)
 
 pub walk_arms-walk_right-requires : goal.walk_arms-walk_right-requires
 walk_arms-walk_right-requires t c =
-    let a = c.args in
-    let arm : Traversed a.kinds.now a.ends.now c.walk.new.ends a.classes.now c.walk.new.classes (a.k + 1) c.in-Node.middle c.in-Node.left
-    = subst (Walks a.kinds.now a.ends.now c.walk.new.ends a.classes.now c.walk.new.classes (a.k + 1)) c.in-Node.is c.walk.ensures in
+    let arm = c.in_ok-left.ensures in
     let past = walked_on arm in
     let within = walked-within arm in
     let room = room-kept c.requires.room c.walk.auto.ends c.walk.auto.classes in
@@ -56,32 +49,21 @@ walk_arms-walk_right-requires t c =
 
 pub walk_arms-returns-then-kind-eq3 : goal.walk_arms-returns-then-kind-eq3
 walk_arms-returns-then-kind-eq3 t c =
-    let a = c.args in
-    let arm : Traversed a.kinds.now a.ends.now c.walk.new.ends a.classes.now c.walk.new.classes (a.k + 1) c.in-Node.middle c.in-Node.left
-    = subst (Walks a.kinds.now a.ends.now c.walk.new.ends a.classes.now c.walk.new.classes (a.k + 1)) c.in-Node.is c.walk.ensures in
-    walked-or c.requires.has_arm arm c.walk_right.new.ends c.walk_right.new.classes c.walk_right.result c.if-kind-eq3.true c.walk_right.ensures
+    walked-or c.requires.has_arm c.in_ok-left.ensures c.walk_right.new.ends c.walk_right.new.classes c.walk_right.result c.if-kind-eq3.true c.walk_right.ensures
 
 pub walk_arms-class_from-class-requires-clause-arm_bound : goal.walk_arms-class_from-class-requires-clause-arm_bound
 walk_arms-class_from-class-requires-clause-arm_bound t c =
-    let a = c.args in
-    let arm : Traversed a.kinds.now a.ends.now c.walk.new.ends a.classes.now c.walk.new.classes (a.k + 1) c.in-Node.middle c.in-Node.left
-    = subst (Walks a.kinds.now a.ends.now c.walk.new.ends a.classes.now c.walk.new.classes (a.k + 1)) c.in-Node.is c.walk.ensures in
-    arm_in_table arm
+    arm_in_table c.in_ok-left.ensures
 
 pub walk_arms-note-requires : goal.walk_arms-note-requires
 walk_arms-note-requires t c =
-    let a = c.args in
-    let arm : Traversed a.kinds.now a.ends.now c.walk.new.ends a.classes.now c.walk.new.classes (a.k + 1) c.in-Node.middle c.in-Node.left
-    = subst (Walks a.kinds.now a.ends.now c.walk.new.ends a.classes.now c.walk.new.classes (a.k + 1)) c.in-Node.is c.walk.ensures in
+    let arm = c.in_ok-left.ensures in
     let room = room-kept c.requires.room c.walk.auto.ends c.walk.auto.classes in
     omega (arith, c.requires.has_arm.inside, walked-within arm, room.ends_fit, room.classes_fit, room.few)
 
 pub walk_arms-returns : goal.walk_arms-returns
 walk_arms-returns t c =
-    let a = c.args in
-    let arm : Traversed a.kinds.now a.ends.now c.walk.new.ends a.classes.now c.walk.new.classes (a.k + 1) c.in-Node.middle c.in-Node.left
-    = subst (Walks a.kinds.now a.ends.now c.walk.new.ends a.classes.now c.walk.new.classes (a.k + 1)) c.in-Node.is c.walk.ensures in
-    walked_unary c.requires.has_arm arm c.if-kind-eq3.false c.class_from-class.ensures c.note.ensures
+    walked_unary c.requires.has_arm c.in_ok-left.ensures c.if-kind-eq3.false c.class_from-class.ensures c.note.ensures
 
 -- The right arm's walk, then the node noted.
 pub walk_right-walk-requires : goal.walk_right-walk-requires
@@ -89,23 +71,15 @@ walk_right-walk-requires t c = (omega (arith, c.decreases), c.requires.room)
 
 pub walk_right-class_of_or-class-requires-clause-right_bound : goal.walk_right-class_of_or-class-requires-clause-right_bound
 walk_right-class_of_or-class-requires-clause-right_bound t c =
-    let a = c.args in
-    let arm : Traversed a.kinds.now a.ends.now c.walk.new.ends a.classes.now c.walk.new.classes a.middle c.in-Node.end c.in-Node.right
-    = subst (Walks a.kinds.now a.ends.now c.walk.new.ends a.classes.now c.walk.new.classes a.middle) c.in-Node.is c.walk.ensures in
-    arm_in_table arm
+    arm_in_table c.in_ok-right.ensures
 
 pub walk_right-note-requires : goal.walk_right-note-requires
 walk_right-note-requires t c =
-    let a = c.args in
-    let arm : Traversed a.kinds.now a.ends.now c.walk.new.ends a.classes.now c.walk.new.classes a.middle c.in-Node.end c.in-Node.right
-    = subst (Walks a.kinds.now a.ends.now c.walk.new.ends a.classes.now c.walk.new.classes a.middle) c.in-Node.is c.walk.ensures in
+    let arm = c.in_ok-right.ensures in
     let room = room-kept c.requires.room c.walk.auto.ends c.walk.auto.classes in
     let above = c.requires.k_lt_middle.0 in
     omega (arith, above, walked_on arm, walked-within arm, room.ends_fit, room.classes_fit, room.few)
 
 pub walk_right-returns : goal.walk_right-returns
 walk_right-returns t c =
-    let a = c.args in
-    let arm : Traversed a.kinds.now a.ends.now c.walk.new.ends a.classes.now c.walk.new.classes a.middle c.in-Node.end c.in-Node.right
-    = subst (Walks a.kinds.now a.ends.now c.walk.new.ends a.classes.now c.walk.new.classes a.middle) c.in-Node.is c.walk.ensures in
-    right-walked c.args.left arm c.class_of_or-class.ensures c.note.ensures
+    right-walked c.args.left c.in_ok-right.ensures c.class_of_or-class.ensures c.note.ensures

@@ -9,4 +9,4 @@ abbrev pub decreases-walk_arms : goal.decreases-walk_arms
 decreases-walk_arms l = (length l.kinds.now - l.k) * 2
 
 abbrev pub decreases-walk_right : goal.decreases-walk_right
-decreases-walk_right l = (length l.kinds.now - l.middle) * 2 + 2
+decreases-walk_right l = (length l.kinds.now - l.left.end) * 2 + 2

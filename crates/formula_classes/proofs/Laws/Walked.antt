@@ -10,6 +10,7 @@ use lib.Dec.{eqb}
 use lib.ListN.{length, get_or, take, drop, length-append, length-map, get_or-append, get_or-map}
 use lib.Seq.{sets, sets-eq, take_at, get_or-append-add, ext_get_or}
 use borrow.Author.Tests.{eqb-true, eqb-false}
+use Rattle.std.proofs.Common.{Option, None, Some}
 use Rattle.actl.specs.Sizes.{node_slot_length}
 use Rattle.lts.specs.inner.Lists.{up_from}
 use Rattle.actl.specs.Formulas.{Formula, tru, not, or, ex, ax, eu, eu_then, size, nodes, class_of}
@@ -20,7 +21,6 @@ use Rattle.actl.specs.inner.Check.{SpelledClassed}
 use Rattle.actl.specs.inner.Walk.{kind_of, kinds_of, kinds_in, arm_of, class_of_arm, ends_from, classes_of, Spelled, Traversed}
 use Rattle.formula_classes.specs.inner.WalkReplies.{Walks}
 use Rattle.formula_classes.specs.declared.Walked.{Walked}
-use Rattle.formula_classes.specs.declared.Walked.TheVariants.{Broken, Node}
 use Rattle.actl.proofs.Nodes.{length-nodes}
 use Rattle.actl.proofs.Laws.Skeletons.{size_by_kinds, class_by_kinds, ends_by_kinds, classes_by_kinds}
 use Rattle.actl.proofs.Laws.Prepared.{prepared-count, prepared-slot}
@@ -41,9 +41,9 @@ same_kinds f F rest e =
     let z : [] ≡ rest = same-behind F f (append-nil (kinds_of F) ∙ e) in
     sym (e ∙ (ap (λ l. kinds_of f ++ l) (sym z) ∙ append-nil (kinds_of f)))
 
-pub walk_noted : {K E E' C C' : List ℕ} (r : Walked) (F : Formula) → kinds_of F ≡ K → Walks K E E' C C' 0 r → Noted E E' C C' F
-walk_noted Broken F e h = absurd (h F ([], sym e ∙ sym (append-nil (kinds_of F))))
-walk_noted {E} {C} (Node end arm) F e h =
+pub walk_noted : {K E E' C C' : List ℕ} (r : Option Walked) (F : Formula) → kinds_of F ≡ K → Walks K E E' C C' 0 r → Noted E E' C C' F
+walk_noted None F e h = absurd (h F ([], sym e ∙ sym (append-nil (kinds_of F))))
+walk_noted {E} {C} (Some w) F e h =
     let s = same_kinds h.formula F h.spelled.0 (e ∙ h.spelled.1) in
     record {
       ends = h.ends_noted ∙ ap (sets E 0) (ends_by_kinds h.formula F s 0);
@@ -119,7 +119,7 @@ length_kinds_in b n = length-map (up_from 0 n) (λ k. get_or b (1 + k * node_slo
 
 -- A walk over the kinds in a prepared formula leaves its shape.
 pub shape_noted : (n : ℕ) (b : List ℕ) {F : Formula} → prepared_formula n b ≡ some F
-    → {K E E' C C' : List ℕ} (r : Walked) → K ≡ kinds_in b (get_or b 0 0) → Walks K E E' C C' 0 r → Noted E E' C C' F
+    → {K E E' C C' : List ℕ} (r : Option Walked) → K ≡ kinds_in b (get_or b 0 0) → Walks K E E' C C' 0 r → Noted E E' C C' F
 shape_noted n b {F} e r d h = walk_noted r F (sym (d ∙ kinds_prepared n b e)) h
 
 -- The classes that a walk leaves, as a list.

@@ -8,6 +8,7 @@ use Rattle.actl.specs.Formulas.{size, nodes, highest_without_class}
 use Rattle.actl.specs.inner.Walk.{classes_of, last_none}
 use Rattle.actl.proofs.Laws.Classed.{highest_none}
 use Rattle.actl.proofs.Laws.Walks.{length_kinds}
+use Rattle.formula_classes.proofs.Laws.LastNone.{last-none}
 use Rattle.formula_classes.proofs.Laws.Walked.{walk_noted, noted-classes, length_kinds_in}
 use Rattle.formula_classes.proofs.highest_classless.Goals as goal
 
@@ -27,4 +28,4 @@ returns c =
     let noted = walk_noted w.result F e w.ensures in
     let classes : take a.count w.new.classes ≡ classes_of F =
     ap (λ n. take n w.new.classes) count ∙ noted-classes F noted (omega arith) in
-    c.last_none.ensures ∙ (ap (λ l. last_none 0 l none) classes ∙ highest_none 0 (nodes F) none)
+    last-none (take a.count w.new.classes) c.last_none.result c.last_none.ensures ∙ (ap (λ l. last_none 0 l none) classes ∙ highest_none 0 (nodes F) none)

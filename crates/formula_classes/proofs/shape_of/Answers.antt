@@ -6,14 +6,8 @@ use Rattle.actl.proofs.Laws.Prepared.{prepared-count, prepared-few}
 use Rattle.formula_classes.proofs.Laws.Walked.{shape_noted, noted-end, noted-class}
 use Rattle.formula_classes.proofs.shape_of.Goals as goal
 
-pub returns-then-count-gt-NODES : goal.returns-then-count-gt-NODES
-returns-then-count-gt-NODES c =
-    λ n F e.
-    let b = c.args.formula.now in
-    absurd (omega (arith, prepared-count n b e, prepared-few n b e))
-
-pub returns : goal.returns
-returns c =
+pub returns-then-count-le-NODES : goal.returns-then-count-le-NODES
+returns-then-count-le-NODES c =
     λ n F e.
     let w = c.walk_nodes in
     let b = c.args.formula.now in
@@ -25,3 +19,9 @@ returns c =
       ends = λ k l. noted-end F noted k l few;
       classes = λ k l. noted-class F noted k l few;
     }
+
+pub returns-else-count-le-NODES : goal.returns-else-count-le-NODES
+returns-else-count-le-NODES c =
+    λ n F e.
+    let b = c.args.formula.now in
+    absurd (omega (arith, prepared-count n b e, prepared-few n b e))

@@ -1,9 +1,8 @@
 -- What the phases of the walk hand each other: a node that is noted, a node with an arm, the right arm of `|`.
-use Rattle.std.specs.Prelude.{◌≡◌, List, ℕ, ◌≤◌, ◌<◌, length, get_or, set}
+use Rattle.std.specs.Prelude.{◌≡◌, List, ℕ, ◌≤◌, ◌<◌, length, get_or, set, Option, None, Some}
 use Rattle.actl.specs.Formulas.{Formula, class_of_or}
 use Rattle.actl.specs.inner.Walk.{class_of_arm, Spelled, Traversed}
 use Rattle.formula_classes.specs.declared.Walked.{Walked}
-use Rattle.formula_classes.specs.declared.Walked.TheVariants.{Broken, Node}
 
 -- The lent places hold every node, and a byte holds every number of a node.
 pub record Room (kinds ends classes : List ℕ) : Type 0 where
@@ -15,7 +14,7 @@ pub record Room (kinds ends classes : List ℕ) : Type 0 where
 pub record NodeNoted (ends ends_after classes classes_after : List ℕ) (k end class arm : ℕ) (r : Walked) : Type 0 where
   pub ends_set : ends_after ≡ set ends k end
   pub classes_set : classes_after ≡ set classes k class
-  pub told : r ≡ Node end arm
+  pub told : r ≡ record { end = end; arm = arm }
 
 -- Node k is one of the kinds that have an arm.
 pub record HasArm (kinds : List ℕ) (k kind : ℕ) : Type 0 where
@@ -24,16 +23,15 @@ pub record HasArm (kinds : List ℕ) (k kind : ℕ) : Type 0 where
   pub low : 2 ≤ kind
   pub high : kind ≤ 9
 
--- The right arm of node k, from `middle` on, and then node k noted, by both arms.
-pub record RightTraversed (kinds ends ends_after classes classes_after : List ℕ) (k middle left end class : ℕ) : Type 0 where
+-- The right arm of node k, from where the left one ends on, and then node k noted, by both arms.
+pub record RightTraversed (kinds ends ends_after classes classes_after : List ℕ) (k : ℕ) (left w : Walked) : Type 0 where
   pub ends_behind : List ℕ
   pub classes_behind : List ℕ
   pub right : ℕ
-  pub walked : Traversed kinds ends ends_behind classes classes_behind middle end right
-  pub noted : NodeNoted ends_behind ends_after classes_behind classes_after k end class class (Node end class)
-  pub by_both : class ≡ class_of_or (class_of_arm left) (class_of_arm right)
+  pub walked : Traversed kinds ends ends_behind classes classes_behind left.end w.end right
+  pub noted : NodeNoted ends_behind ends_after classes_behind classes_after k w.end w.arm w.arm w
+  pub by_both : w.arm ≡ class_of_or (class_of_arm left.arm) (class_of_arm right)
 
-abbrev pub RightWalks : List ℕ → List ℕ → List ℕ → List ℕ → List ℕ → ℕ → ℕ → ℕ → Walked → Type 0
-RightWalks kinds ends ends_after classes classes_after k middle left Broken = (f : Formula) → Spelled kinds middle f → ⊥
-RightWalks kinds ends ends_after classes classes_after k middle left (Node end class) =
-    RightTraversed kinds ends ends_after classes classes_after k middle left end class
+abbrev pub RightWalks : List ℕ → List ℕ → List ℕ → List ℕ → List ℕ → ℕ → Walked → Option Walked → Type 0
+RightWalks kinds ends ends_after classes classes_after k left None = (f : Formula) → Spelled kinds left.end f → ⊥
+RightWalks kinds ends ends_after classes classes_after k left (Some w) = RightTraversed kinds ends ends_after classes classes_after k left w

@@ -1,15 +1,14 @@
 -- What the readers of a keyword's parts hand each other: each part is read in a state, behind the text that came before it.
-use Rattle.std.specs.Prelude.{◌≡◌, List, [], ◌∷◌, ℕ, ◌+◌, length, drop, get_or}
+use Rattle.std.specs.Prelude.{◌≡◌, true, false, List, ◌∷◌, ℕ, ◌+◌, length, drop, get_or, Option, None, Some, Result, Ok, Err}
 use Rattle.actl.specs.Grammar as grammar
 use Rattle.actl.specs.inner.Show.{gap, show_s, show_q, show_l, show_h}
 use Rattle.actl.specs.Grammar.{Head, existential, universal}
 use Rattle.actl.specs.inner.Reader.{InTerm, t_modal, o_first, s_until, s_labelled, State, term_at, operand_at, after_set}
 use Rattle.actl.specs.inner.Reader.{after_first, after_labelled, after_next, after_until, bracket_at}
 use Rattle.actl.specs.inner.Mentions.{names_h}
-use Rattle.actl.specs.Prepared.{Slot, slot}
+use Rattle.actl.specs.Prepared.{Slot}
 use Rattle.actl.specs.inner.Cursor.{peek, Moves, Fails, Keyword}
 use Rattle.actl.specs.inner.Readers.{unknown_in, earlier, head_slots, SetRead}
-use Rattle.formulas.specs.inner.Access.{slot_of_node}
 use Rattle.formulas.specs.declared.node.Condition.{Condition}
 use Rattle.formulas.specs.declared.node.Node.{Node}
 use Rattle.formulas.specs.declared.node.Node.TheVariants.{Ex, Ax}
@@ -18,10 +17,8 @@ use Rattle.formula_heads.specs.declared.Quantifier.{Quantifier}
 use Rattle.formula_heads.specs.declared.Quantifier.TheVariants.{Existential, Universal}
 use Rattle.formula_heads.specs.declared.Keyword as word
 use Rattle.formula_heads.specs.declared.Keyword.TheVariants.{Next, Until, Labelled}
-use Rattle.formula_heads.specs.declared.Choice.{Choice}
-use Rattle.formula_heads.specs.declared.Choice.TheVariants.{Past, Missing}
 use Rattle.formula_heads.specs.declared.Heading.{Heading}
-use Rattle.formula_heads.specs.declared.Heading.TheVariants as heading
+use Rattle.formula_heads.specs.inner.HeadReplies.{slots_of}
 
 abbrev pub quantifier_in : Quantifier → grammar.Quantifier
 quantifier_in Existential = existential
@@ -34,8 +31,8 @@ node_over Universal x = Ax x
 
 -- A node, between two `~` where every path or step is meant.
 abbrev pub dual_of : Quantifier → Cursor → Node → ℕ → Heading
-dual_of Existential c node l = heading.Read c node l
-dual_of Universal c node l = heading.Dual c node l
+dual_of Existential c n l = record { end = c; node = n; dual = false; lost = l }
+dual_of Universal c n l = record { end = c; node = n; dual = true; lost = l }
 
 -- The keyword of a pair.
 abbrev pub word_of : Quantifier → List ℕ → List ℕ → List ℕ
@@ -49,9 +46,9 @@ NoWord s at w = peek s at ≡ get_or w 0 0 → peek s (at + 1) ≡ get_or w 1 0 
 abbrev pub Word : List ℕ → ℕ → List ℕ → ℕ → Type 0
 Word s at w to = Keyword s at (get_or w 0 0) (get_or w 1 0) to
 
-abbrev pub ChoiceAnswer : List ℕ → ℕ → List ℕ → List ℕ → Choice → Type 0
-ChoiceAnswer s at some every (Past q c) = Word s at (word_of q some every) c.at
-ChoiceAnswer s at some every Missing = NoWord s at some × NoWord s at every
+abbrev pub ChoiceAnswer : List ℕ → ℕ → List ℕ → List ℕ → Option (Quantifier × Cursor) → Type 0
+ChoiceAnswer s at some every (Some x) = Word s at (word_of x.0 some every) x.1.at
+ChoiceAnswer s at some every None = NoWord s at some × NoWord s at every
 
 -- A place at which no EF or AG stands.
 pub record NoShort (s : List ℕ) (at : ℕ) : Type 0 where
@@ -68,10 +65,9 @@ pub record RestRead (N : List (List ℕ)) (s : List ℕ) (x : InTerm → State) 
   pub means : head_slots N value ≡ slots
   pub lacks : left ≡ earlier lost (unknown_in N (length s) (names_h value (drop to s)))
 
-abbrev pub RestAnswer : List (List ℕ) → List ℕ → (InTerm → State) → (List ℕ → List ℕ) → ℕ → ℕ → Heading → Type 0
-RestAnswer N s x before at lost (heading.Read c node l) = RestRead N s x before at lost c.at (slot_of_node node ∷ []) l
-RestAnswer N s x before at lost (heading.Dual c node l) = RestRead N s x before at lost c.at (slot 2 0 0 ∷ slot_of_node node ∷ slot 2 0 0 ∷ []) l
-RestAnswer N s x before at lost (heading.Refused c) = Fails s at c.at x
+abbrev pub RestAnswer : List (List ℕ) → List ℕ → (InTerm → State) → (List ℕ → List ℕ) → ℕ → ℕ → Result Heading Cursor → Type 0
+RestAnswer N s x before at lost (Ok h) = RestRead N s x before at lost h.end.at (slots_of h) h.lost
+RestAnswer N s x before at lost (Err c) = Fails s at c.at x
 
 -- Behind a keyword and so many blanks.
 abbrev pub behind_word : word.Keyword → ℕ → InTerm → State
@@ -93,20 +89,20 @@ in_bracket (Labelled q) a b k = operand_at (o_first (s_labelled (quantifier_in q
 abbrev pub shown_bracket : word.Keyword → ℕ → ℕ → List ℕ → List ℕ
 shown_bracket w a b r = shown_word w (gap a (91 ∷ gap b r))
 
-abbrev pub ContentsAnswer : word.Keyword → List (List ℕ) → List ℕ → ℕ → ℕ → Heading → Type 0
+abbrev pub ContentsAnswer : word.Keyword → List (List ℕ) → List ℕ → ℕ → ℕ → Result Heading Cursor → Type 0
 ContentsAnswer w N s at lost r = (a b : ℕ) → RestAnswer N s (in_bracket w a b) (shown_bracket w a b) at lost r
 
-abbrev pub NextAnswer : List (List ℕ) → List ℕ → Quantifier → ℕ → ℕ → Heading → Type 0
+abbrev pub NextAnswer : List (List ℕ) → List ℕ → Quantifier → ℕ → ℕ → Result Heading Cursor → Type 0
 NextAnswer N s q at lost r = ContentsAnswer (Next q) N s at lost r
 
-abbrev pub UntilAnswer : List (List ℕ) → List ℕ → ℕ → ℕ → Heading → Type 0
+abbrev pub UntilAnswer : List (List ℕ) → List ℕ → ℕ → ℕ → Result Heading Cursor → Type 0
 UntilAnswer N s at lost r = ContentsAnswer Until N s at lost r
 
-abbrev pub LabelledAnswer : List (List ℕ) → List ℕ → Quantifier → ℕ → ℕ → Heading → Type 0
+abbrev pub LabelledAnswer : List (List ℕ) → List ℕ → Quantifier → ℕ → ℕ → Result Heading Cursor → Type 0
 LabelledAnswer N s q at lost r = ContentsAnswer (Labelled q) N s at lost r
 
 -- Behind the first set of EU, whatever it is.
-abbrev pub FirstSetAnswer : List (List ℕ) → List ℕ → ℕ → ℕ → ℕ → Heading → Type 0
+abbrev pub FirstSetAnswer : List (List ℕ) → List ℕ → ℕ → ℕ → ℕ → Result Heading Cursor → Type 0
 FirstSetAnswer N s at mask left r =
     (a b from lost : ℕ) (x : SetRead N s from lost at mask left)
     → RestAnswer N s (λ k. after_set x.value (s_until a k b) x.blanks)
@@ -117,5 +113,5 @@ abbrev pub first : grammar.Quantifier → ℕ
 first existential = 68
 first universal = 66
 
-abbrev pub LettersAnswer : List (List ℕ) → List ℕ → Quantifier → ℕ → ℕ → Heading → Type 0
+abbrev pub LettersAnswer : List (List ℕ) → List ℕ → Quantifier → ℕ → ℕ → Result Heading Cursor → Type 0
 LettersAnswer N s q at lost r = RestAnswer N s (after_first (quantifier_in q)) (λ t. first (quantifier_in q) ∷ t) at lost r

@@ -13,35 +13,30 @@ use Rattle.formula_sets.proofs.directed_labels.Goals as goal
 pub loop-k-init : goal.loop-k-init
 loop-k-init c =
     let a = c.args in
-    (omega arith, mask-none_yet (label_direction (names_in a.table.now)) (Action.directed (direction_in a.wanted)))
+    mask-none_yet (label_direction (names_in a.table.now)) (Action.directed (direction_in a.wanted))
 
-pub directed_bit-mask-requires : goal.directed_bit-mask-requires
-directed_bit-mask-requires c =
-    (c.requires, omega (arith, c.label_count-count.ensures.count, c.loop-k-test.true))
+-- The mask with the next label's bit.
+mask-next : (c : goal.After-directed_bit-mask) → c.loop-k.mask + c.directed_bit-mask.result
+    ≡ mask_of (label_direction (names_in c.args.table.now)) (suc c.loop-k.k) (Action.directed (direction_in c.args.wanted))
+mask-next c =
+    ap₂ ◌+◌ c.loop-k.invariant c.directed_bit-mask.ensures
+    ∙ mask-more (label_direction (names_in c.args.table.now)) c.loop-k.k (Action.directed (direction_in c.args.wanted))
 
 pub overflow_add-mask : goal.overflow_add-mask
 overflow_add-mask c =
     let directions : ℕ → Direction = label_direction (names_in c.args.table.now) in
     let wanted : Action = Action.directed (direction_in c.args.wanted) in
-    let mask-so-far : c.loop-k.mask + c.directed_bit-mask.result ≡ mask_of directions (suc c.loop-k.k) wanted =
-    ap₂ ◌+◌ c.loop-k.invariant.1 c.directed_bit-mask.ensures ∙ mask-more directions c.loop-k.k wanted in
     let count = c.label_count-count.ensures.count in
-    let few = c.requires.in_range.few_labels in
-    let small = mask-small (directions) (suc c.loop-k.k) (wanted) (omega (arith, count, c.loop-k-test.true, few)) in
-    record { fits = omega (arith, mask-so-far, small) }
+    let small = mask-small directions (suc c.loop-k.k) wanted (omega (arith, count, c.requires.in_range.few_labels)) in
+    record { fits = omega (arith, mask-next c, small) }
 
 pub loop-k-preserved : goal.loop-k-preserved
 loop-k-preserved c =
-    let directions : ℕ → Direction = label_direction (names_in c.args.table.now) in
-    let wanted : Action = Action.directed (direction_in c.args.wanted) in
-    let mask-so-far : c.loop-k.mask + c.directed_bit-mask.result ≡ mask_of directions (suc c.loop-k.k) wanted =
-    ap₂ ◌+◌ c.loop-k.invariant.1 c.directed_bit-mask.ensures ∙ mask-more directions c.loop-k.k wanted in
     let next : suc c.loop-k.k ≡ c.loop-k.k + 1 = omega arith in
-    (omega (arith, c.loop-k-test.true), mask-so-far ∙ ap (λ n. mask_of (directions) n (wanted)) next)
+    mask-next c ∙ ap (λ n. mask_of (label_direction (names_in c.args.table.now)) n (Action.directed (direction_in c.args.wanted))) next
 
 pub returns : goal.returns
 returns c =
     let a = c.args in
-    let l = c.loop-k in
-    let all : l.k ≡ length (names_in a.table.now) = omega (arith, l.invariant.0, c.loop-k-test.false, c.label_count-count.ensures.count) in
-    l.invariant.1 ∙ ap (λ n. mask_of (label_direction (names_in a.table.now)) n (Action.directed (direction_in a.wanted))) all
+    let all : c.loop-k.k ≡ length (names_in a.table.now) = omega (arith, c.label_count-count.ensures.count) in
+    c.loop-k.invariant ∙ ap (λ n. mask_of (label_direction (names_in a.table.now)) n (Action.directed (direction_in a.wanted))) all

@@ -5,4 +5,4 @@ use Rattle.formula_sets.proofs.enclosed.Goals as goal
 pub returns : goal.returns
 returns c =
     let a = c.args in
-    c.closed.ensures (names_in a.table.now) a.c.at a.lost c.set.ensures
+    c.closed.ensures (names_in a.source.now.table.now) a.c.at a.lost c.in_ok-set.ensures

@@ -11,7 +11,7 @@ returns-then-used c =
     let a = c.args in
     c.within.ensures ∙ sym (ap (λ t. (t || eqb a.set 0) && mask_within a.labels a.set) c.if-used.true)
 
-pub returns : goal.returns
-returns c =
+pub returns-else-used : goal.returns-else-used
+returns-else-used c =
     let a = c.args in
     unused_fits a.labels a.set ∙ sym (ap (λ t. (t || eqb a.set 0) && mask_within a.labels a.set) c.if-used.false)

@@ -1,5 +1,5 @@
 -- `slots_fit` meets its contract: every slot so far fits.
-use Prim.Native.Nat.{◌-◌, ◌≤◌}
+use Prim.Native.Nat.{◌≤◌}
 use Rattle.actl.specs.inner.Prepared.{slot_at}
 use Rattle.actl.specs.inner.Check.{slot_fits}
 use Rattle.actl.proofs.Laws.Lists.{Passed}
@@ -7,6 +7,3 @@ use Rattle.formula_slots.proofs.slots_fit.Given as goal
 
 abbrev pub invariant-loop-k : goal.invariant-loop-k
 invariant-loop-k l = (l.k ≤ l.count) × Passed (λ i. slot_fits l.labels (slot_at l.formula i)) 0 l.k
-
-abbrev pub decreases-loop-k : goal.decreases-loop-k
-decreases-loop-k l = l.count - l.k

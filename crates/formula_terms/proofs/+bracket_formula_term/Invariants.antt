@@ -6,17 +6,17 @@ use Rattle.formula_terms.proofs.ReadingChains.{Awaiting}
 use Rattle.formula_terms.proofs.+bracket_formula_term.Given as goal
 
 abbrev pub decreases-term : goal.decreases-term
-decreases-term l = unread 3 0 l.text.now l.c.at
+decreases-term l = unread 3 0 l.source.now.text.now l.c.at
 
 abbrev pub decreases-formula : goal.decreases-formula
-decreases-formula l = unread 3 1 l.text.now l.c.at
+decreases-formula l = unread 3 1 l.source.now.text.now l.c.at
 
 abbrev pub decreases-bracket : goal.decreases-bracket
-decreases-bracket l = unread 3 2 l.text.now l.c.at
+decreases-bracket l = unread 3 2 l.source.now.text.now l.c.at
 
 -- What the turns so far have read, which awaits a term.
-abbrev pub invariant-formula-loop-e : goal.invariant-formula-loop-e
-invariant-formula-loop-e l = Awaiting (names_in l.table) l.text l.initial.d.at l.n l.fn.lost l.initial.nodes l.d.at l.start l.k l.lacks l.nodes
+abbrev pub invariant-formula-loop-x : goal.invariant-formula-loop-x
+invariant-formula-loop-x l = Awaiting (names_in l.source.table.now) l.source.text.now l.initial.d.at l.n l.fn.lost l.initial.nodes l.d.at l.start l.k l.lacks l.nodes
 
-abbrev pub decreases-formula-loop-e : goal.decreases-formula-loop-e
-decreases-formula-loop-e l = length l.text - l.d.at
+abbrev pub decreases-formula-loop-x : goal.decreases-formula-loop-x
+decreases-formula-loop-x l = length l.source.text.now - l.d.at

@@ -1,27 +1,19 @@
 -- `at_atom` looks for the two marks in turn.
-use mathlib.Core.Path.{◌≡◌, subst}
-use mathlib.Core.Logic.{inl, inr}
-use mathlib.Core.List.{List}
-use Prim.Native.Nat.{ℕ}
-use Rattle.actl.specs.inner.Cursor.{peek}
-use Rattle.formula_cursor.specs.inner.CursorReplies.{MarkAnswer}
-use Rattle.formula_terms.proofs.ReadingTerms.{atom-there, no-atom-there}
+use mathlib.Core.Path.{sym, ◌∙◌}
+use mathlib.Core.Logic.{inl}
+use Rattle.formula_terms.proofs.ReadingTerms.{marked-where, unmarked-where, atom-there, atom_last}
 use Rattle.formula_terms.proofs.at_atom.Goals as goal
 
-pub returns-in-Past : goal.returns-in-Past
-returns-in-Past c =
+pub returns-then-is_some : goal.returns-then-is_some
+returns-then-is_some c =
     let a = c.args in
-    atom-there a.text.now a.c.at (inl (subst (MarkAnswer a.text.now a.c.at 84) c.in-Past.is c.mark.ensures).here)
+    let m = marked-where a.text.now a.c.at 84 c.mark.result c.mark.ensures (sym c.is_some.ensures ∙ c.if-is_some.true) in
+    rw c.if-is_some.true (atom-there a.text.now a.c.at (inl m.1.here))
 
-pub returns-in-Past-mark : goal.returns-in-Past-mark
-returns-in-Past-mark c =
-    let text : List ℕ = c.args.text.now in
-    let at = c.args.c.at in
-    atom-there (text) at (inr (subst (MarkAnswer (text) at 40) c.in-Past-mark.is c.mark-2.ensures).here)
-
-pub returns : goal.returns
-returns c =
-    let text : List ℕ = c.args.text.now in
-    let no_true : peek text c.args.c.at ≡ 84 → ⊥ = subst (MarkAnswer text c.args.c.at 84) c.in_default.is c.mark.ensures in
-    let at = c.args.c.at in
-    no-atom-there (text) at (no_true) (subst (MarkAnswer (text) at 40) c.in_default-mark.is c.mark-2.ensures)
+pub returns-else-is_some : goal.returns-else-is_some
+returns-else-is_some c =
+    let a = c.args in
+    let no_true = unmarked-where a.text.now a.c.at 84 c.mark.result c.mark.ensures (sym c.is_some.ensures ∙ c.if-is_some.false) in
+    let m = c.mark-else-is_some in
+    let b = c.is_some-else-is_some in
+    atom_last a.text.now a.c.at m.result m.ensures b.result b.ensures no_true

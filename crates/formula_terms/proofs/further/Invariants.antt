@@ -5,8 +5,8 @@ use Rattle.actl.specs.inner.Readers.{names_in}
 use Rattle.formula_terms.specs.inner.Prefixes.{PrefixesPassed}
 use Rattle.formula_terms.proofs.further.Given as goal
 
-abbrev pub invariant-loop-d : goal.invariant-loop-d
-invariant-loop-d l = PrefixesPassed (names_in l.table) l.text l.initial.d.at l.n l.lost l.initial.nodes l.d.at l.k l.lacks l.nodes
+abbrev pub invariant-loop-nodes : goal.invariant-loop-nodes
+invariant-loop-nodes l = PrefixesPassed (names_in l.source.table.now) l.source.text.now l.initial.x.end.at l.n l.lost l.initial.nodes l.x.end.at l.x.count l.x.lost l.nodes
 
-abbrev pub decreases-loop-d : goal.decreases-loop-d
-decreases-loop-d l = length l.text - l.d.at
+abbrev pub decreases-loop-nodes : goal.decreases-loop-nodes
+decreases-loop-nodes l = length l.source.text.now - l.x.end.at

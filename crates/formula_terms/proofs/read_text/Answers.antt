@@ -1,40 +1,26 @@
 -- `read_text` reads a whole text, or refuses it at the place where the reader does.
-use mathlib.Core.Path.{subst}
-use mathlib.Core.List.{List}
-use Prim.Native.Nat.{ℕ}
+use mathlib.Core.Path.{sym, ◌∙◌}
 use native.Mathlib.Omega.{arith}
-use Rattle.formula_cursor.specs.inner.CursorReplies.{MarkAnswer}
-use Rattle.actl.specs.inner.Readers.{names_in}
-use Rattle.formula_terms.specs.inner.TermReplies.{FormulaAnswer}
-use Rattle.formula_terms.specs.declared.Chain.{Chain}
 use Rattle.formula_cursor.proofs.ReadingTexts.{text_blank, text-token, text_fails, text-whole, text-rest}
+use Rattle.formula_terms.proofs.ReadingTerms.{marked-where, unmarked-where}
 use Rattle.formula_terms.proofs.read_text.Goals as goal
 
-pub returns-in-Past : goal.returns-in-Past
-returns-in-Past c =
+pub returns-then-is_some : goal.returns-then-is_some
+returns-then-is_some c =
     let s = c.args.text.now in
-    text_blank s (subst (MarkAnswer s 0 32) c.in-Past.is c.mark.ensures)
+    text_blank s (marked-where s 0 32 c.mark.result c.mark.ensures (sym c.is_some.ensures ∙ c.if-is_some.true)).1
 
-pub formula-x-requires : goal.formula-x-requires
-formula-x-requires c =
+pub formula-requires : goal.formula-requires
+formula-requires c =
     let s = c.args.text.now in
-    let token = text-token s (subst (MarkAnswer s 0 32) c.in_default.is c.mark.ensures) in
+    let token = text-token s (unmarked-where s 0 32 c.mark.result c.mark.ensures (sym c.is_some.ensures ∙ c.if-is_some.false)) in
     (record { table = c.requires.0; short = c.requires.1; token = token }, record { below = omega arith; long = c.requires.2 })
 
-pub returns-in-Refused : goal.returns-in-Refused
-returns-in-Refused c =
-    let text : List ℕ = c.args.text.now in
-    let Said : Chain → Type 0 = FormulaAnswer (names_in c.args.table.now) text 0 0 0 c.args.nodes.now c.formula-x.new.nodes in
-    text_fails (text) (subst (Said) c.in-Refused.is c.formula-x.ensures)
+pub returns-in-Err : goal.returns-in-Err
+returns-in-Err c = text_fails c.args.text.now c.in-Err.ensures
 
-pub returns-then-e-text : goal.returns-then-e-text
-returns-then-e-text c =
-    let text : List ℕ = c.args.text.now in
-    let Said : Chain → Type 0 = FormulaAnswer (names_in c.args.table.now) text 0 0 0 c.args.nodes.now c.formula-x.new.nodes in
-    text-whole (subst (Said) c.in-Read.is c.formula-x.ensures) c.if-e-text.true
+pub returns-then-x-text : goal.returns-then-x-text
+returns-then-x-text c = text-whole c.in-Ok.ensures c.if-x-text.true
 
-pub returns-else-e-text : goal.returns-else-e-text
-returns-else-e-text c =
-    let text : List ℕ = c.args.text.now in
-    let Said : Chain → Type 0 = FormulaAnswer (names_in c.args.table.now) text 0 0 0 c.args.nodes.now c.formula-x.new.nodes in
-    text-rest (subst (Said) c.in-Read.is c.formula-x.ensures) c.if-e-text.false
+pub returns-else-x-text : goal.returns-else-x-text
+returns-else-x-text c = text-rest c.in-Ok.ensures c.if-x-text.false

@@ -10,13 +10,14 @@ use Rattle.actl.specs.ByGrammar.{FormulaByGrammar}
 use Rattle.actl.proofs.Laws.ByGrammar.{formula_by_grammar}
 use Rattle.formula_text.specs.Replies.{formula_reply}
 use Rattle.formula_text.specs.inner.FormulaAnswers.{FormulaAnswered}
-use Rattle.formula_text.specs.declared.FormulaReply.{FormulaReply}
+use Rattle.formula_text.specs.declared.FormulaRefusal.{FormulaRefusal}
+use Rattle.std.proofs.Common.{Result}
 use Rattle.formula_text.proofs.ReadingEntry.{short-table, short-formula, foreign_table, on-prepared}
 use Rattle.lts.proofs.Laws.Prepared.{found-holds}
 use Rattle.formula_text.proofs.read_formula.Goals as goal
 
 -- The reply and the bytes, by the definitions and by the grammar.
-both : {b s e : List ℕ} {r : FormulaReply} {x : List ℕ} → FormulaAnswered (formula_reading b s e) e r x
+both : {b s e : List ℕ} {r : Result (Unit {0}) FormulaRefusal} {x : List ℕ} → FormulaAnswered (formula_reading b s e) e r x
     → (formula_reply r ≡ formula_replied b s e) × ((x ≡ formula_left b s e) × FormulaByGrammar b s e (formula_reply r) x)
 both {b} {s} {e} h = (h.replies, (h.leaves, formula_by_grammar b s e h.replies h.leaves))
 

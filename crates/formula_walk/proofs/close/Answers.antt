@@ -1,9 +1,8 @@
 -- `close` writes what is pending, byte by byte, up to a `|`.
-use borrow.Author.Rules.{rules}
-use mathlib.Core.Path.{◌∙◌}
+use mathlib.Core.Path.{refl, ◌∙◌}
 use native.Mathlib.Omega.{arith}
 use Rattle.formula_pieces.proofs.Laws.Adds.{room_after}
-use Rattle.formula_walk.proofs.Laws.Closing.{Closing, closing-start, closing-more, closing_bar, closing_end}
+use Rattle.formula_walk.proofs.Laws.Closing.{closing-start, closing-more, closing_bar, closing_end}
 use Rattle.formula_walk.proofs.close.Goals as goal
 
 pub loop-left-init : goal.loop-left-init
@@ -27,7 +26,7 @@ shape_of-out-then-b-eq124 c =
 
 pub returns-then-b-eq124 : goal.returns-then-b-eq124
 returns-then-b-eq124 c =
-    closing_bar _ _ _ _ c.loop-left.invariant c.loop-left-test.true c.put-end.ensures c.if-b-eq124.true c.place_at.result c.place_at.ensures
+    closing_bar _ _ _ _ c.loop-left.invariant c.loop-left-test.true c.put-end.ensures c.if-b-eq124.true _ (refl, refl, refl)
 
 pub loop-left-preserved : goal.loop-left-preserved
 loop-left-preserved c =
@@ -39,4 +38,4 @@ shape_of-out c =
 
 pub returns : goal.returns
 returns c =
-    closing_end _ _ _ _ c.loop-left.invariant (omega (arith, c.loop-left-test.false)) c.place_at-2.result c.place_at-2.ensures
+    closing_end _ _ _ _ c.loop-left.invariant (omega (arith, c.loop-left-test.false)) _ (refl, omega arith, refl)

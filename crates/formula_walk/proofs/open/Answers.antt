@@ -1,5 +1,5 @@
 -- `open` makes a `|` pending, and where it is an arm also a `)`, behind a `(`.
-use borrow.Author.Rules.{rules}
+use mathlib.Core.Path.{refl}
 use native.Mathlib.Omega.{arith}
 use lib.ListN.{length-set}
 use Rattle.formula_walk.proofs.Laws.Opening.{opened_arm, opened_left}
@@ -12,10 +12,9 @@ bounds-pending-top-then-arm c =
 pub returns-then-arm : goal.returns-then-arm
 returns-then-arm c =
     let a = c.args in
-    opened_arm a.arm a.pending.now a.top a.at a.out.now c.requires.0 c.if-arm.true c.put.ensures
-    c.place_at.result c.place_at.ensures
+    opened_arm a.arm a.pending.now a.top a.at a.out.now c.requires.0 c.if-arm.true c.put.ensures _ (refl, refl, refl)
 
 pub returns : goal.returns
 returns c =
     let a = c.args in
-    opened_left a.arm a.pending.now a.top a.at a.out.now c.requires.0 c.if-arm.false c.place_at-2.result c.place_at-2.ensures
+    opened_left a.arm a.pending.now a.top a.at a.out.now c.requires.0 c.if-arm.false _ (refl, refl, refl)

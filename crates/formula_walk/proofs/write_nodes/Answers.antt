@@ -2,7 +2,7 @@
 use mathlib.Core.Path.{◌≡◌, sym, ap, ◌∙◌}
 use mathlib.Core.Bool.{true}
 use mathlib.Core.List.{List}
-use Prim.Native.Nat.{ℕ, ◌-◌, ◌≤◌, ◌<◌}
+use Prim.Native.Nat.{ℕ, ◌≤◌, ◌<◌}
 use native.Mathlib.Omega.{arith}
 use lib.ListN.{get_or}
 use Rattle.lts.specs.Steps.{labels}
@@ -17,7 +17,7 @@ use Rattle.actl.proofs.Laws.Prepared.{prepared-of, prepared-count, prepared-slot
 use Rattle.actl.proofs.Nodes.{length-nodes}
 use Rattle.lts.proofs.Lists.{get_d_mem}
 use Rattle.formulas.specs.inner.Access.{slot_of_node}
-use Rattle.formula_walk.proofs.Laws.Writing.{Writing, Short, writing_start, writing_more, writing_end}
+use Rattle.formula_walk.proofs.Laws.Writing.{Short, writing_start, writing_more, writing_end}
 use Rattle.formula_walk.proofs.write_nodes.Goals as goal
 
 pub node_count-count-requires : goal.node_count-count-requires

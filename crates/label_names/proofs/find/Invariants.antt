@@ -5,6 +5,3 @@ use Rattle.label_names.proofs.find.Given as goal
 
 abbrev pub invariant-loop-k : goal.invariant-loop-k
 invariant-loop-k l = SoughtFrom l.slots l.count l.name l.k
-
-abbrev pub decreases-loop-k : goal.decreases-loop-k
-decreases-loop-k l = l.count - l.k

@@ -21,4 +21,4 @@ returns c =
     let among = get_d_mem (table_in b).names k [] few in
     let named : is_name (name_at b k) ≡ true = ap is_name (sym here) ∙ c.requires.0.in_range.named (get_or (table_in b).names k []) among in
     let part = c.name_span-span.ensures.name in
-    c.read_name-name.ensures.1 ∙ (ap (λ l. name_direction l 0) part ∙ (whole_direction (name_at b k) named ∙ ap direction_of (sym here)))
+    c.read_name.ensures.1 ∙ (ap (λ l. name_direction l 0) part ∙ (whole_direction (name_at b k) named ∙ ap direction_of (sym here)))

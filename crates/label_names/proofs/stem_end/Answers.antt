@@ -1,5 +1,5 @@
 -- `stem_end` answers `stem_end`: the invariant is `StemSoFar`, what is left of the run.
-use mathlib.Core.Path.{sym, ◌∙◌}
+use mathlib.Core.Path.{◌≡◌, sym, ap, ◌∙◌}
 use Prim.Native.Nat.{◌+◌}
 use native.Mathlib.Omega.{arith}
 use Rattle.lts.proofs.Laws.Stems.{no_text, no_letter, run-starts, run-at-end, run-stops, run_goes_on, run-full}
@@ -8,10 +8,6 @@ use Rattle.label_names.proofs.stem_end.Goals as goal
 pub returns-then-text-from : goal.returns-then-text-from
 returns-then-text-from c =
     no_text c.args.text.now c.args.from c.if-text-from.true
-
-pub overflow_cast-text : goal.overflow_cast-text
-overflow_cast-text c =
-    record { fits = omega (arith, (c.type_inv.text c.args.from).fits) }
 
 pub returns-then-not-is_lower : goal.returns-then-not-is_lower
 returns-then-not-is_lower c =
@@ -25,10 +21,6 @@ pub returns-then-text-to : goal.returns-then-text-to
 returns-then-text-to c =
     let l = c.loop-n in
     run-at-end c.args.text.now c.args.from l.n l.invariant c.if-text-to.true
-
-pub overflow_cast-text-in-loop-n : goal.overflow_cast-text-in-loop-n
-overflow_cast-text-in-loop-n c =
-    record { fits = omega (arith, (c.type_inv.text (c.args.from + c.loop-n.n)).fits) }
 
 pub returns-then-not-is_name_byte : goal.returns-then-not-is_name_byte
 returns-then-not-is_name_byte c =
@@ -49,4 +41,5 @@ overflow_add-result c =
 pub returns : goal.returns
 returns c =
     let l = c.loop-n in
-    run-full c.args.text.now c.args.from l.n l.invariant c.loop-n-test.false
+    let whole : l.n ≡ 12 = omega (arith, l.invariant.few, c.loop-n-test.false) in
+    ap (λ n. c.args.from + n) (sym whole) ∙ run-full c.args.text.now c.args.from l.n l.invariant c.loop-n-test.false

@@ -6,10 +6,10 @@ use Rattle.lts.specs.Directions as directions
 use Rattle.lts.specs.inner.Prepared.{byte_at, name_at}
 use Rattle.label_names.specs.declared.Direction.{Direction}
 use Rattle.label_names.specs.declared.Direction.TheVariants.{Neither, Received, Sent}
-use Rattle.label_names.specs.declared.NameSpan.{NameSpan}
+use Rattle.lts.specs.declared.spans.Span.{Span}
 
 -- The bytes of the name in slot k: where they start, how many there are, and which they are.
-pub record NameStands (b : List ℕ) (k : ℕ) (r : NameSpan) : Type 0 where
+pub record NameStands (b : List ℕ) (k : ℕ) (r : Span) : Type 0 where
   pub starts : r.from ≡ head_length + 1 + k * name_slot_length
   pub ends : r.to ≡ r.from + byte_at b (head_length + k * name_slot_length)
   pub short : byte_at b (head_length + k * name_slot_length) < 256

@@ -22,7 +22,9 @@ use Rattle.formulas.proofs.NodeSlots.{node_in, node_in_slot}
 use Rattle.actl.proofs.Laws.Prepared.{prepared-few, prepared-count}
 use Rattle.actl.proofs.Subformulas.{node_at_lem, at-node, at_lt}
 use Rattle.satisfaction.specs.inner.Holds.{within, enters, holds}
-use Rattle.until_search.specs.inner.Flags.{flag_at, node_holds, Flags}
+use Rattle.lts.specs.inner.Steps.{steps_from}
+use Rattle.table_steps.specs.inner.StepArray.{steps_in, StepsOf}
+use Rattle.until_search.specs.inner.Flags.{flag_at, at_once, node_holds, Flags}
 use Rattle.labelling.specs.inner.Nodes.{RowPut, LabelledFrom, RowsFrom, NodeRow}
 use Rattle.labelling.specs.inner.Rows.{row_at, RowOf}
 use Rattle.until_search.proofs.Laws.Flags.{flags_same}
@@ -119,3 +121,17 @@ until_flags t r m g goal flags d w = record {
   places = w.places;
   flag = λ s h. w.flag s h ∙ within_agree t r (flag_at goal) g d.flag m (length t.transitions) s h;
 }
+
+-- What holds at once, from the steps in the arrays, is what holds at once in the table.
+pub flags_at_once : (t : Table) → InRange t → {steps firsts : List ℕ} → StepsOf t steps firsts → {n : ℕ} → n ≡ t.states → (node : Node) (p q : ℕ → Bool) {row : List Bool}
+    → Flags n (λ s. at_once node p q s (steps_in steps firsts s)) row → Flags t.states (λ s. at_once node p q s (steps_from t s)) row
+flags_at_once t r {steps} {firsts} o e node p q {row} d =
+    flags_same (λ s h. ap (at_once node p q s) (o.leaving s (omega (arith, r.few_states))))
+    (subst (λ n. Flags n (λ s. at_once node p q s (steps_in steps firsts s)) row) e d)
+
+-- The flags of a node from those at once, for the node that it is.
+pub of_kind : (t : Table) (p q : ℕ → Bool) {node n : Node} {row row' : List Bool} → node ≡ n
+    → (Flags t.states (λ s. at_once n p q s (steps_from t s)) row → Flags t.states (node_holds t n p q) row')
+    → Flags t.states (λ s. at_once node p q s (steps_from t s)) row → Flags t.states (node_holds t node p q) row'
+of_kind t p q {row = row} {row' = row'} e wanted d =
+    subst (λ n. Flags t.states (node_holds t n p q) row') (sym e) (wanted (subst (λ n. Flags t.states (λ s. at_once n p q s (steps_from t s)) row) e d))

@@ -1,17 +1,19 @@
 -- Stores at neighbouring places of a list, as one part put in place.
 use mathlib.Core.Path.{◌≡◌, refl, ◌∙◌}
+use mathlib.Core.Bool.{Bool, true, false}
 use mathlib.Core.List.{List, [], ◌∷◌, append_assoc}
 use Prim.Native.Nat.{ℕ, ◌+◌, ◌*◌, ◌≤◌}
 use native.Mathlib.Numerals.{add-one, add-two}
 use native.Mathlib.Omega.{arith}
 use lib.ListN.{length, set, take, drop}
 use lib.Seq.{sets, sets-eq}
+use Rattle.std.specs.Int.{from_bool}
 use Rattle.columns.specs.Bytes.{low_first}
 use Rattle.columns.specs.inner.Write.{pasted}
 use Rattle.columns.proofs.Laws.Pasting.{pasting_none, pasting_more, pasting_length}
 use Rattle.columns.proofs.Laws.Pasted.{set-pasted}
 use Rattle.automaton.specs.Listing.{Edge}
-use Rattle.automaton.specs.Bytes.{edge_length}
+use Rattle.automaton.specs.Bytes.{edge_length, bit_of}
 use Rattle.listing.specs.inner.Places.{put_edge}
 
 in_place : (out : List ℕ) (at : ℕ) (part : List ℕ) → at + length part ≤ length out → sets out at part ≡ pasted out at part
@@ -34,3 +36,8 @@ edge_in_place n e out {begun} {whole} room row target =
     let labelled = set-pasted begun (at + 2) e.label (omega (arith, pasting_length first)) in
     let second = pasting_more first (e.label ∷ []) (set begun (at + 2) e.label) (at + 3) labelled (omega arith) (omega arith) in
     (pasting_more second (low_first 2 e.target) whole (at + 5) target (omega arith) (omega arith)).is
+
+-- A mark as a number.
+pub bit_of_bool : (b : Bool) → from_bool b ≡ bit_of b
+bit_of_bool true = refl
+bit_of_bool false = refl

@@ -8,7 +8,7 @@ use lib.ListN.{length-set}
 use Rattle.automaton.specs.Bytes.{row_length}
 use Rattle.columns.specs.inner.Write.{pasted}
 use Rattle.listing.specs.inner.Places.{put_row}
-use Rattle.listing.proofs.Laws.Stores.{three_stores}
+use Rattle.listing.proofs.Laws.Stores.{bit_of_bool, three_stores}
 use Rattle.listing.proofs.put_row.Goals as goal
 
 pub bounds-out-at-2 : goal.bounds-out-at-2
@@ -28,4 +28,4 @@ unfolding put_row
 returns c =
     let a = c.args in
     three_stores _ _ _ _ _ c.requires.row_length_in_bounds
-    ∙ ap (λ f. pasted a.out.now (a.n * row_length) (a.place ∷ a.state ∷ f ∷ [])) c.bit.ensures
+    ∙ ap (λ f. pasted a.out.now (a.n * row_length) (a.place ∷ a.state ∷ f ∷ [])) (c.from.ensures ∙ bit_of_bool c.args.is_final)

@@ -1,5 +1,4 @@
 -- `write_refusal` meets its contract: one line of two numbers.
-use borrow.Author.Rules.{rules}
 use mathlib.Core.Path.{◌∙◌}
 use native.Mathlib.Nat.{zero-add}
 use Rattle.explanations.specs.Printed.{refusal_line}

@@ -9,6 +9,3 @@ use Rattle.merging.proofs.first_like.Given as goal
 
 abbrev pub invariant-loop-j : goal.invariant-loop-j
 invariant-loop-j l = (i : ℕ) → get_or l.old l.k 0 ≤ i → i < l.j → IsBlock l.work l.marks l.old l.new l.many l.k i → ⊥
-
-abbrev pub decreases-loop-j : goal.decreases-loop-j
-decreases-loop-j l = l.k - l.j

@@ -9,6 +9,3 @@ use Rattle.merging.proofs.of_states.Given as goal
 
 abbrev pub invariant-loop-k : goal.invariant-loop-k
 invariant-loop-k l = (l.k ≤ most_sets) × (length l.blocks ≡ most_sets) × ((i : ℕ) → i < l.k → get_or l.blocks i 0 ≡ get_or l.names i 0)
-
-abbrev pub decreases-loop-k : goal.decreases-loop-k
-decreases-loop-k l = most_sets - l.k

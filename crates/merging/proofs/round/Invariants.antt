@@ -12,6 +12,3 @@ use Rattle.merging.proofs.round.Given as goal
 abbrev pub invariant-loop-k : goal.invariant-loop-k
 invariant-loop-k l = (l.k ≤ l.n) × Ended l.n l.new ×
     ((next : List ℕ) (columns : ℕ) → Sized next l.n columns → Packed next l.n columns l.work l.many → Going (array_table next l.marks l.n columns) l.old l.new l.k l.steady)
-
-abbrev pub decreases-loop-k : goal.decreases-loop-k
-decreases-loop-k l = l.n - l.k

@@ -39,11 +39,6 @@ returns-then-block_at c =
     let y = c.block_at-in-loop-i.ensures in
     decided_no (λ f. c.if-block_at.true (x ∙ (f c.loop-i.i c.loop-i-test.true ∙ sym y)))
 
-pub overflow_add-i : goal.overflow_add-i
-overflow_add-i c =
-    let p = c.requires in
-    omega (arith, p.1.0.few_columns)
-
 pub loop-i-preserved : goal.loop-i-preserved
 loop-i-preserved c =
     let a = c.args in

@@ -9,6 +9,3 @@ use Rattle.merging.proofs.same_targets.Given as goal
 
 abbrev pub invariant-loop-i : goal.invariant-loop-i
 invariant-loop-i l = (l.i ≤ l.many) × SameIn l.work l.old l.i l.j l.k
-
-abbrev pub decreases-loop-i : goal.decreases-loop-i
-decreases-loop-i l = l.many - l.i

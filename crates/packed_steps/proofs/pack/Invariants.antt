@@ -10,6 +10,3 @@ use Rattle.packed_steps.proofs.pack.Given as goal
 
 abbrev pub invariant-loop-c : goal.invariant-loop-c
 invariant-loop-c l = (l.c ≤ l.columns) × Packed l.next l.n l.c l.work l.many × (length l.work ≡ length l.initial.work) × (drop work_length l.work ≡ drop work_length l.initial.work)
-
-abbrev pub decreases-loop-c : goal.decreases-loop-c
-decreases-loop-c l = l.columns - l.c

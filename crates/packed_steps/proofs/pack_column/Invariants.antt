@@ -11,6 +11,3 @@ use Rattle.packed_steps.proofs.pack_column.Given as goal
 
 abbrev pub invariant-loop-k : goal.invariant-loop-k
 invariant-loop-k l = (l.k ≤ l.n) × ColumnTo l.next l.n l.c l.i l.k l.initial.work l.work × (l.some ≡ false → Nowhere l.next l.n l.c l.k)
-
-abbrev pub decreases-loop-k : goal.decreases-loop-k
-decreases-loop-k l = l.n - l.k

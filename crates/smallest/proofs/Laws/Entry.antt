@@ -7,6 +7,9 @@ use Prim.Native.Nat.{ℕ, ◌≤◌, ◌<◌}
 use native.Mathlib.Omega.{arith}
 use lib.ListN.{length, drop, replicate, length-replicate}
 use borrow.Author.Tests.{le-leb, lt-leb, ne_eqb}
+use Rattle.std.specs.Result.{IsErrAnd}
+use Rattle.std.proofs.Common.{Result, Err}
+use Rattle.std.proofs.lemmas.Result.{err_from_is_err_and}
 use Rattle.lts.specs.Sizes.{table_length}
 use Rattle.lts.specs.Reply.{Reply, accepted, refusal, left_in, answers}
 use Rattle.lts.specs.Steps.{labels}
@@ -18,8 +21,6 @@ use Rattle.actl.specs.FormulaReading.{on_prepared}
 use Rattle.actl.specs.inner.Prepared.{prepared_formula}
 use Rattle.actl.proofs.Laws.Foreign.{with_formula-numbers}
 use Rattle.formula_check.specs.Inputs.{unprepared, inputs_reply}
-use Rattle.formula_check.specs.declared.inputs.Inputs.{Inputs}
-use Rattle.formula_check.specs.declared.inputs.Inputs.TheVariants as inputs
 use Rattle.formula_check.specs.declared.inputs.Unprepared.{Unprepared}
 use Rattle.formula_check.specs.declared.inputs.Unprepared.TheVariants.{BufferShort}
 use Rattle.formula_check.proofs.Laws.Inputs.{checked, Both, both_long, goes_on, inputs_refused}
@@ -30,8 +31,9 @@ use Rattle.deterministic.specs.SmallestAsked.{smallest_replied, smallest_rows, s
 use Rattle.deterministic.proofs.Answered.{with_room, smallest-explains, smallest-answered}
 use Rattle.deterministic.proofs.Refusals.{in_numbers}
 use Rattle.smallest.specs.Replies.{smallest_reply}
-use Rattle.smallest.specs.declared.SmallestReply.{SmallestReply}
-use Rattle.smallest.specs.declared.SmallestReply.TheVariants.{Refused}
+use Rattle.automaton.specs.declared.Totals.{Totals}
+use Rattle.smallest.specs.declared.SmallestRefusal.{SmallestRefusal}
+use Rattle.smallest.specs.declared.SmallestRefusal.TheVariants as refused
 use Rattle.smallest.specs.inner.Answered.{WorkKept, LaidBeside, Answered}
 use Rattle.smallest.proofs.Laws.Laid.{laid}
 
@@ -46,13 +48,14 @@ module _ (table formula rows edges out work : List ℕ) where
   said = on_prepared table formula (beside_in rows edges)
 
   -- Behind the lengths.
-  pub answered-refused : {i : Inputs} {why : Unprepared} → inputs_reply i ≡ checked table formula → i ≡ inputs.Refused why
-      → Answered table formula rows edges out work (Refused why) rows edges out work
-  answered-refused {i} {why} outcome e =
+  pub answered-refused : {i : Result (Unit {0}) Unprepared} {why : Unprepared} → inputs_reply i ≡ checked table formula → i ≡ Err why
+      → (r : Result Totals SmallestRefusal) → IsErrAnd r (λ y. y ≡ refused.Unprepared why) → Answered table formula rows edges out work r rows edges out work
+  answered-refused {i} {why} outcome e r h =
       let d = inputs_refused table formula outcome (beside_in rows edges) e in
-      record { laid = laid said (unprepared why) rows edges out (sym d) (Refused why) rows edges out refl refl refl refl; kept = work-same work }
+      let (y, is, from) = err_from_is_err_and r h in
+      record { laid = laid said (unprepared why) rows edges out (sym d) r rows edges out (ap smallest_reply (is ∙ ap Err from)) refl refl refl; kept = work-same work }
 
-  pub answered-laid : (b : Both table formula) {r : SmallestReply} {x y z w : List ℕ}
+  pub answered-laid : (b : Both table formula) {r : Result Totals SmallestRefusal} {x y z w : List ℕ}
       → ((F : Formula) → prepared_formula (labels (table_in table)) formula ≡ some F → LaidBeside (beside_in rows edges (table_in table) F) rows edges out r x y z)
       → WorkKept work w → Answered table formula rows edges out work r x y z w
   answered-laid b {r} {x} {y} {z} h k = record {
@@ -61,13 +64,13 @@ module _ (table formula rows edges out work : List ℕ) where
   }
 
   -- The promises: the reply and the lent buffers by equations, and what they say, which follows.
-  abbrev pub Promised : SmallestReply → List ℕ → List ℕ → List ℕ → List ℕ → Type 0
+  abbrev pub Promised : Result Totals SmallestRefusal → List ℕ → List ℕ → List ℕ → List ℕ → Type 0
   Promised r x y z w = (smallest_reply r ≡ smallest_replied table formula rows edges out work)
       × ((x ≡ smallest_rows table formula rows edges out work) × ((y ≡ smallest_edges table formula rows edges out work)
       × ((z ≡ smallest_left table formula rows edges out work) × ((w ≡ smallest_work table formula rows edges out work)
       × (FromPrepared table formula (smallest_reply r) x y × SmallestAnswered table formula (smallest_reply r) x y z)))))
 
-  promised : (r : SmallestReply) (x y z w : List ℕ) → smallest_reply r ≡ answers counts_beside asked → x ≡ left_in rows_beside asked rows → y ≡ left_in edges_beside asked edges
+  promised : (r : Result Totals SmallestRefusal) (x y z w : List ℕ) → smallest_reply r ≡ answers counts_beside asked → x ≡ left_in rows_beside asked rows → y ≡ left_in edges_beside asked edges
       → z ≡ left_in smallest_bytes asked out → w ≡ work_left asked work → Promised r x y z w
   promised r x y z w a b c d e =
       let shown = subst (λ q. FromPrepared table formula q x y) (sym a) (subst (λ p. FromPrepared table formula (answers counts_beside asked) p y) (sym b)
@@ -79,8 +82,8 @@ module _ (table formula rows edges out work : List ℕ) where
       (a, (b, (c, (d, (e, (shown, told))))))
 
   -- A buffer that is short.
-  pub short : (n : ℕ) → asked ≡ refusal 14 n → Promised (Refused (BufferShort n)) rows edges out work
-  short n e = promised (Refused (BufferShort n)) rows edges out work (ap (answers counts_beside) (sym e)) (ap (λ r. left_in rows_beside r rows) (sym e))
+  pub short : (n : ℕ) → asked ≡ refusal 14 n → Promised (Err (refused.Unprepared (BufferShort n))) rows edges out work
+  short n e = promised (Err (refused.Unprepared (BufferShort n))) rows edges out work (ap (answers counts_beside) (sym e)) (ap (λ r. left_in rows_beside r rows) (sym e))
       (ap (λ r. left_in edges_beside r edges) (sym e)) (ap (λ r. left_in smallest_bytes r out) (sym e)) (ap (λ r. work_left r work) (sym e))
 
   pub short-table : length table < table_length → asked ≡ refusal 14 table_length
@@ -125,7 +128,7 @@ module _ (table formula rows edges out work : List ℕ) where
               let n = length-replicate {A = ℕ} work_length 0 in
               ap (λ l. replicate work_length 0 ++ l) (ap (λ m. drop m w) n ∙ (k.past ∙ ap (λ m. drop m work) (sym n)))
 
-          pub answered : {r : SmallestReply} {x y z w v : List ℕ} → Answered table formula rows edges out work r x y z w → v ≡ cleared w → Promised r x y z v
+          pub answered : {r : Result Totals SmallestRefusal} {x y z w v : List ℕ} → Answered table formula rows edges out work r x y z w → v ≡ cleared w → Promised r x y z v
           answered {r} {x} {y} {z} {w} {v} a e =
               let l = a.laid in
               promised r x y z v (l.reply ∙ ap (answers counts_beside) (sym is)) (l.rows_left ∙ ap (λ f. left_in rows_beside f rows) (sym is))

@@ -1,13 +1,11 @@
 -- The first bytes of a buffer zero.
-use mathlib.Core.Path.{◌≡◌, refl, ap}
-use mathlib.Core.List.{List, [], ◌∷◌}
-use Prim.Native.Nat.{ℕ, zero, suc, ◌<◌}
-use native.Mathlib.Omega.{arith}
-use lib.ListN.{length, set, replicate}
+use mathlib.Core.Path.{◌≡◌, sym, ap, ◌∙◌}
+use mathlib.Core.List.{List, ◌++◌}
+use Prim.Native.Nat.{ℕ, ◌≤◌}
+use lib.ListN.{length, take, drop, replicate, length-replicate}
+use lib.Seq.{length-take-le}
 use Rattle.lts.specs.Reply.{overwritten}
 
--- One more.
-pub zero_more : (i : ℕ) (w : List ℕ) → i < length w → set (overwritten (replicate i 0) w) i 0 ≡ overwritten (replicate (suc i) 0) w
-zero_more i [] h = absurd (omega arith)
-zero_more zero (x ∷ w) h = refl
-zero_more (suc i) (x ∷ w) h = ap (λ l. 0 ∷ l) (zero_more i w (omega arith))
+pub zeros_before : (n : ℕ) (w : List ℕ) → n ≤ length w → {filled : List ℕ} → filled ≡ replicate (length (take n w)) 0 → filled ++ drop n w ≡ overwritten (replicate n 0) w
+zeros_before n w h e =
+    ap (λ l. l ++ drop n w) (e ∙ ap (λ k. replicate k 0) (length-take-le n w h)) ∙ ap (λ k. replicate n 0 ++ drop k w) (sym (length-replicate {A = ℕ} n 0))

@@ -28,8 +28,8 @@ module _ (table_text text : List ℕ) where
   unfolding lent_smallest
   of-read e = of-readings (beside_in lent_rows lent_edges) table_text text ∙ ap (λ r. and_then r asking) e
 
-  pub refused_texts : (buffer : List ℕ) (n g : ℕ) → readings table_text text ≡ refusal n g → Asked table_text text buffer buffer (record { number = n; figure = g })
-  refused_texts buffer n g d =
+  pub refused_texts : (buffer : List ℕ) (a : Answer) → readings table_text text ≡ refusal a.number a.figure → Asked table_text text buffer buffer a
+  refused_texts buffer a d =
       let is = of-read d in
       record {
         says = record { number_said = sym (ap (λ r. number_in (answers counts_beside r)) is); figure_said = sym (ap (λ r. figure_in rows_in (answers counts_beside r)) is) };

@@ -1,7 +1,6 @@
--- The executable twin of `automaton_text` (../Text.antt), from the bytes: `text-held` (proofs/Laws/Held.antt) makes them equal. And what writing its lines asks for and leaves.
-use Rattle.std.specs.Prelude.{◌≡◌, List, [], ◌∷◌, ◌++◌, ℕ, ◌+◌, ◌*◌, ◌≤◌, length, get_or}
+-- The executable twin of `automaton_text` (../Text.antt), from the bytes: `text-held` (proofs/Laws/Held.antt) makes them equal.
+use Rattle.std.specs.Prelude.{List, [], ◌∷◌, ◌++◌, ℕ, ◌+◌, ◌*◌, get_or}
 use Rattle.columns.specs.Lines.{numbers_line}
-use Rattle.columns.specs.inner.Write.{pasted}
 use Rattle.lts.specs.inner.Lists.{up_from}
 use Rattle.lts.specs.Lists.{bind}
 
@@ -25,12 +24,3 @@ lines_text line n = bind line (up_from 0 n)
 -- The text, if so many states and edges were read.
 abbrev pub smallest_text : List ℕ → ℕ → ℕ → List ℕ
 smallest_text bytes states edges = numbers_line (states ∷ edges ∷ []) ++ (lines_text (state_text bytes) states ++ lines_text (step_text bytes (4 + states)) edges)
-
--- Room for lines of one width behind a place, and what `write_numbers` asks for behind them.
-pub record LinesFit (width count at : ℕ) (out : List ℕ) : Type 0 where
-  pub room : at + count * width + 81 ≤ length out
-
-pub record LinesWritten (line : ℕ → List ℕ) (width count at : ℕ) (before out : List ℕ) (end : ℕ) : Type 0 where
-  pub is : out ≡ pasted before at (lines_text line count)
-  pub ends : end ≡ at + length (lines_text line count)
-  pub wide : end ≡ at + count * width

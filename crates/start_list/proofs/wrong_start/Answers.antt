@@ -1,14 +1,12 @@
 -- `wrong_start` meets its contract: what is wrong below i is found.
-use mathlib.Core.Path.{◌≡◌, refl, sym, ◌∙◌}
+use mathlib.Core.Path.{refl, sym, ◌∙◌}
 use mathlib.Core.Bool.{cond}
 use mathlib.Core.Option.{none, some}
-use Prim.Native.Nat.{◌≤◌, ◌<◌, ◌-◌}
+use Prim.Native.Nat.{◌<◌}
 use native.Mathlib.Omega.{arith}
-use borrow.Author.Rules.{rules}
-use lib.ListN.{length, take}
-use Rattle.tables.specs.inner.Access.{found_in}
+use lib.ListN.{length}
 use Rattle.starts.specs.Starts.{is_right, wrong_start}
-use Rattle.starts.specs.inner.Search.{earlier, least_after}
+use Rattle.starts.specs.inner.Search.{earlier}
 use Rattle.starts.proofs.Beginnings.{wrong-next, least_next, wrong-begun}
 use Rattle.start_list.proofs.wrong_start.Goals as goal
 
@@ -24,10 +22,6 @@ byte-s-requires c =
 pub overflow_add-least : goal.overflow_add-least
 overflow_add-least c =
     omega (arith, c.byte-s.ensures.fits)
-
-pub loop-i-smaller : goal.loop-i-smaller
-loop-i-smaller c =
-    omega (arith, c.loop-i-test.true)
 
 pub loop-i-preserved : goal.loop-i-preserved
 loop-i-preserved c =

@@ -1,17 +1,22 @@
 -- `is_prepared` meets its contract: each test is a part of being well-formed, and well-formed bytes are the prepared ones.
-use mathlib.Core.Path.{◌≡◌, refl, sym, ap}
-use mathlib.Core.Bool.{Bool, true, false}
+use mathlib.Core.Path.{◌≡◌, refl, sym, ap, ◌∙◌}
+use mathlib.Core.Bool.{Bool, true, false, true≢false}
 use mathlib.Core.List.{List}
-use Prim.Native.Nat.{ℕ}
+use Prim.Native.Nat.{ℕ, ◌≤◌, ◌<◌}
+use borrow.Author.Tests.{leb-true}
+use lib.Dec.{leb}
+use lib.ListN.{length, get_or}
 use native.Mathlib.Omega.{arith}
+use Rattle.lts.specs.Sizes.{table_length}
 use Rattle.lts.specs.inner.Prepared.{table_in, prepared_table}
 use Rattle.lts.specs.inner.Answers.{is_some, Decides}
 use Rattle.lts.specs.inner.Check.{CountsHeld, WellFormed}
 use Rattle.lts.proofs.Laws.Decides.{decided_no}
 use Rattle.lts.proofs.Laws.Held.{prepared_well_formed}
 use Rattle.lts.proofs.Laws.WellFormed.{well_formed-prepared}
-use Rattle.table_check.specs.inner.Filled.{NamesFilled}
+use Rattle.table_check.specs.inner.Filled.{NamesFilled, TransitionsFilled}
 use Rattle.table_check.proofs.is_prepared.Goals as goal
+use Rattle.table_check.proofs.is_prepared.Goals.{then-table-ge-TABLE_LENGTH, else-table-ge-TABLE_LENGTH, then-counts_held, else-counts_held}
 
 decided : (b : List ℕ) (P : Type 0) (r : Bool) → Decides P r → (P → is_some (prepared_table b) ≡ true) → (is_some (prepared_table b) ≡ true → P)
     → r ≡ is_some (prepared_table b)
@@ -25,47 +30,46 @@ decided b P false d f g = found (is_some (prepared_table b)) refl
 ill-formed : (b : List ℕ) → (WellFormed b → ⊥) → false ≡ is_some (prepared_table b)
 ill-formed b n = decided b (WellFormed b) false (decided_no n) (λ w. absurd (n w)) (prepared_well_formed b)
 
-pub returns-then-table-lt-TABLE_LENGTH : goal.returns-then-table-lt-TABLE_LENGTH
-returns-then-table-lt-TABLE_LENGTH c =
-    ill-formed c.args.table.now (λ w. omega (arith, w.long, c.if-table-lt-TABLE_LENGTH.true))
+ill_formed : {b : List ℕ} {v : Bool} → v ≡ false → (WellFormed b → ⊥) → v ≡ is_some (prepared_table b)
+ill_formed e n = e ∙ ill-formed _ n
 
-pub returns-then-not-counts_held : goal.returns-then-not-counts_held
-returns-then-not-counts_held c =
-    ill-formed c.args.table.now
-    (λ w. c.counts_held.ensures.no c.if-not-counts_held.true w.counts)
-
-pub names_filled-requires : goal.names_filled-requires
-names_filled-requires c =
-    let table : List ℕ = c.args.table.now in
-    let counted : CountsHeld (table_in table) = c.counts_held.ensures.yes c.if-not-counts_held.false in
-    (c.if-table-lt-TABLE_LENGTH.false, (counted).few_labels)
-
-pub returns-then-not-names_filled : goal.returns-then-not-names_filled
-returns-then-not-names_filled c =
-    let table : List ℕ = c.args.table.now in
-    ill-formed (table)
-    (λ w. c.names_filled.ensures.no c.if-not-names_filled.true (record { held = w.names; behind = w.past_names }))
-
-pub transitions_filled-requires : goal.transitions_filled-requires
-transitions_filled-requires c =
-    let table : List ℕ = c.args.table.now in
-    let counted : CountsHeld (table_in table) = c.counts_held.ensures.yes c.if-not-counts_held.false in
-    let long = c.if-table-lt-TABLE_LENGTH.false in (long, (counted).few_transitions)
-
-pub returns : goal.returns
-returns c =
-    let table : List ℕ = c.args.table.now in
-    let counted : CountsHeld (table_in table) = c.counts_held.ensures.yes c.if-not-counts_held.false in
-    let named : NamesFilled (table) = c.names_filled.ensures.yes c.if-not-names_filled.false in
-    let b = table in
-    let byte = c.type_inv.table in
-    decided b _ c.transitions_filled.result c.transitions_filled.ensures
+complete : (b : List ℕ) → ((i : ℕ) → get_or b i 0 < 256) → table_length ≤ length b → CountsHeld (table_in b) → NamesFilled b
+    → (r : Bool) → Decides (TransitionsFilled b) r → r ≡ is_some (prepared_table b)
+complete b byte long counted named r d =
+    decided b _ r d
     (λ f. ap is_some (well_formed-prepared b (record {
-      long = c.if-table-lt-TABLE_LENGTH.false;
+      long = long;
       counts = counted;
-      names = (named).held;
-      past_names = (named).behind;
+      names = named.held;
+      past_names = named.behind;
       transitions = f.held;
       past_transitions = f.behind;
-    }) (λ i. omega (arith, byte i))))
+    }) byte))
     (λ e. let w = prepared_well_formed b e in record { held = w.transitions; behind = w.past_transitions })
+
+not_both : {A : Type 0} {v : Bool} → v ≡ true → v ≡ false → A
+not_both e f = absurd (true≢false (sym e ∙ f))
+
+too_short : {A : Type 0} {n m : ℕ} → n < m → leb m n ≡ true → A
+too_short {n = n} {m = m} h e = absurd (omega (arith, leb-true m n e))
+
+pub returns-then-names_filled : goal.returns-then-names_filled
+returns-then-names_filled c =
+    elim c.if-counts_held.branch [
+      | then-counts_held w ↦ elim c.if-table-ge-TABLE_LENGTH.branch [
+        | then-table-ge-TABLE_LENGTH u ↦ complete c.args.table.now (λ i. omega (arith, c.type_inv.table i)) u.if-table-ge-TABLE_LENGTH.true
+            (u.counts_held.ensures.yes (sym u.value-is ∙ w.if-counts_held.true)) (w.names_filled.ensures.yes (sym w.value-is ∙ c.if-names_filled.true)) _ c.transitions_filled.ensures
+        | else-table-ge-TABLE_LENGTH u ↦ too_short u.if-table-ge-TABLE_LENGTH.false (sym u.value-is ∙ w.if-counts_held.true)
+      ]
+      | else-counts_held w ↦ not_both c.if-names_filled.true (w.value-is ∙ w.if-counts_held.false)
+    ]
+
+pub returns-else-names_filled : goal.returns-else-names_filled
+returns-else-names_filled c =
+    ill_formed c.if-names_filled.false (λ f. elim c.if-counts_held.branch [
+      | then-counts_held w ↦ w.names_filled.ensures.no (sym w.value-is ∙ c.if-names_filled.false) (record { held = f.names; behind = f.past_names })
+      | else-counts_held w ↦ elim c.if-table-ge-TABLE_LENGTH.branch [
+        | then-table-ge-TABLE_LENGTH u ↦ u.counts_held.ensures.no (sym u.value-is ∙ w.if-counts_held.false) f.counts
+        | else-table-ge-TABLE_LENGTH u ↦ omega (arith, f.long, u.if-table-ge-TABLE_LENGTH.false)
+      ]
+    ])

@@ -1,6 +1,7 @@
 -- `name_held` meets its contract: the longest name in the slot ends where the slot says, exactly if the slot holds one.
 use mathlib.Core.Path.{◌≡◌, sym, ap, ◌∙◌, subst}
 use mathlib.Core.List.{List}
+use mathlib.Core.Logic.{inl, inr}
 use Prim.Native.Nat.{ℕ, ◌+◌, ◌*◌}
 use native.Mathlib.Omega.{arith}
 use Rattle.lts.specs.inner.Sizes.{head_length}
@@ -17,29 +18,15 @@ returns-then-end-at c =
     let table : List ℕ = c.args.table.now in
     let place : ℕ = head_length + 1 + c.args.k * name_slot_length in
     let size : ℕ = byte_at table (head_length + c.args.k * name_slot_length) in
-    let slot-ends : c.name_span-span.result.to ≡ place + size = let slot = c.name_span-span.ensures in slot.ends ∙ ap (λ n. n + size) slot.starts in
-    let name-ends : c.read_name-name.result.end ≡ name_end table place = c.read_name-name.ensures.0 ∙ ap (name_end table) c.name_span-span.ensures.starts in
-    let held-to-end : NameHeld table c.args.k → c.read_name-name.result.end ≡ c.name_span-span.result.to = λ h.
-    name-ends ∙ held-end table c.requires.0 c.args.k c.requires.1 c.name_span-span.ensures.short h ∙ sym slot-ends in
     let slot = c.name_span-span.ensures in
-    decided_no (λ h. omega (
-      arith,
-      held-to-end h,
-      name-few (table) c.requires.0 c.args.k c.requires.1 slot.short h.name,
-      slot.ends,
-      c.if-end-at.true,
-    ))
-
-pub returns-then-end-span : goal.returns-then-end-span
-returns-then-end-span c =
-    let table : List ℕ = c.args.table.now in
-    let place : ℕ = head_length + 1 + c.args.k * name_slot_length in
-    let size : ℕ = byte_at table (head_length + c.args.k * name_slot_length) in
-    let slot-ends : c.name_span-span.result.to ≡ place + size = let slot = c.name_span-span.ensures in slot.ends ∙ ap (λ n. n + size) slot.starts in
-    let name-ends : c.read_name-name.result.end ≡ name_end table place = c.read_name-name.ensures.0 ∙ ap (name_end table) c.name_span-span.ensures.starts in
-    let held-to-end : NameHeld table c.args.k → c.read_name-name.result.end ≡ c.name_span-span.result.to = λ h.
-    name-ends ∙ held-end table c.requires.0 c.args.k c.requires.1 c.name_span-span.ensures.short h ∙ sym slot-ends in
-    decided_no (λ h. c.if-end-span.true (held-to-end h))
+    let slot-ends : c.name_span-span.result.to ≡ place + size = slot.ends ∙ ap (λ n. n + size) slot.starts in
+    let name-ends : c.read_name-end.result.end ≡ name_end table place = c.read_name-end.ensures.0 ∙ ap (name_end table) slot.starts in
+    let held-to-end : NameHeld table c.args.k → c.read_name-end.result.end ≡ c.name_span-span.result.to = λ h.
+    name-ends ∙ held-end table c.requires.0 c.args.k c.requires.1 slot.short h ∙ sym slot-ends in
+    decided_no (λ h. elim c.then-end-at.either [
+      | inl e ↦ omega (arith, held-to-end h, name-few table c.requires.0 c.args.k c.requires.1 slot.short h.name, slot.ends, e)
+      | inr d ↦ d.1 (held-to-end h)
+    ])
 
 pub returns : goal.returns
 returns c =
@@ -47,7 +34,7 @@ returns c =
     let place : ℕ = head_length + 1 + c.args.k * name_slot_length in
     let size : ℕ = byte_at table (head_length + c.args.k * name_slot_length) in
     let slot-ends : c.name_span-span.result.to ≡ place + size = let slot = c.name_span-span.ensures in slot.ends ∙ ap (λ n. n + size) slot.starts in
-    let name-ends : c.read_name-name.result.end ≡ name_end table place = c.read_name-name.ensures.0 ∙ ap (name_end table) c.name_span-span.ensures.starts in
+    let name-ends : c.read_name-end.result.end ≡ name_end table place = c.read_name-end.ensures.0 ∙ ap (name_end table) c.name_span-span.ensures.starts in
     let whole = c.if-end-span.false ∙ slot-ends in
     let to = head_length + name_slot_length + c.args.k * name_slot_length in
     decided_by c.zeros.ensures

@@ -1,7 +1,7 @@
 -- `transitions_held` meets its contract: the slots below k are passed, and `least` is above the key of the last of them.
 use mathlib.Core.Path.{◌≡◌}
 use mathlib.Core.List.{List}
-use Prim.Native.Nat.{ℕ, ◌-◌, ◌≤◌, ◌<◌}
+use Prim.Native.Nat.{ℕ, ◌≤◌, ◌<◌}
 use lib.ListN.{length}
 use Rattle.lts.specs.Steps.{labels}
 use Rattle.lts.specs.inner.Prepared.{table_in}
@@ -18,6 +18,3 @@ pub record Held (table : List ℕ) (n states most least k : ℕ) : Type 0 where
 
 abbrev pub invariant-loop-k : goal.invariant-loop-k
 invariant-loop-k l = Held l.table l.n l.states l.most l.least l.k
-
-abbrev pub decreases-loop-k : goal.decreases-loop-k
-decreases-loop-k l = l.n - l.k

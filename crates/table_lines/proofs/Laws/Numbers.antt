@@ -4,11 +4,11 @@ use mathlib.Core.List.{List}
 use Prim.Native.Nat.{ℕ, ◌+◌}
 use Rattle.lts.proofs.Laws.Layout.{transition_lies, no_transition}
 use Rattle.columns.specs.inner.Read.{column_at}
-use Rattle.columns.specs.declared.Column.TheVariants.{Number}
+use Rattle.std.specs.Prelude.{Some}
 use Rattle.columns.proofs.Laws.ColumnsRead.{column-found}
 use Rattle.table_lines.specs.inner.LineReplies.{NumbersAt}
 
-pub numbers-read : (s : List ℕ) (at x y z : ℕ) → column_at s at ≡ Number x → column_at s (at + 6) ≡ Number y → column_at s (at + 12) ≡ Number z
+pub numbers-read : (s : List ℕ) (at x y z : ℕ) → column_at s at ≡ Some x → column_at s (at + 6) ≡ Some y → column_at s (at + 12) ≡ Some z
     → NumbersAt s at (record { from = x; label = y; to = z })
 numbers-read s at x y z p q r = record {
   ended = transition_lies s at (record { from = x; label = y; to = z }) (column-found s at x p) (column-found s (at + 6) y q) (column-found s (at + 12) z r);

@@ -1,58 +1,44 @@
 -- `label_line` says what line of a label stands at a place, or that none does.
-use mathlib.Core.Path.{◌≡◌, sym, ◌∙◌}
-use mathlib.Core.List.{List}
+use mathlib.Core.Path.{sym}
 use borrow.Author.Tests.{eqb-true, eqb-false}
-use Prim.Native.Nat.{ℕ, ◌+◌}
-use lib.ListN.{get_or}
+use Prim.Native.Nat.{◌+◌}
 use native.Mathlib.Omega.{arith}
 use Rattle.lts.proofs.Laws.LinesRead.{byte-within}
 use Rattle.lts.proofs.Laws.LabelLayout.{label-lies, no_label, end-of-name}
 use Rattle.columns.proofs.Laws.ColumnsRead.{column-found, column-lacking}
+use Rattle.table_lines.proofs.label_line.Goals.{else-end-from-via-then-end-from+else-stands, else-end-from-via-else-end-from}
 use Rattle.table_lines.proofs.label_line.Goals as goal
 
-pub returns-in_default : goal.returns-in_default
-returns-in_default c =
+pub returns-in_err-number : goal.returns-in_err-number
+returns-in_err-number c =
     let a = c.args in
-    no_label a.text.now a.at (λ x name rest p e f g.
-    column-lacking a.text.now a.at x (sym c.read_column.ensures ∙ c.in_default.is) p)
+    rw c.from_residual.ensures (no_label a.text.now a.at (λ x name rest p e f g. column-lacking a.text.now a.at x (sym c.in_err-number.ensures) p))
 
 pub returns-then-not-stands : goal.returns-then-not-stands
 returns-then-not-stands c =
-    let text : List ℕ = c.args.text.now in
-    let place : ℕ = c.args.at in
-    no_label (text) (place) (λ x name rest p e f g. eqb-false _ _ (sym c.stands.ensures ∙ c.if-not-stands.true) e)
+    no_label c.args.text.now c.args.at (λ x name rest p e f g. eqb-false _ _ (sym c.if-not-stands.ensures) e)
 
-pub read_name-name-requires : goal.read_name-name-requires
-read_name-name-requires c =
-    let text : List ℕ = c.args.text.now in
-    let place : ℕ = c.args.at in
-    let blank : get_or (text) (place + 6) 256 ≡ 32 = eqb-true _ _ (sym c.stands.ensures ∙ c.if-not-stands.false) in
-    omega (arith, byte-within (text) (place + 6) 32 (omega arith) (blank))
-
-pub returns-then-end-from : goal.returns-then-end-from
-returns-then-end-from c =
-    let text : List ℕ = c.args.text.now in
-    let place : ℕ = c.args.at in
-    let read = c.read_name-name in
-    no_label (text) (place) (λ x name rest p e f g.
-    (end-of-name (text) (place) name rest f g read.result.end read.ensures.0).0 c.if-end-from.true)
+pub read_name-end-requires : goal.read_name-end-requires
+read_name-end-requires c =
+    let a = c.args in
+    omega (arith, byte-within a.text.now (a.at + 6) 32 (omega arith) (eqb-true _ _ (sym c.if-not-stands.ensures)))
 
 pub returns-then-stands : goal.returns-then-stands
 returns-then-stands c =
-    let text : List ℕ = c.args.text.now in
-    let place : ℕ = c.args.at in
-    let blank : get_or (text) (place + 6) 256 ≡ 32 = eqb-true _ _ (sym c.stands.ensures ∙ c.if-not-stands.false) in
-    let s = text in
-    let at = place in
-    let read = c.read_name-name in
-    label-lies s at c.in-Number.number read.result.end
-    (column-found s at c.in-Number.number (sym c.read_column.ensures ∙ c.in-Number.is))
-    (blank) read.ensures.0 c.if-end-from.false (eqb-true _ _ (sym c.stands-2.ensures ∙ c.if-stands.true))
+    let s = c.args.text.now in
+    let at = c.args.at in
+    let read = c.read_name-end in
+    label-lies s at c.in_ok-number.number read.result.end (column-found s at c.in_ok-number.number (sym c.in_ok-number.ensures))
+    (eqb-true _ _ (sym c.if-not-stands.ensures)) read.ensures.0 c.if-end-from.true (eqb-true _ _ (sym c.if-stands.ensures))
 
-pub returns-else-stands : goal.returns-else-stands
-returns-else-stands c =
-    let text : List ℕ = c.args.text.now in
-    let place : ℕ = c.args.at in
-    let read = c.read_name-name in
-    no_label (text) (place) (λ x name rest p e f g. eqb-false _ _ (sym c.stands-2.ensures ∙ c.if-stands.false)
-    (end-of-name (text) (place) name rest f g read.result.end read.ensures.0).1)
+pub returns-else-end-from : goal.returns-else-end-from
+returns-else-end-from c =
+    let s = c.args.text.now in
+    let at = c.args.at in
+    let read = c.read_name-end in
+    no_label s at (λ x name rest p e f g.
+    let named = end-of-name s at name rest f g read.result.end read.ensures.0 in
+    elim c.else-end-from.branch [
+      | else-end-from-via-then-end-from+else-stands w ↦ eqb-false _ _ (sym w.if-stands.ensures) named.1
+      | else-end-from-via-else-end-from w ↦ named.0 w.if-end-from.false
+    ])

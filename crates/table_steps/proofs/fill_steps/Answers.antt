@@ -60,15 +60,6 @@ put_state-at-requires c =
     let state : c.loop-s.s < most_states = omega (arith, c.loop-s-test.true, count, c.requires.holds_table.in_range.few_states) in
     record { holds_table = c.requires.holds_table; a_value = (c.loop-s.invariant.1, c.exits_end-b.ensures); steps_len = (done.steps_long, (state, omega (arith, done.few, c.loop-s.invariant.1))) }
 
-pub overflow_add-s-in-loop-s : goal.overflow_add-s-in-loop-s
-overflow_add-s-in-loop-s c =
-    let few : c.loop-s.s ≤ most_states = omega (arith, c.loop-s.invariant.0, c.state_count-states.ensures.count, c.requires.holds_table.in_range.few_states) in
-    omega (arith, few)
-
-pub loop-s-smaller : goal.loop-s-smaller
-loop-s-smaller c =
-    omega (arith, c.loop-s-test.true)
-
 pub loop-s-preserved : goal.loop-s-preserved
 loop-s-preserved c =
     let taken = c.loop-s-test.true in
@@ -79,7 +70,8 @@ loop-s-preserved c =
 pub loop-s-2-init : goal.loop-s-2-init
 loop-s-2-init c =
     let few : c.loop-s.s ≤ most_states = omega (arith, c.loop-s.invariant.0, c.state_count-states.ensures.count, c.requires.holds_table.in_range.few_states) in
-    (c.loop-s-test.false, few, c.loop-s.invariant.2)
+    let all : c.loop-s.s ≡ c.state_count-states.result = omega (arith, c.loop-s.invariant.0, c.loop-s-test.false) in
+    (omega arith, omega (arith, few, all), subst (λ s. BelowDone (table_in c.args.table.now) s c.loop-s.at c.loop-s.steps c.loop-s.firsts) all c.loop-s.invariant.2)
 
 pub overflow_cast-firsts-in-loop-s-2 : goal.overflow_cast-firsts-in-loop-s-2
 overflow_cast-firsts-in-loop-s-2 c =
@@ -103,14 +95,6 @@ put_state-at-requires-in-loop-s-2 c =
     let all = exits_all t c.requires.holds_table.in_range c.loop-s-2.s past in
     let next = exits_all t c.requires.holds_table.in_range (c.loop-s-2.s + 1) (omega arith) in
     record { holds_table = c.requires.holds_table; a_value = (count ∙ sym all, count ∙ sym next); steps_len = (done.steps_long, (c.loop-s-2-test.true, omega (arith, done.few, count, all))) }
-
-pub overflow_add-s-in-loop-s-2 : goal.overflow_add-s-in-loop-s-2
-overflow_add-s-in-loop-s-2 c =
-    omega (arith, c.loop-s-2-test.true)
-
-pub loop-s-2-smaller : goal.loop-s-2-smaller
-loop-s-2-smaller c =
-    omega (arith, c.loop-s-2-test.true)
 
 pub loop-s-2-preserved : goal.loop-s-2-preserved
 loop-s-2-preserved c =

@@ -13,6 +13,3 @@ use Rattle.table_steps.proofs.put_transitions.Given as goal
 abbrev pub invariant-loop-j : goal.invariant-loop-j
 invariant-loop-j l = (l.j ≤ l.b) × (l.p + (l.b - l.j) ≤ most_steps) × (length l.steps ≡ most_steps)
     × PutSoFar (map step_code (slice l.a l.b (table_in l.table).transitions)) l.at l.initial.steps (map step_code (slice l.j l.b (table_in l.table).transitions)) l.p l.steps
-
-abbrev pub decreases-loop-j : goal.decreases-loop-j
-decreases-loop-j l = l.b - l.j

@@ -5,7 +5,7 @@ use Rattle.lts.specs.inner.Sizes.{most_steps}
 use Rattle.lts.specs.inner.Lists.{up_from}
 use Rattle.lts.specs.Steps.{Step, Table}
 use Rattle.lts.specs.inner.Steps.{Carried, steps_from}
-use Rattle.table_steps.specs.declared.Span.{Span}
+use Rattle.lts.specs.declared.spans.Span.{Span}
 
 abbrev pub step_code : Step → ℕ
 step_code st = st.label * 256 + st.to
@@ -46,3 +46,10 @@ pub record PutBehind (part : List ℕ) (at : ℕ) (before : List ℕ) (end : ℕ
   pub long : length after ≡ length before
   pub ends : end ≡ at + length part
   pub put : take end after ≡ take at before ++ part
+
+-- The first step from `from` on, before `to`, that has another label.
+pub record LabelEnds (steps : List ℕ) (to label from r : ℕ) : Type 0 where
+  pub begins : from ≤ r
+  pub last : r ≤ to
+  pub same : (k : ℕ) → from ≤ k → k < r → get_or steps k 0 / 256 ≡ label
+  pub other : r < to → get_or steps r 0 / 256 ≡ label → ⊥

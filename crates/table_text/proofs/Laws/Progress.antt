@@ -15,8 +15,8 @@ use Rattle.lts.specs.inner.Reading.{label_laid_out}
 use Rattle.lts.specs.Reading.{read_transitions, read_labels_with}
 use Rattle.lts.specs.inner.Reading.{read_labels}
 use Rattle.lts.specs.inner.Lines.{LineAt, NoLineAt}
-use Rattle.table_text.specs.inner.Progress.{Refuses, number_refused}
-use Rattle.table_text.specs.declared.TableReply.TheVariants.{NotLaidOut, OutOfRange, NameRepeated, NotRising}
+use Rattle.table_text.specs.inner.Progress.{Refuses}
+use Rattle.table_text.specs.declared.TableRefusal.TheVariants.{NotLaidOut, OutOfRange, NameRepeated, NotRising}
 
 -- A line that is not laid out, and one that is.
 pub no_line : (laid : List ℕ → Bool) (n : ℕ) (x : Line) (next : List ℕ → List ℕ → Reply Table) → ((l rest : List ℕ) → x ≡ line l rest → laid l ≡ false)
@@ -130,10 +130,3 @@ module _ (h : Header) (s : List ℕ) (at left : ℕ) (names : List (List ℕ)) (
 
     pub transition_accepted : step_in_range h st ≡ true → above steps st ≡ true → steps-left ≡ read_transitions h names left (steps ++ (st ∷ [])) (drop to s)
     transition_accepted d u = in_range_opened d ∙ passed (above steps st) 4 line_of (read_transitions h names left (steps ++ (st ∷ [])) (drop to s)) u
-
-  -- A number out of range, in a line that is laid out or not.
-  pub transition_number-refused : (to : ℕ) (st : Step) (laid : Bool)
-      → (laid ≡ true → (l : List ℕ) × LineAt step_laid_out s at to l × (step_of l ≡ st)) → (laid ≡ false → NoLineAt step_laid_out s at)
-      → step_in_range h st ≡ false → (n : ℕ) → n ≡ length names + length steps + 2 → Refuses (steps-left) (number_refused laid n)
-  transition_number-refused to st true x y d n f = let (l, g, v) = x refl in transition_out_of_range to l g st v n f d
-  transition_number-refused to st false x y d n f = transition_refused n f (y refl)

@@ -16,13 +16,13 @@ use Rattle.lts.specs.inner.Slots.{name_bytes, step_bytes}
 use Rattle.table_lines.specs.inner.LineReplies.{header}
 use Rattle.table_text.specs.inner.Progress.{Refuses, NameRead, NamesRead, TransitionLineRead, StepsRead, TransitionProgress}
 use Rattle.table_lines.specs.declared.HeaderFields.{HeaderFields}
-use Rattle.table_text.specs.declared.Progress.TheVariants.{Next}
-use Rattle.table_text.specs.declared.TableReply.{TableReply}
-use Rattle.table_text.specs.declared.TableReply.TheVariants.{NotLaidOut}
+use Rattle.std.specs.Prelude.{Ok}
+use Rattle.table_text.specs.declared.TableRefusal.{TableRefusal}
+use Rattle.table_text.specs.declared.TableRefusal.TheVariants.{NotLaidOut}
 use Rattle.lts.proofs.Laws.SlotBytes.{names_snoc}
 
 -- A refusal of what is left is one of the whole.
-pub refuses_whole : {a b : Reply Table} {t : TableReply} → a ≡ b → Refuses b t → Refuses a t
+pub refuses_whole : {a b : Reply Table} {t : TableRefusal} → a ≡ b → Refuses b t → Refuses a t
 refuses_whole e r = record { number = r.number; figure = r.figure; reply = e ∙ r.reply; says = r.says }
 
 -- Names.
@@ -54,7 +54,7 @@ module _ (h : Header) (s : List ℕ) (from : ℕ) where
         let more : h.labels - count ≡ suc (h.labels - (count + 1)) = omega arith in
         r.reads ∙ ap (λ n. read_labels h n r.names (drop at s)) more
 
-    pub names-refused : count < h.labels → {t : TableReply} → Refuses (read_labels h (suc (h.labels - (count + 1))) r.names (drop at s)) t
+    pub names-refused : count < h.labels → {t : TableRefusal} → Refuses (read_labels h (suc (h.labels - (count + 1))) r.names (drop at s)) t
         → Refuses (read_labels h h.labels [] (drop from s)) t
     names-refused k f = refuses_whole (names-next k) f
 
@@ -105,7 +105,7 @@ module _ (h : Header) (s : List ℕ) (from : ℕ) (names : List (List ℕ)) wher
         let more : h.transitions - count ≡ suc (h.transitions - (count + 1)) = omega arith in
         r.reads ∙ ap (λ n. read_transitions h names n r.steps (drop at s)) more
 
-    pub steps-refused : count < h.transitions → {t : TableReply} → Refuses (read_transitions h names (suc (h.transitions - (count + 1))) r.steps (drop at s)) t
+    pub steps-refused : count < h.transitions → {t : TableRefusal} → Refuses (read_transitions h names (suc (h.transitions - (count + 1))) r.steps (drop at s)) t
         → Refuses (read_transitions h names h.transitions [] (drop from s)) t
     steps-refused k f = refuses_whole (steps_next k) f
 
@@ -155,11 +155,11 @@ pub record TransitionsSoFar (c : HeaderFields) (s : List ℕ) (from : ℕ) (b : 
   pub so_far : (names : List (List ℕ)) → length names ≡ c.labels → StepsSoFar (header c) s from names b at count
 
 line-within : (c : HeaderFields) (s : List ℕ) (from : ℕ) (b : List ℕ) (at count : ℕ) → TransitionsSoFar c s from b at count → (to : ℕ) (d : List ℕ)
-    → TransitionProgress (header c) s at count b d (Next to) → (names : List (List ℕ)) → length names ≡ c.labels → to ≤ length s
+    → TransitionProgress (header c) s at count b d (Ok to) → (names : List (List ℕ)) → length names ≡ c.labels → to ≤ length s
 line-within c s from b at count i to d f names e = let r = i.so_far names e in (f 0 names r.steps e r.counts r.kept).within
 
 pub line_taken : (c : HeaderFields) (s : List ℕ) (from : ℕ) (b : List ℕ) (at count : ℕ) → TransitionsSoFar c s from b at count → count < c.transitions
-    → (to : ℕ) (d : List ℕ) → TransitionProgress (header c) s at count b d (Next to) → length d ≡ length b → TransitionsSoFar c s from d to (count + 1)
+    → (to : ℕ) (d : List ℕ) → TransitionProgress (header c) s at count b d (Ok to) → length d ≡ length b → TransitionsSoFar c s from d to (count + 1)
 line_taken c s from b at count i k to d f e = record {
   within = line-within c s from b at count i to d f (replicate c.labels []) (length-replicate c.labels []);
   few = omega arith;

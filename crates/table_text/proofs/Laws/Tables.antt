@@ -1,6 +1,6 @@
 -- Laws of a whole reading: its header, and what the entry answers and leaves.
 use mathlib.Core.Path.{◌≡◌, refl, sym, ap, ◌∙◌}
-use mathlib.Core.Bool.{Bool, true, false, ◌&&◌, true≢false, false≢true}
+use mathlib.Core.Bool.{Bool, true, false, ◌&&◌}
 use mathlib.Core.List.{List, [], ◌++◌}
 use Prim.Native.Nat.{ℕ, ◌<◌, ◌≤◌}
 use native.Mathlib.Omega.{arith}
@@ -8,8 +8,7 @@ use borrow.Author.Tests.{ltb-true, leb-true, le-leb, lt-leb}
 use lib.Dec.{leb, ltb}
 use lib.ListN.{length, drop}
 use Rattle.lts.specs.Sizes.{most_states, most_labels, most_transitions, table_length}
-use Rattle.lts.specs.Reply.{Reply, accepted, refusal, unless, overwritten, left_in, answers}
-use Rattle.lts.specs.Steps.{Table}
+use Rattle.lts.specs.Reply.{refusal, unless, overwritten, left_in, answers}
 use Rattle.lts.specs.Reading.{Header, first_line, header_of, header_laid_out, header_in_range, read_table, read_table_with}
 use Rattle.lts.specs.inner.Reading.{read_labels}
 use Rattle.lts.specs.Prepared.{table_bytes}
@@ -17,9 +16,10 @@ use Rattle.table_text.specs.Replies.{table_reply}
 use Rattle.lts.specs.TableReading.{table_reading, table_replied, table_left}
 use Rattle.lts.specs.inner.Slots.{head_bytes}
 use Rattle.lts.specs.inner.Lines.{LineAt, NoLineAt}
-use Rattle.table_text.specs.inner.Progress.{Refuses, LinesRead, is_accepted}
-use Rattle.table_text.specs.declared.TableReply.{TableReply}
-use Rattle.table_text.specs.declared.TableReply.TheVariants.{Accepted, NotLaidOut, OutOfRange}
+use Rattle.std.specs.Prelude.{Ok, Err}
+use Rattle.table_text.specs.inner.Progress.{Refuses, LinesAccepted}
+use Rattle.table_text.specs.declared.TableRefusal.{TableRefusal}
+use Rattle.table_text.specs.declared.TableRefusal.TheVariants.{NotLaidOut, OutOfRange, BufferShort}
 use Rattle.lts.proofs.Booleans.{and-true-of}
 use Rattle.table_text.proofs.Laws.Progress.{no_line, a_line, passed, failed}
 
@@ -73,36 +73,9 @@ header_bounds h e =
       start = omega (arith, ltb-true h.start h.states a.1);
     }
 
--- The lines behind the first.
-abbrev accepted_or : Table → Reply Table → Table
-accepted_or d (accepted t) = t
-accepted_or d (refusal number figure) = d
-
-module _ (h : Header) (s names slots : List ℕ) where
-  pub lines-refused : {t : TableReply} → Refuses (read_labels h h.labels [] (drop 25 s)) t → LinesRead h s names slots t
-  lines-refused r = record {
-    replies = r.says ∙ sym (ap (answers (λ t. tt)) r.reply);
-    bytes = λ t e. absurd (false≢true (ap is_accepted (sym r.reply ∙ e)));
-  }
-
-  pub lines-accepted : (t : Table) → read_labels h h.labels [] (drop 25 s) ≡ accepted t → head_bytes h ++ (names ++ slots) ≡ table_bytes t
-      → LinesRead h s names slots Accepted
-  lines-accepted t e f = record { replies = sym (ap (answers (λ t. tt)) e); bytes = λ u g. f ∙ ap (λ r. table_bytes (accepted_or t r)) (sym e ∙ g) }
-
--- What is lent stays, or is written, as the reply says.
-module _ (b : List ℕ) (u : Reply (Unit {0})) where
-  left_unwritten : (a : Reply Table) → u ≡ answers (λ t. tt) a → is_accepted u ≡ false → b ≡ left_in table_bytes a b
-  left_unwritten (accepted t) e f = absurd (true≢false (sym (ap is_accepted e) ∙ f))
-  left_unwritten (refusal number figure) e f = refl
-
-  left-written : (a : Reply Table) → u ≡ answers (λ t. tt) a → is_accepted u ≡ true → (x : List ℕ) → ((t : Table) → a ≡ accepted t → x ≡ table_bytes t)
-      → overwritten x b ≡ left_in table_bytes a b
-  left-written (accepted t) e f x g = ap (λ y. overwritten y b) (g t refl)
-  left-written (refusal number figure) e f x g = absurd (false≢true (sym (ap is_accepted e) ∙ f))
-
 -- The answer and the bytes.
 module _ (s b : List ℕ) where
-  pub short-replies : length b < table_length → (refusal 14 table_length ≡ table_replied s b) × (b ≡ table_left s b)
+  pub short-replies : length b < table_length → (table_reply (Err (BufferShort table_length)) ≡ table_replied s b) × (b ≡ table_left s b)
   unfolding table_reading
   short-replies h =
       let short : table_reading s b ≡ refusal 14 table_length = failed (leb table_length (length b)) 14 table_length (read_table s) (lt-leb table_length (length b) h) in
@@ -113,28 +86,13 @@ module _ (s b : List ℕ) where
     unfolding table_reading
     reading-is = passed (leb table_length (length b)) 14 table_length (read_table s) (le-leb table_length (length b) h)
 
-    pub refused-replies : {t : TableReply} → Refuses (read_table s) t → (table_reply t ≡ table_replied s b) × (b ≡ table_left s b)
+    pub refused-replies : {t : TableRefusal} → Refuses (read_table s) t → (table_reply (Err t) ≡ table_replied s b) × (b ≡ table_left s b)
     refused-replies r =
         let refused = reading-is ∙ r.reply in
         (r.says ∙ ap (answers (λ t. tt)) (sym refused), ap (λ x. left_in table_bytes x b) (sym refused))
 
-    module _ (f : Header) (names slots : List ℕ) (t : TableReply) (r : LinesRead f s names slots t)
-        (e : read_table s ≡ read_labels f f.labels [] (drop 25 s)) where
-      abbrev lines : Reply Table
-      lines = read_labels f f.labels [] (drop 25 s)
-
-      lines_replied : table_reply t ≡ table_replied s b
-      lines_replied = r.replies ∙ ap (answers (λ t. tt)) (sym (reading-is ∙ e))
-
-      lines_left : left_in table_bytes lines b ≡ table_left s b
-      lines_left = ap (λ x. left_in table_bytes x b) (sym (reading-is ∙ e))
-
-      pub unwritten_replies : is_accepted (table_reply t) ≡ false → (table_reply t ≡ table_replied s b) × (b ≡ table_left s b)
-      unwritten_replies g = (lines_replied, left_unwritten b (table_reply t) lines r.replies g ∙ lines_left)
-
-      pub written-replies : is_accepted (table_reply t) ≡ true → (d : List ℕ) → d ≡ overwritten (head_bytes f ++ (names ++ slots)) b
-          → (table_reply t ≡ table_replied s b) × (d ≡ table_left s b)
-      written-replies g d k = (
-        lines_replied,
-        k ∙ left-written b (table_reply t) lines r.replies g (head_bytes f ++ (names ++ slots)) r.bytes ∙ lines_left,
-      )
+    pub written-replies : (f : Header) (names slots : List ℕ) → LinesAccepted f s names slots → read_table s ≡ read_labels f f.labels [] (drop 25 s)
+        → (d : List ℕ) → d ≡ overwritten (head_bytes f ++ (names ++ slots)) b → (table_reply (Ok tt) ≡ table_replied s b) × (d ≡ table_left s b)
+    written-replies f names slots r e d k =
+        let read = reading-is ∙ e ∙ r.reads in
+        (ap (answers (λ t. tt)) (sym read), k ∙ ap (λ x. overwritten x b) r.kept ∙ ap (λ x. left_in table_bytes x b) (sym read))

@@ -1,9 +1,9 @@
 -- `read_label` says what one more line of a label makes of the reading, and keeps its name.
-use mathlib.Core.Path.{◌≡◌, sym, ap, ap₂, ◌∙◌, subst}
+use mathlib.Core.Path.{◌≡◌, refl, sym, ap, ap₂, ◌∙◌}
 use mathlib.Core.Bool.{Bool, true, false}
 use mathlib.Core.List.{List}
 use Prim.Native.Nat.{ℕ, ◌+◌, ◌-◌, ◌*◌}
-use lib.ListN.{length, take, drop, length-take}
+use lib.ListN.{length, take, drop}
 use native.Mathlib.Omega.{arith}
 use Rattle.lts.specs.Sizes.{name_slot_length}
 use Rattle.table_text.proofs.Laws.Progress.{label-refused, label_out_of_order, label-repeated, label-accepted}
@@ -13,7 +13,6 @@ use Rattle.lts.proofs.Booleans.{and-true-of}
 use Rattle.lts.specs.Lists.{every}
 use Rattle.lts.specs.inner.Slots.{counted, name_bytes}
 use Rattle.lts.specs.inner.Lines.{Labelled}
-use Rattle.table_lines.specs.inner.LineReplies.{LabelAnswer}
 use Rattle.lts.specs.Reading.{used}
 use Rattle.lts.specs.Text.{label_line}
 use Rattle.lts.specs.Names.{is_name}
@@ -22,54 +21,35 @@ use Rattle.lts.specs.inner.Answers.{is_some}
 use Rattle.columns.specs.Columns.{value_at}
 use Rattle.columns.specs.inner.Write.{pasted}
 use Rattle.columns.specs.Bytes.{same_bytes}
+use Rattle.std.specs.Prelude.{Option, Some, None}
+use Rattle.std.specs.Option as std
 use Rattle.table_text.proofs.read_label.Goals as goal
+
+found_or_not : (r : Option ℕ) → std.is_some r ≡ is_some (found_in r)
+found_or_not (Some k) = refl
+found_or_not None = refl
 
 pub returns-in_default : goal.returns-in_default
 returns-in_default c =
     let s = c.args.text.now in
     let at = c.args.at in
     λ h left names e f g. label-refused h s at left names _ (omega arith)
-    (subst (LabelAnswer s at) c.in_default.is c.label_line.ensures)
+    c.in_default.ensures
 
 pub returns-then-number-count : goal.returns-then-number-count
 returns-then-number-count c =
-    let end : ℕ = c.in-Label.end in
-    let line : Labelled c.args.text.now c.args.at c.in-Label.number (end) = subst (LabelAnswer c.args.text.now c.args.at) c.in-Label.is c.label_line.ensures in
+    let end = c.in-Some.field-0.end in
+    let line : Labelled c.args.text.now c.args.at c.in-Some.field-0.number end = c.in-Some.ensures in
     let a = c.args in
     let l = line in
     λ h left names e f g.
     label_out_of_order h a.text.now a.at left names (end + 1) l.bytes l.lies _ (omega arith)
     (λ z. c.if-number-count.true (omega (arith, l.numbered)))
 
-pub slice_bounds-find-count : goal.slice_bounds-find-count
-slice_bounds-find-count c =
-    let end : ℕ = c.in-Label.end in
-    let line : Labelled c.args.text.now c.args.at c.in-Label.number (end) = subst (LabelAnswer c.args.text.now c.args.at) c.in-Label.is c.label_line.ensures in
-    omega (arith, (line).starts)
-
-pub slice_bounds-find-start : goal.slice_bounds-find-start
-slice_bounds-find-start c =
-    let end : ℕ = c.in-Label.end in
-    let line : Labelled c.args.text.now c.args.at c.in-Label.number (end) = subst (LabelAnswer c.args.text.now c.args.at) c.in-Label.is c.label_line.ensures in
-    omega (arith, (line).starts)
-
-pub slice_bounds-find-end : goal.slice_bounds-find-end
-slice_bounds-find-end c =
-    let end : ℕ = c.in-Label.end in
-    let line : Labelled c.args.text.now c.args.at c.in-Label.number (end) = subst (LabelAnswer c.args.text.now c.args.at) c.in-Label.is c.label_line.ensures in
-    omega (arith, (line).lies.within)
-
-pub find-before-requires : goal.find-before-requires
-find-before-requires c =
-    let end : ℕ = c.in-Label.end in
-    let line : Labelled c.args.text.now c.args.at c.in-Label.number (end) = subst (LabelAnswer c.args.text.now c.args.at) c.in-Label.is c.label_line.ensures in
-    let a = c.args in
-    omega (arith, (line).ends, length-take (end - (a.at + 7)) (drop (a.at + 7) a.text.now))
-
-pub returns-in-At : goal.returns-in-At
-returns-in-At c =
-    let end : ℕ = c.in-Label.end in
-    let line : Labelled c.args.text.now c.args.at c.in-Label.number (end) = subst (LabelAnswer c.args.text.now c.args.at) c.in-Label.is c.label_line.ensures in
+pub returns-then-is_some : goal.returns-then-is_some
+returns-then-is_some c =
+    let end = c.in-Some.field-0.end in
+    let line : Labelled c.args.text.now c.args.at c.in-Some.field-0.number end = c.in-Some.ensures in
     let used-before : (t : Bool) → is_some (found_in c.find-before.result) ≡ t → (names : List (List ℕ)) → length names ≡ c.args.count
     → every is_name names ≡ true → c.args.names.now ≡ name_bytes names → used names (drop 7 (line).bytes) ≡ t = λ t h names e f g. let a = c.args in
     let name = take (end - (a.at + 7)) (drop (a.at + 7) a.text.now) in
@@ -78,43 +58,12 @@ returns-in-At c =
     let l = line in
     λ h left names e f g.
     label-repeated h a.text.now a.at left names (end + 1) l.bytes l.lies _ (omega arith) (omega (arith, l.numbered, c.if-number-count.false))
-    (used-before true (ap (λ r. is_some (found_in r)) c.in-At.is) names e f g)
-
-pub slice_bounds-write_name-count : goal.slice_bounds-write_name-count
-slice_bounds-write_name-count c =
-    let end : ℕ = c.in-Label.end in
-    let line : Labelled c.args.text.now c.args.at c.in-Label.number (end) = subst (LabelAnswer c.args.text.now c.args.at) c.in-Label.is c.label_line.ensures in
-    omega (arith, (line).starts)
-
-pub slice_bounds-write_name-start : goal.slice_bounds-write_name-start
-slice_bounds-write_name-start c =
-    let end : ℕ = c.in-Label.end in
-    let line : Labelled c.args.text.now c.args.at c.in-Label.number (end) = subst (LabelAnswer c.args.text.now c.args.at) c.in-Label.is c.label_line.ensures in
-    omega (arith, (line).starts)
-
-pub slice_bounds-write_name-end : goal.slice_bounds-write_name-end
-slice_bounds-write_name-end c =
-    let end : ℕ = c.in-Label.end in
-    let line : Labelled c.args.text.now c.args.at c.in-Label.number (end) = subst (LabelAnswer c.args.text.now c.args.at) c.in-Label.is c.label_line.ensures in
-    omega (arith, (line).lies.within)
-
-pub write_name-requires : goal.write_name-requires
-write_name-requires c =
-    let end : ℕ = c.in-Label.end in
-    let line : Labelled c.args.text.now c.args.at c.in-Label.number (end) = subst (LabelAnswer c.args.text.now c.args.at) c.in-Label.is c.label_line.ensures in
-    let a = c.args in
-    omega (arith, (line).ends, length-take (end - (a.at + 7)) (drop (a.at + 7) a.text.now), c.requires)
-
-pub overflow_add-result : goal.overflow_add-result
-overflow_add-result c =
-    let end : ℕ = c.in-Label.end in
-    let line : Labelled c.args.text.now c.args.at c.in-Label.number (end) = subst (LabelAnswer c.args.text.now c.args.at) c.in-Label.is c.label_line.ensures in
-    omega (arith, (line).lies.within, c.requires.0)
+    (used-before true (sym (found_or_not c.find-before.result) ∙ sym c.is_some.ensures ∙ c.if-is_some.true) names e f g)
 
 pub returns : goal.returns
 returns c =
-    let end : ℕ = c.in-Label.end in
-    let line : Labelled c.args.text.now c.args.at c.in-Label.number (end) = subst (LabelAnswer c.args.text.now c.args.at) c.in-Label.is c.label_line.ensures in
+    let end = c.in-Some.field-0.end in
+    let line : Labelled c.args.text.now c.args.at c.in-Some.field-0.number end = c.in-Some.ensures in
     let used-before : (t : Bool) → is_some (found_in c.find-before.result) ≡ t → (names : List (List ℕ)) → length names ≡ c.args.count
     → every is_name names ≡ true → c.args.names.now ≡ name_bytes names → used names (drop 7 (line).bytes) ≡ t = λ t h names e f g. let a = c.args in
     let name = take (end - (a.at + 7)) (drop (a.at + 7) a.text.now) in
@@ -123,7 +72,7 @@ returns c =
     let l = line in
     let bytes = l.bytes in
     let named = (and-true-of (same_bytes bytes (label_line (value_at 0 bytes) (drop 7 bytes))) (is_name (drop 7 bytes)) l.lies.laid_out).1 in
-    let unused = used-before false (ap (λ r. is_some (found_in r)) c.in_default-before.is) in
+    let unused = used-before false (sym (found_or_not c.find-before.result) ∙ sym c.is_some.ensures ∙ c.if-is_some.false) in
     λ h left names e f g. record {
       name = drop 7 bytes;
       is_name = named;

@@ -1,6 +1,5 @@
 -- `read_labels` reads every label: the invariant is `NamesSoFar`.
 use mathlib.Core.Path.{◌≡◌}
-use Prim.Native.Nat.{◌-◌}
 use lib.ListN.{length}
 use Rattle.lts.specs.inner.Sizes.{names_length}
 use Rattle.table_text.proofs.Laws.Readings.{NamesSoFar}
@@ -8,7 +7,4 @@ use Rattle.table_lines.specs.inner.LineReplies.{header}
 use Rattle.table_text.proofs.read_labels.Given as goal
 
 abbrev pub invariant-loop-count : goal.invariant-loop-count
-invariant-loop-count l = NamesSoFar (header l.counts) l.text l.from l.names l.at l.count × (length l.names ≡ names_length)
-
-abbrev pub decreases-loop-count : goal.decreases-loop-count
-decreases-loop-count l = l.counts.labels - l.count
+invariant-loop-count l = NamesSoFar (header l.fn.counts) l.text l.from l.names l.at l.count × (length l.names ≡ names_length)

@@ -1,20 +1,18 @@
 -- `read_transition` says what one more line of a transition makes of the reading, and keeps it.
-use mathlib.Core.Path.{◌≡◌, sym, ap, ◌∙◌, subst}
+use mathlib.Core.Path.{◌≡◌, sym, ap, ◌∙◌}
 use mathlib.Core.Bool.{true}
 use mathlib.Core.List.{List}
 use borrow.Author.Tests.{eqb-true, eqb-false}
-use Prim.Native.Nat.{ℕ, suc, ◌+◌, ◌*◌}
-use lib.ListN.{drop}
+use Prim.Native.Nat.{ℕ, ◌+◌, ◌*◌}
 use native.Mathlib.Omega.{arith}
 use Rattle.lts.specs.Sizes.{transition_length}
-use Rattle.table_text.proofs.Laws.Progress.{transition_refused, transition_number-refused, transition_not-rising, transition_accepted}
+use Rattle.table_text.proofs.Laws.Progress.{transition_refused, transition_out_of_range, transition_not-rising, transition_accepted}
 use Rattle.lts.proofs.Laws.SlotBytes.{step-written, rises_stored}
 use Rattle.columns.specs.inner.Write.{pasted}
-use Rattle.table_lines.specs.inner.LineReplies.{TransitionAnswer, NumbersAt, header}
+use Rattle.table_lines.specs.inner.LineReplies.{NumbersAt, header}
 use Rattle.tables.specs.inner.Access.{step_in}
 use Rattle.lts.specs.inner.Lines.{LineAt}
-use Rattle.lts.specs.Reading.{step_in_range, step_of, step_laid_out, read_transitions}
-use Rattle.table_text.specs.inner.Progress.{Refuses}
+use Rattle.lts.specs.Reading.{step_in_range, step_of, step_laid_out}
 use Rattle.lts.specs.Prepared.{transition_slot}
 use Rattle.tables.specs.declared.prepared.Transition.{Transition}
 use Rattle.lts.proofs.Laws.Tests.{step_range_of}
@@ -25,42 +23,35 @@ returns-in_default c =
     let a = c.args in
     let s = a.text.now in
     λ left names steps e f g. transition_refused (header a.counts) s a.at left names steps _ (omega arith)
-    (subst (TransitionAnswer s a.at) c.in_default.is c.transition_line.ensures)
+    c.in_default.ensures
+
+pub returns-then-not-stands : goal.returns-then-not-stands
+returns-then-not-stands c =
+    let text : List ℕ = c.args.text.now in
+    let read : Transition = c.in-Some.t in
+    let numbers : NumbersAt (text) c.args.at (step_in (read)) = c.in-Some.ensures in
+    let a = c.args in
+    λ left names steps e f g. transition_refused (header a.counts) a.text.now a.at left names steps _ (omega arith)
+    ((numbers).unended (eqb-false _ _ (sym c.if-not-stands.ensures)))
 
 pub returns-then-not-transition_in_range : goal.returns-then-not-transition_in_range
 returns-then-not-transition_in_range c =
     let text : List ℕ = c.args.text.now in
-    let read : Transition = c.in-Row.t in
-    let numbers : NumbersAt (text) c.args.at (step_in (read)) = subst (TransitionAnswer (text) c.args.at) c.in-Row.is c.transition_line.ensures in
-    let stood = c.stands-ended in
+    let read : Transition = c.in-Some.t in
+    let numbers : NumbersAt (text) c.args.at (step_in (read)) = c.in-Some.ensures in
     let a = c.args in
-    let h = header a.counts in
-    let n = a.counts.labels + a.count + 2 in
-    λ left names steps e f g. subst (Refuses (read_transitions h names (suc left) steps (drop a.at a.text.now))) (sym c.number_refused.ensures)
-    (transition_number-refused h a.text.now a.at left names steps (a.at + 19) (step_in (read)) stood.result
-    (λ r. (numbers).ended (eqb-true _ _ (sym stood.ensures ∙ r)))
-    (λ r. (numbers).unended (eqb-false _ _ (sym stood.ensures ∙ r)))
-    (sym c.transition_in_range.ensures ∙ c.if-not-transition_in_range.true)
-    n
-    (omega arith))
-
-pub returns-then-not-ended : goal.returns-then-not-ended
-returns-then-not-ended c =
-    let text : List ℕ = c.args.text.now in
-    let read : Transition = c.in-Row.t in
-    let numbers : NumbersAt (text) c.args.at (step_in (read)) = subst (TransitionAnswer (text) c.args.at) c.in-Row.is c.transition_line.ensures in
-    let a = c.args in
-    λ left names steps e f g. transition_refused (header a.counts) a.text.now a.at left names steps _ (omega arith)
-    ((numbers).unended (eqb-false _ _ (sym c.stands-ended.ensures ∙ c.if-not-ended.true)))
+    let (l, lies, values) = (numbers).ended (eqb-true _ _ (sym c.if-not-stands.ensures)) in
+    λ left names steps e f g. transition_out_of_range (header a.counts) a.text.now a.at left names steps (a.at + 19) l lies (step_in (read)) values _ (omega arith)
+    (sym c.if-not-transition_in_range.ensures)
 
 pub returns-then-not-rises : goal.returns-then-not-rises
 returns-then-not-rises c =
     let text : List ℕ = c.args.text.now in
-    let read : Transition = c.in-Row.t in
-    let numbers : NumbersAt (text) c.args.at (step_in (read)) = subst (TransitionAnswer (text) c.args.at) c.in-Row.is c.transition_line.ensures in
+    let read : Transition = c.in-Some.t in
+    let numbers : NumbersAt (text) c.args.at (step_in (read)) = c.in-Some.ensures in
     let in_bounds : step_in_range (header c.args.counts) (step_in (read)) ≡ true = sym c.transition_in_range.ensures ∙ c.if-not-transition_in_range.false in
     let SaidAt : ℕ → Type 0 = λ at. (l : List ℕ) × LineAt step_laid_out (text) at (at + 19) l × (step_of l ≡ step_in (read)) in
-    let says : SaidAt c.args.at = (numbers).ended (eqb-true _ _ (sym c.stands-ended.ensures ∙ c.if-not-ended.false)) in
+    let says : SaidAt c.args.at = (numbers).ended (eqb-true _ _ (sym c.if-not-stands.ensures)) in
     let a = c.args in
     let t = step_in (read) in
     let (l, lies, values) = says in
@@ -69,7 +60,7 @@ returns-then-not-rises c =
 
 pub write_transition-requires : goal.write_transition-requires
 write_transition-requires c =
-    let read : Transition = c.in-Row.t in
+    let read : Transition = c.in-Some.t in
     let in_bounds : step_in_range (header c.args.counts) (step_in (read)) ≡ true = sym c.transition_in_range.ensures ∙ c.if-not-transition_in_range.false in
     let r = step_range_of (header c.args.counts) (step_in (read)) (in_bounds) in
     omega arith
@@ -77,11 +68,11 @@ write_transition-requires c =
 pub returns : goal.returns
 returns c =
     let text : List ℕ = c.args.text.now in
-    let read : Transition = c.in-Row.t in
-    let numbers : NumbersAt (text) c.args.at (step_in (read)) = subst (TransitionAnswer (text) c.args.at) c.in-Row.is c.transition_line.ensures in
+    let read : Transition = c.in-Some.t in
+    let numbers : NumbersAt (text) c.args.at (step_in (read)) = c.in-Some.ensures in
     let in_bounds : step_in_range (header c.args.counts) (step_in (read)) ≡ true = sym c.transition_in_range.ensures ∙ c.if-not-transition_in_range.false in
     let SaidAt : ℕ → Type 0 = λ at. (l : List ℕ) × LineAt step_laid_out (text) at (at + 19) l × (step_of l ≡ step_in (read)) in
-    let says : SaidAt c.args.at = (numbers).ended (eqb-true _ _ (sym c.stands-ended.ensures ∙ c.if-not-ended.false)) in
+    let says : SaidAt c.args.at = (numbers).ended (eqb-true _ _ (sym c.if-not-stands.ensures)) in
     let a = c.args in
     let t = step_in (read) in
     let (l, lies, values) = says in

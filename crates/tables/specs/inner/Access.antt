@@ -1,11 +1,9 @@
 -- What the accessors of prepared bytes answer, and which bytes they take.
-use Rattle.std.specs.Prelude.{◌≡◌, List, ℕ, ◌<◌}
-use Rattle.std.proofs.Math.Option.{Option, none, some}
+use Rattle.std.specs.Prelude.{◌≡◌, List, ℕ, ◌<◌, Option, Some, None}
+use Rattle.std.proofs.Math.Option as math
 use Rattle.lts.specs.Steps.{Step}
 use Rattle.lts.specs.inner.Prepared.{transition_at}
 use Rattle.tables.specs.declared.prepared.Transition.{Transition}
-use Rattle.tables.specs.declared.lookup.Lookup.{Lookup}
-use Rattle.tables.specs.declared.lookup.Lookup.TheVariants.{At, Nowhere}
 
 abbrev pub step_in : Transition → Step
 step_in r = record { from = r.from; label = r.label; to = r.to }
@@ -17,7 +15,7 @@ pub record StepRead (b : List ℕ) (k : ℕ) (r : Transition) : Type 0 where
   pub label_byte : r.label < 256
   pub to_byte : r.to < 256
 
--- A label's number, if there is one.
-abbrev pub found_in : Lookup → Option ℕ
-found_in (At k) = some k
-found_in Nowhere = none
+-- What is found, as a definition that looks for it says so.
+abbrev pub found_in : Option ℕ → math.Option ℕ
+found_in (Some k) = math.some k
+found_in None = math.none

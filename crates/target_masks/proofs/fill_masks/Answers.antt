@@ -17,7 +17,6 @@ pub loop-k-init : goal.loop-k-init
 loop-k-init c =
     let n = c.node_count-k.ensures in
     let none = c.requires.cleared in (
-      omega (arith, n),
       none.0,
       λ i. subst (λ m. m < 2199023255552) (sym (none.1 i)) (omega arith),
       λ F p. subst (λ k. MasksOf F k c.args.masks.now) (sym (n ∙ p.count)) (masks_end F _ none.1),
@@ -29,17 +28,17 @@ mask_place-requires c =
       formula_length_in_bounds = (c.requires.formula_length_in_bounds, omega arith);
       spells = c.requires.spells;
       masks_on =
-          λ F p. masks_from c.loop-k-test.true l.invariant.1 l.invariant.2 (l.invariant.3 F p);
+          λ F p. masks_from c.loop-k-test.true l.invariant.0 l.invariant.1 (l.invariant.2 F p);
     }
 
 pub loop-k-preserved : goal.loop-k-preserved
 loop-k-preserved c =
     let p = c.requires.spells in
     let m = c.mask_place.ensures p.0 p.1 in
-    (omega arith, m.long, m.fit, λ F q. masks_next (c.mask_place.ensures F q))
+    (m.long, m.fit, λ F q. masks_next (c.mask_place.ensures F q))
 
 pub returns : goal.returns
 returns c =
     let l = c.loop-k in
     let e : l.k ≡ 0 = omega arith in
-    λ F p. (subst (λ k. MasksOf F k l.masks) e (l.invariant.3 F p), l.invariant.2)
+    λ F p. (subst (λ k. MasksOf F k l.masks) e (l.invariant.2 F p), l.invariant.1)

@@ -10,7 +10,4 @@ use Rattle.target_masks.proofs.Laws.Places.{masks_from, masks_next, masks_end}
 use Rattle.target_masks.proofs.fill_masks.Given as goal
 
 abbrev pub invariant-loop-k : goal.invariant-loop-k
-invariant-loop-k l = (l.k ≤ get_or l.formula 0 0) × (length l.masks ≡ masks_length) × MasksFit l.masks × ((F : Formula) → Spells l.formula l.ends F → MasksOf F l.k l.masks)
-
-abbrev pub decreases-loop-k : goal.decreases-loop-k
-decreases-loop-k l = l.k
+invariant-loop-k l = (length l.masks ≡ masks_length) × MasksFit l.masks × ((F : Formula) → Spells l.formula l.ends F → MasksOf F l.k l.masks)

@@ -18,11 +18,9 @@ node_count-k-requires c =
 
 pub loop-k-init : goal.loop-k-init
 loop-k-init c =
-    let n = c.node_count-k.ensures in (
-      omega (arith, n),
-      λ F p. subst (λ k. FinalsOf F k (replicate place_count true)) (sym (n ∙ p.count))
-          (finals_end F _ (length-replicate place_count true) (λ i h. get_or-replicate place_count i true false h) p.few),
-    )
+    let n = c.node_count-k.ensures in
+    λ F p. subst (λ k. FinalsOf F k (replicate place_count true)) (sym (n ∙ p.count))
+    (finals_end F _ (length-replicate place_count true) (λ i h. get_or-replicate place_count i true false h) p.few)
 
 pub overflow_add-arm : goal.overflow_add-arm
 overflow_add-arm c =
@@ -57,14 +55,12 @@ pub loop-k-preserved : goal.loop-k-preserved
 loop-k-preserved c =
     let l = c.loop-k in
     let other = c.other_arm in
-    let node = c.node_at in (
-      omega arith,
-      λ F p. finals_turn p (l.k - 1) (omega arith) other.result other.ensures.value l.finals
-          (finals_from c.loop-k-test.true (l.invariant.1 F p)) node.result node.ensures _ c.node_final.ensures,
-    )
+    let node = c.node_at in
+    λ F p. finals_turn p (l.k - 1) (omega arith) other.result other.ensures.value l.finals
+    (finals_from c.loop-k-test.true (l.invariant F p)) node.result node.ensures _ c.node_final.ensures
 
 pub returns : goal.returns
 returns c =
     let l = c.loop-k in
     let e : l.k ≡ 0 = omega arith in
-    λ F p. subst (λ k. FinalsOf F k l.finals) e (l.invariant.1 F p)
+    λ F p. subst (λ k. FinalsOf F k l.finals) e (l.invariant F p)

@@ -13,7 +13,4 @@ use borrow.Author.Rules.{rules}
 use Rattle.target_masks.proofs.final_places.Given as goal
 
 abbrev pub invariant-loop-k : goal.invariant-loop-k
-invariant-loop-k l = (l.k ≤ get_or l.formula 0 0) × ((F : Formula) → Spells l.formula l.ends F → FinalsOf F l.k l.finals)
-
-abbrev pub decreases-loop-k : goal.decreases-loop-k
-decreases-loop-k l = l.k
+invariant-loop-k l = (F : Formula) → Spells l.formula l.ends F → FinalsOf F l.k l.finals

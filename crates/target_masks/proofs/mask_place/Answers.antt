@@ -122,14 +122,6 @@ bounds-masks-k-in-loop-l c =
     let few-here : (c.args.k < most_nodes) × (c.column-at.result < place_count) = (few, c.column-at.ensures.1) in
     omega (arith, few-here)
 
-pub overflow_add-l : goal.overflow_add-l
-overflow_add-l c =
-    omega (arith, c.loop-l-test.true)
-
-pub loop-l-smaller : goal.loop-l-smaller
-loop-l-smaller c =
-    omega (arith, c.loop-l-test.true)
-
 pub loop-l-preserved : goal.loop-l-preserved
 loop-l-preserved c =
     let found = c.column-at in

@@ -12,6 +12,3 @@ use Rattle.target_masks.proofs.mask_place.Given as goal
 
 abbrev pub invariant-loop-l : goal.invariant-loop-l
 invariant-loop-l turn = (turn.l ≤ place_count) × ((F : Formula) → Spells turn.formula turn.ends F → MasksOn F turn.k turn.l turn.masks)
-
-abbrev pub decreases-loop-l : goal.decreases-loop-l
-decreases-loop-l turn = place_count - turn.l

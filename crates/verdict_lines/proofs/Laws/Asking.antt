@@ -37,9 +37,8 @@ module _ (table_text text starts : List ℕ) where
   unfolding verdicts_over
   of-read e = of-readings (verdicts_of starts) table_text text ∙ ap (λ r. and_then r asking) e
 
-  pub refused_texts : (buffer : List ℕ) (n g : ℕ) → readings table_text text ≡ refusal n g
-      → Asked table_text text starts buffer buffer (record { number = n; figure = g })
-  refused_texts buffer n g d =
+  pub refused_texts : (buffer : List ℕ) (a : Answer) → readings table_text text ≡ refusal a.number a.figure → Asked table_text text starts buffer buffer a
+  refused_texts buffer a d =
       let is = of-read d in
       record {
         says = record { number_said = sym (ap number_in is); figure_said = sym (ap (figure_in joint) is) };

@@ -1,6 +1,6 @@
 -- `write_lines` meets its contract: a refusal's line, or the lines of the list.
 use borrow.Author.Rules.{rules}
-use mathlib.Core.Path.{◌≡◌, sym, ap, ◌∙◌}
+use mathlib.Core.Path.{◌≡◌, refl, sym, ap, ◌∙◌}
 use Prim.Native.Nat.{◌≤◌, ◌<◌}
 use native.Mathlib.Omega.{arith}
 use lib.ListN.{length, take}
@@ -22,30 +22,27 @@ slice_bounds-ask-end c =
     omega (arith, c.requires.0, entries-count c.args.list.now, c.read_list-count.ensures.few, c.read_list-count.ensures.places) in
     sym (length-take-le c.read_list-count.result c.read_list-count.new.starts (fits))
 
-pub returns-then-said-ne0 : goal.returns-then-said-ne0
-returns-then-said-ne0 c =
+pub returns-in-Err : goal.returns-in-Err
+returns-in-Err c =
     let call = c.write_refused in
-    let written = refused-lines _ _ _ _ _ _ _ c.read_list-count.ensures c.ask-said.ensures _ (λ e. omega (arith, c.if-said-ne0.true)) call.ensures in
+    let written = refused-lines _ _ _ _ _ _ _ c.read_list-count.ensures c.in-Err.ensures.1 _ c.in-Err.ensures.0 call.ensures in
     record { text_written = written; prefix_length = written-counts written (omega arith) }
 
 pub returns-then-count-entry_count : goal.returns-then-count-entry_count
 returns-then-count-entry_count c =
-    let zero : c.ask-said.result.number ≡ 0 = omega (arith, c.if-said-ne0.false) in
     let call = c.write_refused-then-count-entry_count in
-    let written = stopped_lines _ _ _ _ _ _ _ c.read_list-count.ensures c.ask-said.ensures _ (zero)
+    let written = stopped_lines _ _ _ _ _ _ _ c.read_list-count.ensures c.in-Ok.ensures _ refl
     (omega (arith, c.if-count-entry_count.true, c.entry_count.ensures.value)) call.ensures in record { text_written = written; prefix_length = written-counts written (omega arith) }
 
 pub write_answers-requires : goal.write_answers-requires
 write_answers-requires c =
     let fits : c.read_list-count.result ≤ length c.read_list-count.new.starts =
     omega (arith, c.requires.0, entries-count c.args.list.now, c.read_list-count.ensures.few, c.read_list-count.ensures.places) in
-    let zero : c.ask-said.result.number ≡ 0 = omega (arith, c.if-said-ne0.false) in
-    let listed = was_listed _ _ _ _ _ _ _ c.read_list-count.ensures c.ask-said.ensures 0 (zero) in
-    record { joint_bound = (listed.small, listed.few); count_in_bounds = (fits, omega (arith, listed.few, c.ask-said.auto.answers), c.requires.1) }
+    let listed = was_listed _ _ _ _ _ _ _ c.read_list-count.ensures c.in-Ok.ensures 0 refl in
+    record { joint_bound = (listed.small, listed.few); count_in_bounds = (fits, omega (arith, listed.few, c.ask.auto.answers), c.requires.1) }
 
 pub returns : goal.returns
 returns c =
-    let zero : c.ask-said.result.number ≡ 0 = omega (arith, c.if-said-ne0.false) in
     let call = c.write_answers in
-    let written = listed-lines _ _ _ _ _ _ _ c.read_list-count.ensures c.ask-said.ensures _ (zero)
+    let written = listed-lines _ _ _ _ _ _ _ c.read_list-count.ensures c.in-Ok.ensures _ refl
     (omega (arith, c.if-count-entry_count.false, c.entry_count.ensures.value)) call.ensures in record { text_written = written; prefix_length = written-counts written (omega arith) }

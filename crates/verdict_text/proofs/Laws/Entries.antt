@@ -1,16 +1,15 @@
 -- The entries of a list: how many there are, each by its place, and as bytes.
 use mathlib.Core.Path.{◌≡◌, refl, sym, ap, ◌∙◌}
-use mathlib.Core.Bool.{Bool, true, false, true≢false, cond}
+use mathlib.Core.Bool.{Bool, true, false, cond}
 use mathlib.Core.List.{List, [], ◌∷◌, ◌++◌}
 use Prim.Native.Nat.{ℕ, zero, suc, ◌+◌, ◌*◌, ◌/◌, ◌≤◌, ◌<◌}
 use native.Mathlib.Numerals.{add-one}
 use native.Mathlib.Omega.{arith}
 use lib.ListN.{length, get_or, set, take, drop, length-take, length-set}
-use lib.Seq.{take-nil, take-take, take_all, take-suc, take-suc-set, drop-drop}
+use lib.Seq.{take-nil, take-take, take-suc, take-suc-set, drop-drop}
 use Rattle.columns.specs.Bytes.{same_bytes}
 use Rattle.columns.specs.Columns.{column, value_at}
-use Rattle.columns.specs.declared.Column.{Column}
-use Rattle.columns.specs.declared.Column.TheVariants.{Number, Bad}
+use Rattle.std.specs.Prelude.{unwrap_or}
 use Rattle.columns.specs.inner.Read.{column_if, column_at}
 use Rattle.lts.specs.Sizes.{most_states}
 use Rattle.starts.specs.inner.Search.{enough_starts}
@@ -19,15 +18,11 @@ use Rattle.verdict_text.specs.inner.Entries.{ListRead}
 use Rattle.verdict_text.specs.inner.Sizes.{list_length}
 
 -- What six columns hold.
-abbrev pub value_or : Column → ℕ
-value_or (Number v) = v
-value_or Bad = most_states
-
-pub entry_of-column : (list : List ℕ) (at : ℕ) → entry_in (take 6 (drop at list)) ≡ value_or (column_at list at)
+pub entry_of-column : (list : List ℕ) (at : ℕ) → entry_in (take 6 (drop at list)) ≡ unwrap_or (column_at list at) most_states
 unfolding column_at
 entry_of-column list at = by (same_bytes (take 6 (drop at list)) (column (value_at at list))) (value_at at list)
   where
-    by : (b : Bool) (v : ℕ) → cond b v most_states ≡ value_or (column_if b v)
+    by : (b : Bool) (v : ℕ) → cond b v most_states ≡ unwrap_or (column_if b v) most_states
     by true v = refl
     by false v = refl
 

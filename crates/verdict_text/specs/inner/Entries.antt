@@ -1,7 +1,6 @@
--- What reading the list and writing the lines take and leave.
-use Rattle.std.specs.Prelude.{◌≡◌, List, [], ◌∷◌, ◌++◌, ℕ, ◌+◌, ◌*◌, ◌≤◌, ◌<◌, length, get_or, take}
+-- What reading the list leaves, and the lines of the entries.
+use Rattle.std.specs.Prelude.{◌≡◌, List, [], ◌∷◌, ◌++◌, ℕ, ◌≤◌, ◌<◌, length, get_or, take}
 use Rattle.columns.specs.Lines.{numbers_line}
-use Rattle.columns.specs.inner.Write.{pasted}
 use Rattle.lts.specs.Lists.{bind}
 use Rattle.lts.specs.Sizes.{most_states}
 use Rattle.lts.specs.inner.Lists.{up_from}
@@ -20,18 +19,3 @@ entry_line starts answers i = numbers_line (get_or starts i 0 ∷ get_or answers
 
 abbrev pub entry_lines : ℕ → ℕ → List ℕ → List ℕ → List ℕ
 entry_lines answer count starts answers = numbers_line (answer ∷ count ∷ []) ++ bind (entry_line starts answers) (up_from 0 count)
-
--- A line of two numbers, and the lines of the first `count` entries, in a buffer that held `before`.
-pub record PairWritten (a b at : ℕ) (before out : List ℕ) (end : ℕ) : Type 0 where
-  pub is : out ≡ pasted before at (numbers_line (a ∷ b ∷ []))
-  pub ends : end ≡ at + length (numbers_line (a ∷ b ∷ []))
-
-pub record EntriesFit (starts answers : List ℕ) (count at : ℕ) (out : List ℕ) : Type 0 where
-  pub listed : count ≤ length starts
-  pub answered : count ≤ length answers
-  pub room : at + count * 13 + 81 ≤ length out
-
-pub record EntriesWritten (starts answers : List ℕ) (count at : ℕ) (before out : List ℕ) (end : ℕ) : Type 0 where
-  pub is : out ≡ pasted before at (bind (entry_line starts answers) (up_from 0 count))
-  pub ends : end ≡ at + length (bind (entry_line starts answers) (up_from 0 count))
-  pub wide : end ≡ at + count * 13

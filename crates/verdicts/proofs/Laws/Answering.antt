@@ -1,10 +1,10 @@
 -- Answers written one by one from the flags of a labelling, and what they are.
 use mathlib.Core.Path.{◌≡◌, refl, sym, ap, ◌∙◌}
 use mathlib.Core.Bool.{Bool, true, false, cond, ◌&&◌}
+use Rattle.std.specs.Int.{from_bool}
 use mathlib.Core.List.{List, [], ◌∷◌, ◌++◌, map}
 use mathlib.Core.Option.{none, some}
 use Prim.Native.Nat.{ℕ, ◌+◌, ◌≤◌, ◌<◌}
-use native.Mathlib.Nat.{zero-add}
 use native.Mathlib.Numerals.{add-one}
 use native.Mathlib.Omega.{arith}
 use lib.Dec.{eqb}
@@ -81,6 +81,10 @@ module _ (flags : List Bool) (starts buffer : List ℕ) where
 
   pub answered-jointly : (i : ℕ) {now : List ℕ} {all : Bool} → length starts ≤ i → AnsweredBelow i now all → all ≡ every (flag_at flags) starts
   answered-jointly i h d = d.jointly ∙ ap (every (flag_at flags)) (take_all i starts h)
+
+pub bit_is : (b : Bool) → from_bool b ≡ cond b 1 0
+bit_is true = refl
+bit_is false = refl
 
 -- The bits of one labelling are the verdicts of the tables with each start.
 module _ (table formula starts : List ℕ) (flags : List Bool) (labelled : NodesLabelled table formula flags)

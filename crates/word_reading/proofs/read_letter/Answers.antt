@@ -20,7 +20,7 @@ idle from masks reached label s next e = ap (λ b. cond b (places_read (from s) 
 pub loop-s-init : goal.loop-s-init
 loop-s-init c =
     let a = c.args in
-    let label = c.wide-label.result in
+    let label = c.from-label.result in
     let from = steps_in a.steps.now a.firsts.now in
     let first = c.next_state-s.ensures in
     (first.found, left_skip (state_read from a.masks.now a.reached.now label) 256 (has_state a.reached.now) (idle from a.masks.now a.reached.now label) _ first)
@@ -35,7 +35,7 @@ bounds-reached-s c =
 
 pub read_places-requires : goal.read_places-requires
 read_places-requires c =
-    record { steps_fit = c.requires.steps_fit; carried = (subst Carried (sym c.wide-label.ensures) c.requires.carried, c.loop-s-test.true) }
+    record { steps_fit = c.requires.steps_fit; carried = (subst Carried (sym c.from-label.ensures) c.requires.carried, c.loop-s-test.true) }
 
 pub overflow_add-s : goal.overflow_add-s
 overflow_add-s c =
@@ -52,7 +52,7 @@ loop-s-smaller c =
 pub loop-s-preserved : goal.loop-s-preserved
 loop-s-preserved c =
     let a = c.args in
-    let label = c.wide-label.result in
+    let label = c.from-label.result in
     let loop = c.loop-s in
     let taken = c.loop-s-test.true in
     let from = steps_in a.steps.now a.firsts.now in
@@ -67,7 +67,7 @@ loop-s-preserved c =
 pub returns : goal.returns
 returns c =
     let a = c.args in
-    let wide = c.wide-label in
+    let wide = c.from-label in
     let f = state_read (steps_in a.steps.now a.firsts.now) a.masks.now a.reached.now in
     let loop = c.loop-s in
     let over = left_over (f wide.result) 256 loop.s loop.next c.loop-s-test.false in

@@ -4,7 +4,7 @@ use Prim.Native.Nat.{ℕ, ◌≤◌, ◌<◌, ◌+◌, ◌-◌}
 use native.Mathlib.Omega.{arith}
 use Rattle.lts.specs.inner.Sizes.{most_steps}
 use Rattle.table_steps.specs.inner.StepArray.{steps_between, steps_in, span_of}
-use Rattle.table_steps.specs.declared.Span.{Span}
+use Rattle.lts.specs.declared.spans.Span.{Span}
 use Rattle.frontier.specs.inner.Reached.{steps_taken}
 use Rattle.frontier.proofs.Laws.Left.{steps_next, steps_over}
 use Rattle.word_reading.proofs.take_steps.Goals as goal
@@ -23,15 +23,6 @@ pub take_step-requires : goal.take_step-requires
 take_step-requires c =
     let placed : c.loop-k.k < most_steps = omega (arith, c.loop-k-test.true, c.loop-k.invariant.0, c.requires.steps_fit.few c.args.s c.requires.s_lt_most_states) in
     placed
-
-pub overflow_add-k : goal.overflow_add-k
-overflow_add-k c =
-    let placed : c.loop-k.k < most_steps = omega (arith, c.loop-k-test.true, c.loop-k.invariant.0, c.requires.steps_fit.few c.args.s c.requires.s_lt_most_states) in
-    omega (arith, placed)
-
-pub loop-k-smaller : goal.loop-k-smaller
-loop-k-smaller c =
-    omega (arith, c.loop-k-test.true)
 
 pub loop-k-preserved : goal.loop-k-preserved
 loop-k-preserved c =

@@ -1,11 +1,10 @@
 -- `bad_letter` meets its contract: the letters below i are labels.
 use mathlib.Core.Path.{◌≡◌, sym, ap, ◌∙◌}
-use Prim.Native.Nat.{◌≤◌, ◌<◌, ◌-◌}
+use Prim.Native.Nat.{◌<◌}
 use native.Mathlib.Omega.{arith}
-use borrow.Author.Rules.{rules}
-use lib.ListN.{length, get_or}
-use Rattle.automaton.specs.WordAsked.{is_bad, bad_letter}
-use Rattle.frontier.proofs.Laws.Left.{bad_left, bad_start, bad_over, bad_full, bad_here, bad_later}
+use lib.ListN.{get_or}
+use Rattle.automaton.specs.WordAsked.{is_bad}
+use Rattle.frontier.proofs.Laws.Left.{bad_start, bad_over, bad_full, bad_here, bad_later}
 use Rattle.words.proofs.bad_letter.Goals as goal
 
 pub loop-i-init : goal.loop-i-init
@@ -24,23 +23,14 @@ bounds-word-i c =
 pub returns-then-is_bad : goal.returns-then-is_bad
 returns-then-is_bad c =
     let few : c.loop-i.i < 1024 = omega (arith, c.if-i-eq-LONGEST_WORD.false, c.loop-i.invariant.0) in
-    let told : is_bad c.args.labels (get_or c.args.word.now c.loop-i.i 0) ≡ c.is_bad.result = ap (is_bad c.args.labels) (sym c.wide.ensures) ∙ sym c.is_bad.ensures in
+    let told : is_bad c.args.labels (get_or c.args.word.now c.loop-i.i 0) ≡ c.is_bad.result = ap (is_bad c.args.labels) (sym c.from.ensures) ∙ sym c.is_bad.ensures in
     let loop = c.loop-i in
     sym (loop.invariant.1 ∙ bad_here _ _ loop.i (few) c.loop-i-test.true (told ∙ c.if-is_bad.true))
-
-pub overflow_add-i : goal.overflow_add-i
-overflow_add-i c =
-    let few : c.loop-i.i < 1024 = omega (arith, c.if-i-eq-LONGEST_WORD.false, c.loop-i.invariant.0) in
-    omega (arith, few)
-
-pub loop-i-smaller : goal.loop-i-smaller
-loop-i-smaller c =
-    omega (arith, c.loop-i-test.true)
 
 pub loop-i-preserved : goal.loop-i-preserved
 loop-i-preserved c =
     let few : c.loop-i.i < 1024 = omega (arith, c.if-i-eq-LONGEST_WORD.false, c.loop-i.invariant.0) in
-    let told : is_bad c.args.labels (get_or c.args.word.now c.loop-i.i 0) ≡ c.is_bad.result = ap (is_bad c.args.labels) (sym c.wide.ensures) ∙ sym c.is_bad.ensures in
+    let told : is_bad c.args.labels (get_or c.args.word.now c.loop-i.i 0) ≡ c.is_bad.result = ap (is_bad c.args.labels) (sym c.from.ensures) ∙ sym c.is_bad.ensures in
     let loop = c.loop-i in
     (omega (arith, few), loop.invariant.1 ∙ bad_later _ _ loop.i (few) c.loop-i-test.true (told ∙ c.if-is_bad.false))
 

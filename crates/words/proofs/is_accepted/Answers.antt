@@ -1,6 +1,5 @@
 -- `is_accepted` meets its contract: what the word reaches has a final place exactly if the word is accepted.
-use mathlib.Core.Path.{◌≡◌, ap, ◌∙◌}
-use borrow.Author.Rules.{rules}
+use mathlib.Core.Path.{ap, ◌∙◌}
 use Prim.Native.Nat.{ℕ}
 use lib.ListN.{length-replicate}
 use Rattle.lts.specs.inner.Sizes.{most_steps, firsts_length}

@@ -1,9 +1,8 @@
 -- `is_bad` meets its contract: of the letters above the label count the idle step's alone is silent.
-use mathlib.Core.Path.{◌≡◌, refl, sym, ap, ◌∙◌}
+use mathlib.Core.Path.{sym, ap, ◌∙◌}
 use mathlib.Core.Bool.{not, ◌&&◌}
 use native.Mathlib.Omega.{arith}
-use lib.Dec.{eqb, ltb}
-use borrow.Author.Rules.{rules}
+use lib.Dec.{eqb}
 use borrow.Author.Tests.{lt-ltb, le-ltb}
 use Rattle.lts.specs.Idle.{idle_label}
 use Rattle.lts.proofs.Silence.{idle_alone}

@@ -1,10 +1,9 @@
 -- `some_final` meets its contract: no place below k is final.
-use mathlib.Core.Path.{◌≡◌, sym, ◌∙◌}
-use Prim.Native.Nat.{◌≤◌, ◌-◌}
+use mathlib.Core.Path.{sym, ◌∙◌}
 use native.Mathlib.Omega.{arith}
 use Rattle.automaton.specs.inner.Sizes.{place_count}
-use Rattle.frontier.specs.inner.Reached.{final_place, some_final}
-use Rattle.frontier.proofs.Laws.Left.{any_left, any-start, any_found, any-later, any_over}
+use Rattle.frontier.specs.inner.Reached.{final_place}
+use Rattle.frontier.proofs.Laws.Left.{any-start, any_found, any-later, any_over}
 use Rattle.words.proofs.some_final.Goals as goal
 
 pub loop-k-init : goal.loop-k-init
@@ -19,14 +18,6 @@ pub returns-then-is_final : goal.returns-then-is_final
 returns-then-is_final c =
     let loop = c.loop-k in
     sym (loop.invariant.1 ∙ any_found _ place_count loop.k c.loop-k-test.true (sym c.is_final.ensures ∙ c.if-is_final.true))
-
-pub overflow_add-k : goal.overflow_add-k
-overflow_add-k c =
-    omega (arith, c.loop-k-test.true)
-
-pub loop-k-smaller : goal.loop-k-smaller
-loop-k-smaller c =
-    omega (arith, c.loop-k-test.true)
 
 pub loop-k-preserved : goal.loop-k-preserved
 loop-k-preserved c =

@@ -14,7 +14,8 @@ use Rattle.actl.specs.Sizes.{longest_text}
 use Rattle.actl.specs.Formulas.{Formula}
 use Rattle.actl.specs.inner.Prepared.{prepared_formula}
 use Rattle.written_back.specs.FormulaText.{formula_text}
-use Rattle.write_formula.specs.declared.WriteReply.TheVariants.{Written, TooLong}
+use Rattle.std.proofs.Common.{Ok, Err}
+use Rattle.write_formula.specs.declared.WriteRefusal.TheVariants.{TooLong}
 use Rattle.formula_walk.specs.inner.Walk.{TextAdded}
 use Rattle.write_formula.specs.inner.Line.{line_of, LineWritten}
 
@@ -35,13 +36,13 @@ module _ (table formula text e x : List ℕ) (n : ℕ) (t : TextAdded table form
     put_down : n ≤ longest_text → take n x ≡ line
     put_down h = (t.adds F f).made h
 
-  pub line-long : longest_text < n → LineWritten table formula text text (TooLong n)
+  pub line-long : longest_text < n → LineWritten table formula text text (Err (TooLong n))
   line-long h = record {
     replies = λ F f. sym (ap (answers length) (is-long F f h) ∙ ap (refusal 15) (sym (counted F f)));
     leaves = λ F f. sym (ap (λ r. left_in (λ s. s) r text) (is-long F f h));
   }
 
-  pub line-fits : {text' : List ℕ} → n ≤ longest_text → text' ≡ take (length (take n x)) (take n x) ++ drop (length (take n x)) text → LineWritten table formula text text' (Written n)
+  pub line-fits : {text' : List ℕ} → n ≤ longest_text → text' ≡ take (length (take n x)) (take n x) ++ drop (length (take n x)) text → LineWritten table formula text text' (Ok n)
   line-fits {text'} h d = record {
     replies = λ F f. sym (ap (answers length) (fits F f h) ∙ ap accepted (sym (counted F f)));
     leaves = λ F f.

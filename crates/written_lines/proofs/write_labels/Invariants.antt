@@ -6,6 +6,3 @@ use Rattle.written_lines.proofs.write_labels.Given as goal
 
 abbrev pub invariant-loop-k : goal.invariant-loop-k
 invariant-loop-k l = LabelsBelow l.table l.initial.text l.at l.k l.text l.end × (l.k ≤ l.count) × (l.end ≤ l.at + l.k * label_width)
-
-abbrev pub decreases-loop-k : goal.decreases-loop-k
-decreases-loop-k l = l.count - l.k

@@ -7,6 +7,3 @@ use Rattle.written_lines.proofs.write_steps.Given as goal
 
 abbrev pub invariant-loop-k : goal.invariant-loop-k
 invariant-loop-k l = StepsBelow l.table l.initial.text l.at l.k l.text l.end × (l.k ≤ l.count) × (l.end ≡ l.at + l.k * step_width)
-
-abbrev pub decreases-loop-k : goal.decreases-loop-k
-decreases-loop-k l = l.count - l.k

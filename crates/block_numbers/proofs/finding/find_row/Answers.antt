@@ -19,8 +19,8 @@ pub bounds-rows-i : goal.bounds-rows-i
 bounds-rows-i c =
     omega (arith, c.requires.columns_le_most_letters.1.0, c.requires.rows.0.few)
 
-pub overflow_mul-at : goal.overflow_mul-at
-overflow_mul-at c =
+pub overflow_mul-first : goal.overflow_mul-first
+overflow_mul-first c =
     let row_small : get_or c.args.rows.now c.args.i 0 < c.args.n = let a = c.args in
     let w = c.requires.rows in
     let l = take a.t.rows a.rows.now in
@@ -41,7 +41,7 @@ overflow_add-end c =
 
 pub loop-at-init : goal.loop-at-init
 loop-at-init c =
-    let w = c.requires.rows in (omega arith, w.0, w.1, refl, refl)
+    let w = c.requires.rows in (w.0, w.1, refl, refl)
 
 pub find_step-totals-requires : goal.find_step-totals-requires
 find_step-totals-requires c =
@@ -56,7 +56,7 @@ find_step-totals-requires c =
     let first = c.wide-block.result * most_letters in
     let end = first + a.columns in
     let count = count_from a.next.now a.blocks.now a.n in
-    let counted : l.totals.edges + count l.at (end - l.at) ≡ a.t.edges + count first (end - first) = l.invariant.4 in
+    let counted : l.totals.edges + count l.at (end - l.at) ≡ a.t.edges + count first (end - first) = l.invariant.3 in
     let few = count-few a.next.now a.blocks.now a.n first (end - first) in
     let in_table : l.at < most_sets * most_letters = omega (arith, block-small, c.requires.columns_le_most_letters.0, c.loop-at-test.true) in
     record {
@@ -73,22 +73,8 @@ find_step-totals-requires c =
           c.requires.rows.0.few,
         ),
       );
-      rows = (l.invariant.1, l.invariant.2);
+      rows = (l.invariant.0, l.invariant.1);
     }
-
-pub overflow_add-at : goal.overflow_add-at
-overflow_add-at c =
-    let row_small : get_or c.args.rows.now c.args.i 0 < c.args.n = let a = c.args in
-    let w = c.requires.rows in
-    let l = take a.t.rows a.rows.now in
-    let m = get_d_mem l a.i 0 (omega (arith, rows-length w.0 0, c.requires.columns_le_most_letters.1.0)) in
-    subst (λ (k : ℕ). k < a.n) (get_or-take a.t.rows a.rows.now a.i 0 c.requires.columns_le_most_letters.1.0) (w.1.inside (get_or l a.i 0) m) in
-    let block-small : c.wide-block.result < 256 = omega (arith, c.wide-block.ensures, row_small, c.requires.n_le_most_sets.0) in
-    omega (arith, block-small, c.requires.columns_le_most_letters.0, c.loop-at-test.true)
-
-pub loop-at-smaller : goal.loop-at-smaller
-loop-at-smaller c =
-    omega (arith, c.loop-at-test.true)
 
 pub loop-at-preserved : goal.loop-at-preserved
 loop-at-preserved c =
@@ -99,11 +85,10 @@ loop-at-preserved c =
     let rows = take l.totals.rows l.rows in
     let left = taken_turn a.next.now a.blocks.now a.n l.at end taken rows in
     let counted = count_turn a.next.now a.blocks.now a.n l.at end taken in (
-      omega (arith, taken),
       c.find_step-totals.ensures.rows_2.0,
       c.find_step-totals.ensures.rows_2.1,
-      ap (taken_from a.next.now a.blocks.now a.n (l.at + 1) (end - (l.at + 1))) c.find_step-totals.ensures.rows_after ∙ (sym left ∙ l.invariant.3),
-      omega (arith, c.find_step-totals.ensures.edges_value, counted, l.invariant.4),
+      ap (taken_from a.next.now a.blocks.now a.n (l.at + 1) (end - (l.at + 1))) c.find_step-totals.ensures.rows_after ∙ (sym left ∙ l.invariant.2),
+      omega (arith, c.find_step-totals.ensures.edges_value, counted, l.invariant.3),
     )
 
 pub returns : goal.returns
@@ -119,11 +104,11 @@ returns c =
     let wide : end - first ≡ a.columns = omega arith in
     let over = taken_over a.next.now a.blocks.now a.n l.at end done rows in
     let counted = count_over a.next.now a.blocks.now a.n l.at end done in
-    let all : l.totals.edges ≡ a.t.edges + count_from a.next.now a.blocks.now a.n first (end - first) = omega (arith, counted, l.invariant.4) in
+    let all : l.totals.edges ≡ a.t.edges + count_from a.next.now a.blocks.now a.n first (end - first) = omega (arith, counted, l.invariant.3) in
     record {
-      rows_2 = (l.invariant.1, l.invariant.2);
+      rows_2 = (l.invariant.0, l.invariant.1);
       rows_after =
-          sym over ∙ (l.invariant.3 ∙ (λ j. taken_from a.next.now a.blocks.now a.n (at j) (wide j) begun));
+          sym over ∙ (l.invariant.2 ∙ (λ j. taken_from a.next.now a.blocks.now a.n (at j) (wide j) begun));
       edges_value =
           all ∙ (λ j. a.t.edges + count_from a.next.now a.blocks.now a.n (at j) (wide j));
     }

@@ -12,9 +12,6 @@ use Rattle.block_numbers.proofs.Laws.Entered.{rows-length, taken_turn, taken_ove
 use Rattle.block_numbers.proofs.finding.find_row.Given as goal
 
 abbrev pub invariant-loop-at : goal.invariant-loop-at
-invariant-loop-at l = (l.at ≤ l.end) × Rows l.rows l.numbers l.totals.rows × Within l.n (take l.totals.rows l.rows)
-    × (taken_from l.next l.blocks l.n l.at (l.end - l.at) (take l.totals.rows l.rows) ≡ taken_from l.next l.blocks l.n l.initial.at (l.end - l.initial.at) (take l.initial.totals.rows l.initial.rows))
-    × (l.totals.edges + count_from l.next l.blocks l.n l.at (l.end - l.at) ≡ l.initial.totals.edges + count_from l.next l.blocks l.n l.initial.at (l.end - l.initial.at))
-
-abbrev pub decreases-loop-at : goal.decreases-loop-at
-decreases-loop-at l = l.end - l.at
+invariant-loop-at l = Rows l.rows l.numbers l.totals.rows × Within l.n (take l.totals.rows l.rows)
+    × (taken_from l.next l.blocks l.n l.at (l.end - l.at) (take l.totals.rows l.rows) ≡ taken_from l.next l.blocks l.n l.first (l.end - l.first) (take l.initial.totals.rows l.initial.rows))
+    × (l.totals.edges + count_from l.next l.blocks l.n l.at (l.end - l.at) ≡ l.initial.totals.edges + count_from l.next l.blocks l.n l.first (l.end - l.first))

@@ -1,4 +1,3 @@
-use borrow.Author.Rules.{rules}
 use mathlib.Core.Path.{ap, ◌∙◌}
 use Rattle.actl.specs.Formulas.{class_of}
 use Rattle.actl.proofs.Nodes.{size_pos}
@@ -7,4 +6,4 @@ use Rattle.explaining.proofs.finishing.class_of.Goals as goal
 
 pub returns : goal.returns
 returns c =
-    λ n F e. c.wide.ensures ∙ (c.shape_of-shape.ensures n F e).classes 0 (size_pos F) ∙ ap class_of (first-node F)
+    λ n F e. c.from.ensures ∙ (c.shape_of-shape.ensures n F e).classes 0 (size_pos F) ∙ ap class_of (first-node F)

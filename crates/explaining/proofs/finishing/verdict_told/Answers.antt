@@ -1,7 +1,6 @@
 -- `verdict_told` meets its contract: something is explained if there is an edge or the mark is set; by the class, that says what holds.
 use mathlib.Core.Path.{◌≡◌, sym, ap, ◌∙◌}
 use mathlib.Core.Bool.{Bool, cond, not as negate, ◌||◌}
-use Prim.Native.Nat.{ℕ}
 use lib.Dec.{eqb, ltb}
 use borrow.Author.Tests.{lt-ltb, le-ltb, eq-eqb, ne_eqb}
 use Rattle.automaton.specs.Bytes.{bit_of}

@@ -14,15 +14,13 @@ returns-then-n-gt-NODES c =
     let a = c.args in
     λ F o h. answer-many a.nodes.now a.n a.lost a.formula.now F c.if-lost-ne0.false o h c.if-n-gt-NODES.true
 
-pub returns-in_default : goal.returns-in_default
-returns-in_default c =
+pub returns-in-Some : goal.returns-in-Some
+returns-in-Some c =
     let a = c.args in
     let b = a.nodes.now in
     λ F o h.
     let kinds = sym (kinds_are b a.n F h.count (h.made c.if-n-gt-NODES.false) c.if-n-gt-NODES.false) in
-    let None-found = ap classless_node (sym c.in_default.is) ∙ c.highest_classless.ensures F kinds in
-    answer-accepted b a.n a.lost a.formula.now F c.if-lost-ne0.false o h c.if-n-gt-NODES.false _ None-found
-    c.write_bytes.ensures
+    answer_classless b a.n a.lost a.formula.now F c.if-lost-ne0.false o h c.if-n-gt-NODES.false _ (c.in-Some.ensures F kinds)
 
 pub returns : goal.returns
 returns c =
@@ -30,5 +28,5 @@ returns c =
     let b = a.nodes.now in
     λ F o h.
     let kinds = sym (kinds_are b a.n F h.count (h.made c.if-n-gt-NODES.false) c.if-n-gt-NODES.false) in
-    let one_Found = ap classless_node (sym c.in-At.is) ∙ c.highest_classless.ensures F kinds in
-    answer_classless b a.n a.lost a.formula.now F c.if-lost-ne0.false o h c.if-n-gt-NODES.false _ one_Found
+    answer-accepted b a.n a.lost a.formula.now F c.if-lost-ne0.false o h c.if-n-gt-NODES.false _ (c.in_default.ensures F kinds)
+    c.write_bytes.ensures

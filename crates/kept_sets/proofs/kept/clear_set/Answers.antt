@@ -1,24 +1,15 @@
--- `kept::clear_set` meets its contract: one mask less each turn.
-use Prim.Native.Nat.{ℕ, ◌-◌, ◌<◌, ◌≤◌}
-use mathlib.Core.Path.{◌≡◌, refl}
+-- `kept::clear_set` meets its contract: zeros stand where the masks stood.
+use mathlib.Core.Path.{ap, ◌∙◌}
+use mathlib.Core.List.{List, ◌++◌}
+use Prim.Native.Nat.{ℕ}
 use native.Mathlib.Omega.{arith}
-use lib.ListN.{get_or}
-use Rattle.kept_sets.specs.inner.Kept.{IsSet}
-use Rattle.kept_sets.proofs.Laws.Kept.{set-set, set_next, all_clear}
+use lib.ListN.{drop, replicate}
+use lib.Seq.{length-take-le}
+use Rattle.kept_sets.proofs.Laws.Kept.{zeros_before}
 use Rattle.kept_sets.proofs.kept.clear_set.Goals as goal
-
-pub loop-s-init : goal.loop-s-init
-loop-s-init c =
-    (omega arith, c.requires.set, λ j h. absurd (omega arith))
-
-pub loop-s-preserved : goal.loop-s-preserved
-loop-s-preserved c =
-    let l = c.loop-s in
-    let in_turn = c.loop-s-test.true in
-    let states = c.args.states in
-    (omega arith, set-set states l.set l.s 0 l.invariant.1 in_turn, set_next (λ j. 0) l.set l.s 0 (omega (arith, l.invariant.1.long, c.requires.states_le_most_states)) refl l.invariant.2)
 
 pub returns : goal.returns
 returns c =
-    let l = c.loop-s in
-    all_clear c.args.states l.set l.invariant.1 (λ s h. l.invariant.2 s (omega arith))
+    let a = c.args in
+    let zeros = c.fill.ensures.after (λ y e. e) ∙ ap (λ n. replicate n 0) (length-take-le a.states a.set.now (omega arith)) in
+    ap (λ (l : List ℕ). l ++ drop a.states a.set.now) zeros ∙ zeros_before a.states a.set.now c.requires.states_le_most_states c.requires.set

@@ -9,6 +9,3 @@ use Rattle.kept_sets.proofs.kept.load_set.Given as goal
 
 abbrev pub invariant-loop-s : goal.invariant-loop-s
 invariant-loop-s l = (l.s ≤ l.states) × IsSet l.states l.set × ((j : ℕ) → j < l.s → get_or l.set j 0 ≡ word_at l.work (l.base + j))
-
-abbrev pub decreases-loop-s : goal.decreases-loop-s
-decreases-loop-s l = l.states - l.s

@@ -11,6 +11,3 @@ use Rattle.kept_sets.proofs.kept.same_set.Given as goal
 
 abbrev pub invariant-loop-s : goal.invariant-loop-s
 invariant-loop-s l = (l.s ≤ l.states) × Told l.work l.base l.set l.s l.other
-
-abbrev pub decreases-loop-s : goal.decreases-loop-s
-decreases-loop-s l = l.states - l.s

@@ -8,6 +8,3 @@ use Rattle.kept_sets.proofs.kept.store_set.Given as goal
 
 abbrev pub invariant-loop-s : goal.invariant-loop-s
 invariant-loop-s l = (l.s ≤ l.states) × Stored l.initial.work l.base l.s l.set l.work
-
-abbrev pub decreases-loop-s : goal.decreases-loop-s
-decreases-loop-s l = l.states - l.s

@@ -1,6 +1,6 @@
 -- `label_nodes` meets its contract: the rows of the nodes from k on are labelled.
 use mathlib.Core.Path.{◌≡◌, refl, sym, subst}
-use Prim.Native.Nat.{◌≤◌, ◌<◌, ◌+◌, ◌-◌}
+use Prim.Native.Nat.{◌<◌, ◌+◌, ◌-◌}
 use native.Mathlib.Omega.{arith}
 use lib.ListN.{get_or}
 use Rattle.labelling.specs.inner.Nodes.{RowsFrom}
@@ -20,48 +20,36 @@ node_count-k-requires c =
 pub loop-k-init : goal.loop-k-init
 loop-k-init c =
     let a = c.args in
-    let counted = c.node_count-k.ensures in
     let none = rows_none a.table.now a.formula.now a.flags.now c.requires.flags_len in
-    (omega (arith, counted), subst (λ k. RowsFrom a.table.now a.formula.now k a.flags.now) (sym counted) none)
-
-pub overflow_sub-k : goal.overflow_sub-k
-overflow_sub-k c =
-    omega (arith, c.loop-k-test.true)
+    subst (λ k. RowsFrom a.table.now a.formula.now k a.flags.now) (sym c.node_count-k.ensures) none
 
 pub row_from_arms-requires : goal.row_from_arms-requires
 row_from_arms-requires c =
-    let inside : c.loop-k.k - 1 < get_or c.args.formula.now 0 0 = omega (arith, c.loop-k-test.true, c.loop-k.invariant.0) in
-    let behind : RowsFrom c.args.table.now c.args.formula.now (c.loop-k.k - 1 + 1) c.loop-k.flags = let same : c.loop-k.k ≡ c.loop-k.k - 1 + 1 = omega (arith, c.loop-k-test.true) in
-    subst (λ k. RowsFrom c.args.table.now c.args.formula.now k c.loop-k.flags) same c.loop-k.invariant.1 in
+    let same : c.loop-k.k ≡ c.loop-k.k - 1 + 1 = omega arith in
     record {
       table_held = c.requires.holds_table;
       steps_of = c.requires.steps_of;
       linked = c.entering.ensures;
       formula_held = c.requires.holds_formula;
       arms_end = c.requires.arms_end;
-      inside = inside;
-      rows_behind = behind;
+      inside = omega (arith, c.loop-k-test.true, c.node_count-k.ensures, c.loop-k.auto.k);
+      rows_behind = subst (λ k. RowsFrom c.args.table.now c.args.formula.now k c.loop-k.flags) same c.loop-k.invariant;
     }
 
 pub put_row-requires : goal.put_row-requires
 put_row-requires c =
-    let inside : c.loop-k.k - 1 < get_or c.args.formula.now 0 0 = omega (arith, c.loop-k-test.true, c.loop-k.invariant.0) in
-    let behind : RowsFrom c.args.table.now c.args.formula.now (c.loop-k.k - 1 + 1) c.loop-k.flags = let same : c.loop-k.k ≡ c.loop-k.k - 1 + 1 = omega (arith, c.loop-k-test.true) in
-    subst (λ k. RowsFrom c.args.table.now c.args.formula.now k c.loop-k.flags) same c.loop-k.invariant.1 in
-    record { k_lt_most_nodes = omega (arith, inside, formula-few _ _ c.requires.holds_formula); flags_len = (behind).places }
-
-pub loop-k-smaller : goal.loop-k-smaller
-loop-k-smaller c =
-    omega (arith, c.loop-k-test.true)
+    record {
+      k_lt_most_nodes = omega (arith, c.node_count-k.ensures, c.loop-k.auto.k, formula-few _ _ c.requires.holds_formula);
+      flags_len = c.loop-k.invariant.places;
+    }
 
 pub loop-k-preserved : goal.loop-k-preserved
 loop-k-preserved c =
-    let inside : c.loop-k.k - 1 < get_or c.args.formula.now 0 0 = omega (arith, c.loop-k-test.true, c.loop-k.invariant.0) in
-    let behind : RowsFrom c.args.table.now c.args.formula.now (c.loop-k.k - 1 + 1) c.loop-k.flags = let same : c.loop-k.k ≡ c.loop-k.k - 1 + 1 = omega (arith, c.loop-k-test.true) in
-    subst (λ k. RowsFrom c.args.table.now c.args.formula.now k c.loop-k.flags) same c.loop-k.invariant.1 in
-    let row = c.row_from_arms.ensures in
-    (omega (arith, inside), rows_on _ _ c.requires.holds_table _ (inside) (behind) row c.put_row.ensures)
+    let same : c.loop-k.k ≡ c.loop-k.k - 1 + 1 = omega arith in
+    let inside : c.loop-k.k - 1 < get_or c.args.formula.now 0 0 = omega (arith, c.loop-k-test.true, c.node_count-k.ensures, c.loop-k.auto.k) in
+    let behind = subst (λ k. RowsFrom c.args.table.now c.args.formula.now k c.loop-k.flags) same c.loop-k.invariant in
+    rows_on _ _ c.requires.holds_table _ inside behind c.row_from_arms.ensures c.put_row.ensures
 
 pub returns : goal.returns
 returns c =
-    rows_all _ _ c.loop-k.k c.loop-k-test.false c.loop-k.invariant.1
+    rows_all _ _ c.loop-k.k c.loop-k-test.false c.loop-k.invariant

@@ -10,7 +10,6 @@ use Rattle.actl.specs.Formulas.{tru, size, nodes}
 use Rattle.actl.proofs.Laws.Prepared.{prepared-few, prepared-count, prepared-slot}
 use Rattle.labelling.proofs.Laws.Nodes.{node_row}
 use Rattle.actl.proofs.Laws.Held.{formula_long, formula-few, formula-shaped}
-use borrow.Author.Rules.{rules}
 use Rattle.labelling.proofs.nodes.row_from_arms.Goals as goal
 
 pub node_at-node-requires : goal.node_at-node-requires

@@ -1,5 +1,4 @@
 -- `at_once` meets its contract, by the cases of a node.
-use borrow.Author.Rules.{rules}
 use mathlib.Core.Path.{sym, ap, ◌∙◌}
 use mathlib.Core.Bool.{Bool, not, ◌||◌}
 use Rattle.table_steps.specs.inner.StepArray.{steps_in}

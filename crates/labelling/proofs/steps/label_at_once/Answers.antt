@@ -1,10 +1,7 @@
 -- `label_at_once` meets its contract: the states below s are labelled.
-use Prim.Native.Nat.{◌≤◌, ◌<◌, ◌-◌}
+use Prim.Native.Nat.{◌<◌}
 use native.Mathlib.Omega.{arith}
 use Rattle.lts.specs.Sizes.{most_states}
-use Rattle.table_steps.specs.inner.StepArray.{steps_in}
-use Rattle.until_search.specs.inner.Flags.{at_once, Flags}
-use Rattle.labelling.specs.inner.Rows.{row_at}
 use Rattle.until_search.proofs.Laws.Flags.{flags_none, flags_on, flags_all}
 use Rattle.labelling.proofs.steps.label_at_once.Goals as goal
 
@@ -19,11 +16,6 @@ at_once-requires c =
 
 pub bounds-found-s : goal.bounds-found-s
 bounds-found-s c =
-    let state : c.loop-s.s < most_states = omega (arith, c.loop-s-test.true, c.requires.states_le_most_states.0) in
-    omega (arith, state)
-
-pub overflow_add-s : goal.overflow_add-s
-overflow_add-s c =
     let state : c.loop-s.s < most_states = omega (arith, c.loop-s-test.true, c.requires.states_le_most_states.0) in
     omega (arith, state)
 

@@ -1,5 +1,4 @@
 -- `leads` meets its contract.
-use borrow.Author.Rules.{rules}
 use Rattle.until_search.proofs.Laws.Flags.{same-there, same-nowhere}
 use Rattle.actl.specs.Actions.{meets}
 use Rattle.formulas.specs.inner.Access.{cond_in}

@@ -1,17 +1,17 @@
 -- `some_step` meets its contract: the steps from k on are searched, and none before k comes out as wanted.
 use mathlib.Core.Path.{◌≡◌, sym, ap, ◌∙◌, subst}
 use mathlib.Core.Bool.{Bool, ◌&&◌}
-use Prim.Native.Nat.{◌≤◌, ◌<◌, ◌-◌}
+use Prim.Native.Nat.{◌<◌}
 use native.Mathlib.Omega.{arith}
 use Rattle.lts.specs.inner.Sizes.{most_steps}
 use Rattle.lts.specs.Lists.{any_of}
 use Rattle.lts.specs.Steps.{Step}
 use Rattle.lts.specs.inner.Steps.{Carried}
-use Rattle.table_steps.specs.inner.StepArray.{step_at, steps_between, steps_in, span_of}
-use Rattle.table_steps.specs.declared.Span.{Span}
+use Rattle.table_steps.specs.inner.StepArray.{step_at, steps_between, span_of}
+use Rattle.lts.specs.declared.spans.Span.{Span}
 use Rattle.actl.specs.Actions.{meets}
 use Rattle.formulas.specs.inner.Access.{cond_in}
-use Rattle.until_search.specs.inner.Flags.{as_wanted, leads_as_wanted, some_step}
+use Rattle.until_search.specs.inner.Flags.{as_wanted, leads_as_wanted}
 use Rattle.labelling.specs.inner.Rows.{row_at}
 use Rattle.until_search.proofs.Laws.Flags.{some-found, some-later, some-none}
 use Rattle.labelling.proofs.steps.some_step.Goals as goal
@@ -70,15 +70,6 @@ returns-then-leads c =
     ∙ sym c.leads.ensures in
     let taken = c.loop-k-test.true in
     sym (c.loop-k.invariant.2 ∙ some-found (wanted) c.args.steps.now c.args.s c.loop-k.k _ taken (outcome ∙ c.if-leads.true))
-
-pub overflow_add-k : goal.overflow_add-k
-overflow_add-k c =
-    let placed : c.loop-k.k < most_steps = omega (arith, c.loop-k-test.true, c.loop-k.invariant.1, c.requires.steps_fit.few c.args.s c.requires.s_lt_most_states.0) in
-    omega (arith, placed)
-
-pub loop-k-smaller : goal.loop-k-smaller
-loop-k-smaller c =
-    omega (arith, c.loop-k-test.true)
 
 pub loop-k-preserved : goal.loop-k-preserved
 loop-k-preserved c =

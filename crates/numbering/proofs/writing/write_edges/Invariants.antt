@@ -15,6 +15,3 @@ abbrev pub invariant-loop-i : goal.invariant-loop-i
 invariant-loop-i l = (l.i ≤ l.count) × (length l.out ≡ length l.initial.out)
     × (let all = edges_in l.next l.blocks l.numbers l.n l.columns l.rows 0 l.count in
     Left (edges_in l.next l.blocks l.numbers l.n l.columns l.rows l.i (l.count - l.i)) l.out l.end (pasted l.initial.out (4 + l.count) all) (4 + l.count + length all))
-
-abbrev pub decreases-loop-i : goal.decreases-loop-i
-decreases-loop-i l = l.count - l.i

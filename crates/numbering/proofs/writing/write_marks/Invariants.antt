@@ -15,6 +15,3 @@ use Rattle.numbering.proofs.writing.write_marks.Given as goal
 abbrev pub invariant-loop-i : goal.invariant-loop-i
 invariant-loop-i l = (l.i ≤ l.count) × (length l.out ≡ length l.initial.out)
     × Left (map (mark_of l.marks) (slice l.i l.count l.rows)) l.out (4 + l.i) (pasted l.initial.out 4 (marks_of l.marks l.rows l.count)) (4 + length (marks_of l.marks l.rows l.count))
-
-abbrev pub decreases-loop-i : goal.decreases-loop-i
-decreases-loop-i l = l.count - l.i

@@ -42,14 +42,6 @@ write_step-end-requires c =
       c_in_bounds = part_room (this) (from (l.c + 1)) (left);
     }
 
-pub overflow_add-c : goal.overflow_add-c
-overflow_add-c c =
-    omega (arith, c.loop-c-test.true, c.requires.row_lt_most_sets.1)
-
-pub loop-c-smaller : goal.loop-c-smaller
-loop-c-smaller c =
-    omega (arith, c.loop-c-test.true)
-
 pub loop-c-preserved : goal.loop-c-preserved
 loop-c-preserved c =
     let first : ℕ = c.args.block * most_letters in

@@ -14,6 +14,3 @@ abbrev pub invariant-loop-c : goal.invariant-loop-c
 invariant-loop-c l = (l.c ≤ l.columns) × (length l.out ≡ length l.initial.out)
     × (let all = steps_in l.next l.blocks l.numbers l.n l.columns l.row l.first 0 l.columns in
     Left (steps_in l.next l.blocks l.numbers l.n l.columns l.row l.first l.c (l.columns - l.c)) l.out l.end (pasted l.initial.out l.at all) (l.at + length all))
-
-abbrev pub decreases-loop-c : goal.decreases-loop-c
-decreases-loop-c l = l.columns - l.c

@@ -15,6 +15,3 @@ use Rattle.set_steps.proofs.finals.final_mask.Given as goal
 
 abbrev pub invariant-loop-k : goal.invariant-loop-k
 invariant-loop-k l = (l.k ≤ place_count) × ((p : ℕ) → any_of (final_place l.finals p) (up_from 0 l.k) ≡ meets l.mask p)
-
-abbrev pub decreases-loop-k : goal.decreases-loop-k
-decreases-loop-k l = place_count - l.k

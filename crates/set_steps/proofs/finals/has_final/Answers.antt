@@ -38,14 +38,6 @@ returns-then-set-s-ne0 c =
     let found = any_here (meets a.mask) (meets-none a.mask) a.set.now loop.s here in
     λ finals f. sym (loop.invariant.1 ∙ found) ∙ as-final finals a.mask a.set.now f
 
-pub overflow_add-s : goal.overflow_add-s
-overflow_add-s c =
-    omega (arith, c.loop-s-test.true, c.requires.states_le_most_states)
-
-pub loop-s-smaller : goal.loop-s-smaller
-loop-s-smaller c =
-    omega (arith, c.loop-s-test.true)
-
 pub loop-s-preserved : goal.loop-s-preserved
 loop-s-preserved c =
     let loop = c.loop-s in

@@ -15,6 +15,3 @@ use Rattle.set_steps.proofs.finals.has_final.Given as goal
 
 abbrev pub invariant-loop-s : goal.invariant-loop-s
 invariant-loop-s l = (l.s ≤ l.states) × (any_of (meets l.mask) l.set ≡ any_of (meets l.mask) (drop l.s l.set))
-
-abbrev pub decreases-loop-s : goal.decreases-loop-s
-decreases-loop-s l = l.states - l.s

@@ -10,6 +10,3 @@ use Rattle.slots.proofs.live.live_place.Given as goal
 
 abbrev pub invariant-loop-s : goal.invariant-loop-s
 invariant-loop-s l = (l.s ≤ most_states) × LiveBelow (l.q * most_states + l.s) l.slots l.live
-
-abbrev pub decreases-loop-s : goal.decreases-loop-s
-decreases-loop-s l = most_states - l.s

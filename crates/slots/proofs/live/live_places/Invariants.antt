@@ -8,6 +8,3 @@ use Rattle.slots.proofs.live.live_places.Given as goal
 
 abbrev pub invariant-loop-q : goal.invariant-loop-q
 invariant-loop-q l = (l.q ≤ l.count) × LiveBelow (l.q * most_states) l.slots l.live
-
-abbrev pub decreases-loop-q : goal.decreases-loop-q
-decreases-loop-q l = l.count - l.q

@@ -1,5 +1,4 @@
 -- `entry_count` meets its contract.
-use borrow.Author.Rules.{rules}
 use mathlib.Core.Path.{sym}
 use native.Mathlib.Omega.{arith}
 use Rattle.verdict_text.proofs.Laws.Entries.{entries-count}

@@ -1,12 +1,12 @@
 -- `read_list` meets its contract: the entries below i stand in their places.
-use borrow.Author.Rules.{rules}
-use mathlib.Core.Path.{refl, ◌∙◌}
-use Prim.Native.Nat.{◌-◌, ◌<◌}
+use mathlib.Core.Path.{◌≡◌, refl, ◌∙◌, subst}
+use Prim.Native.Nat.{◌<◌}
 use native.Mathlib.Omega.{arith}
 use lib.ListN.{length}
 use Rattle.starts.specs.inner.Search.{enough_starts}
 use Rattle.verdict_text.specs.VerdictsText.{entries_in}
-use Rattle.verdict_text.proofs.Laws.Entries.{ReadBelow, read-on, read_all, read_stopped}
+use Rattle.verdict_text.specs.inner.Entries.{ListRead}
+use Rattle.verdict_text.proofs.Laws.Entries.{read-on, read_all, read_stopped}
 use Rattle.verdict_text.proofs.list.read_list.Goals as goal
 
 pub loop-i-init : goal.loop-i-init
@@ -32,15 +32,6 @@ bounds-starts-i c =
     let few : c.loop-i.i < enough_starts = omega (arith, c.loop-i-test.true, c.entry_count-end.ensures.upper_bound) in
     few
 
-pub overflow_add-i : goal.overflow_add-i
-overflow_add-i c =
-    let few : c.loop-i.i < enough_starts = omega (arith, c.loop-i-test.true, c.entry_count-end.ensures.upper_bound) in
-    omega (arith, few)
-
-pub loop-i-smaller : goal.loop-i-smaller
-loop-i-smaller c =
-    omega (arith, c.loop-i-test.true)
-
 pub loop-i-preserved : goal.loop-i-preserved
 loop-i-preserved c =
     let listed : c.loop-i.i < length (entries_in c.args.list.now) = omega (arith, c.loop-i-test.true, c.entry_count-end.ensures.value) in
@@ -51,4 +42,6 @@ loop-i-preserved c =
 pub returns : goal.returns
 returns c =
     let loop = c.loop-i in
-    read_all _ _ loop.i loop.invariant (omega (arith, c.loop-i-test.false, c.entry_count-end.ensures.value))
+    let all : loop.i ≡ c.entry_count-end.result = omega arith in
+    subst (λ n. ListRead c.args.list.now loop.starts n) all
+    (read_all _ _ loop.i loop.invariant (omega (arith, c.loop-i-test.false, c.entry_count-end.ensures.value)))
