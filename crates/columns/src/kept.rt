@@ -22,5 +22,16 @@ pub fn copy_column(kept: &[u8], n: usize, out: &mut [u8], at: usize)
     ensures { out.new ≡ pasted out.old at (column n) }
 {
     let i = n * 6;
-    out[at..at + 6].copy_from_slice(&kept[i..i + 6]);
+    let first = kept[i];
+    let second = kept[i + 1];
+    let third = kept[i + 2];
+    let fourth = kept[i + 3];
+    let fifth = kept[i + 4];
+    let sixth = kept[i + 5];
+    out[at] = first;
+    out[at + 1] = second;
+    out[at + 2] = third;
+    out[at + 3] = fourth;
+    out[at + 4] = fifth;
+    out[at + 5] = sixth;
 }

@@ -64,13 +64,13 @@ pub fn write_small(n: usize, out: &mut [u8], at: usize)
     requires { (n < 10000) × (at + 6 ≤ length out.old) }
     ensures { out.new ≡ pasted out.old at (column n) }
 {
-    let figures = [
-        32,
-        32,
-        leading(n / 1000),
-        leading(n / 100),
-        leading(n / 10),
-        (48 + n % 10) as u8,
-    ];
-    out[at..at + 6].copy_from_slice(&figures);
+    let thousands = leading(n / 1000);
+    let hundreds = leading(n / 100);
+    let tens = leading(n / 10);
+    out[at] = 32;
+    out[at + 1] = 32;
+    out[at + 2] = thousands;
+    out[at + 3] = hundreds;
+    out[at + 4] = tens;
+    out[at + 5] = (48 + n % 10) as u8;
 }

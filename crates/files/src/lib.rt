@@ -1,10 +1,10 @@
 // What is kept of a formula file of any length: its first 513 bytes, its length and its last byte. A refusal's line tells that length.
 #![tactic(auto)]
 
-ghost use Rattle.std.specs.Prelude.{◌≡◌, ◌≤◌, min, length, take};
+ghost use Rattle.std.specs.Prelude.{◌≡◌, ◌+◌, ◌≤◌, min, length, take};
 ghost use Rattle.explanations.specs.inner.Sizes.{kept_length};
 ghost use Rattle.explanations.specs.inner.Printed.{TextWritten};
-ghost use Rattle.files.specs.inner.Scan.{scan_start, scanned_after, kept_after};
+ghost use Rattle.files.specs.inner.Scan.{scan_start, largest_count, scanned_after, kept_after};
 ghost use Rattle.files.specs.inner.Files.{length_without_end};
 ghost use Rattle.files.specs.inner.Writing.{refused_line};
 
@@ -37,6 +37,13 @@ fn keep(chunk: &[u8], head: &mut [u8], at: usize)
     }
 }
 
+// The sum, or the largest number where it does not fit.
+fn add(a: usize, b: usize) -> usize
+    ensures { result ≡ min (a + b) largest_count }
+{
+    a.saturating_add(b)
+}
+
 // Takes in the next chunk of the formula file.
 pub fn scan_chunk(chunk: &[u8], head: &mut [u8; KEPT], scanned: Scanned) -> Scanned
     ensures value { result ≡ scanned_after scanned chunk.now }
@@ -48,7 +55,7 @@ pub fn scan_chunk(chunk: &[u8], head: &mut [u8; KEPT], scanned: Scanned) -> Scan
         return scanned;
     }
     Scanned {
-        length: scanned.length.saturating_add(n),
+        length: add(scanned.length, n),
         last: chunk[n - 1],
     }
 }

@@ -11,7 +11,11 @@ pub fn in_set(set: u64, label: usize) -> bool
     requires { Carried label }
     ensures { result ≡ actions.in_set set label }
 {
-    !is_silent(label) && (set >> label) % 2 == 1
+    if is_silent(label) {
+        false
+    } else {
+        (set >> label) % 2 == 1
+    }
 }
 
 pub fn meets(condition: Condition, label: usize) -> bool
@@ -28,5 +32,9 @@ pub fn passes(set: u64, label: usize) -> bool
     requires { Carried label }
     ensures { result ≡ actions.passes set label }
 {
-    is_silent(label) || in_set(set, label)
+    if is_silent(label) {
+        true
+    } else {
+        in_set(set, label)
+    }
 }

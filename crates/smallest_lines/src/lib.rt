@@ -42,7 +42,8 @@ fn ask(tabletext: &[u8], formulatext: &[u8], automaton: &mut [u8]) -> Result<u64
     let mut table = [0u8; TABLE_LENGTH];
     let mut formula = [0u8; FORMULA_LENGTH];
     read_both(tabletext, formulatext, &mut table, &mut formula)?;
-    accepted(find(&table, &formula, automaton))
+    let said = find(&table, &formula, automaton);
+    accepted(said)
 }
 
 // The text about a formula of `counted` bytes, of which `text` is the beginning.

@@ -32,7 +32,9 @@ pub fn write_at(bytes: &mut [u8], at: usize, part: &[u8])
     requires { at + length part.now ≤ length bytes.old }
     ensures { bytes.new ≡ pasted bytes.old at part.now }
 {
-    bytes[at..at + part.len()].copy_from_slice(part);
+    for i in 0..part.len() {
+        bytes[at + i] = part[i];
+    }
 }
 
 pub fn write_transition(slots: &mut [u8], count: usize, t: Transition)

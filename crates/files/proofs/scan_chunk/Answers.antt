@@ -13,4 +13,4 @@ pub returns : goal.returns
 returns c =
     let a = c.args in
     let some = get_d_any 0 a.scanned.last a.chunk.now (length a.chunk.now - 1) (omega arith) in
-    record { value = (λ i. record { length = c.saturating_add.ensures i; last = some i }); head_after = c.keep.ensures }
+    record { value = (λ i. record { length = c.add.ensures i; last = some i }); head_after = c.keep.ensures }

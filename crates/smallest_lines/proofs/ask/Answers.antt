@@ -25,4 +25,4 @@ returns c =
     let told = c.read_both in
     let was = was_read a.tabletext.now a.formulatext.now told.new.table told.new.formula told.ensures.both c.in_ok-read_both.was in
     answered (Asked a.tabletext.now a.formulatext.now a.automaton.now _) c.accepted.result c.accepted.ensures
-    (asked_texts a.tabletext.now a.formulatext.now was a.automaton.now (omega arith) (omega arith) (omega arith) c.find.ensures)
+    (asked_texts a.tabletext.now a.formulatext.now was a.automaton.now (omega arith) (omega arith) (omega arith) c.find-said.ensures)

@@ -6,7 +6,7 @@ use Rattle.formulas.proofs.conditions.passes.Goals as goal
 pub returns-then-is_silent : goal.returns-then-is_silent
 unfolding passes
 returns-then-is_silent c =
-    c.if-is_silent.true ∙ rw (sym c.is_silent.ensures ∙ c.if-is_silent.true)
+    rw (sym c.is_silent.ensures ∙ c.if-is_silent.true)
 
 pub returns-else-is_silent : goal.returns-else-is_silent
 unfolding passes
