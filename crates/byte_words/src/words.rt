@@ -11,7 +11,7 @@ pub fn word(bytes: &[u8], at: usize) -> u64
 }
 
 // Four bytes.
-fn half(bytes: &[u8], at: usize) -> u64
+pub fn half(bytes: &[u8], at: usize) -> u64
     requires { at + 4 ≤ length bytes.now }
     ensures value { result ≡ four_bytes bytes.now at }
     ensures upper_bound { result < 4294967296 }

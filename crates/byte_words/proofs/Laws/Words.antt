@@ -12,6 +12,9 @@ use Rattle.byte_words.specs.inner.Words.{number, four_bytes}
 pub number-next : (n : ℕ) (b : List ℕ) (at : ℕ) → number (suc n) (drop at b) ≡ get_or b at 0 + number n (drop (at + 1) b) * 256
 number-next n b at = simp (drop-drop, get_or-drop, add-zero) refl
 
+pub four-bytes : (b : List ℕ) (at : ℕ) → number 4 (drop at b) ≡ four_bytes b at
+four-bytes b at = simp (drop-drop, get_or-drop, add-zero, add_assoc) (omega arith)
+
 -- Eight bytes are two fours; sixteen are two eights.
 pub eight-bytes : (b : List ℕ) (at : ℕ) → number 8 (drop at b) ≡ four_bytes b at + four_bytes b (at + 4) * 4294967296
 eight-bytes b at = simp (drop-drop, get_or-drop, add-zero, add_assoc) (omega arith)
